@@ -1,0 +1,120 @@
+-- Membership in the lists that the successor functions build, and truth of their tests.
+use mathlib.Core.Path.{_≡_, refl, sym, _∙_, ap, subst}
+use mathlib.Core.Logic.{_≢_, _⊎_, inl, inr}
+use mathlib.Core.Bool.{Bool, true, false, not, _&&_, _||_}
+use lib.Dec.{T}
+use mathlib.Core.List.{List, [], _∷_, _++_, map, List·Memᴰ, List·Memᴰ·head, List·Memᴰ·tail, List·Memᴰ·not-nil, List·Memᴰ·append-cases, Memᴰ·append-left, Memᴰ·append-right}
+use Rattle.calculus.specs.Term.{Closing, done, withdrawn, failed}
+use Rattle.calculus.specs.Successors.{eqc, closings, only, some-of, each, any-at-all}
+
+pub or-in-left : (a b : Bool) → T a → T (a || b)
+or-in-left true b h = tt
+or-in-left false b h = absurd h
+
+pub or-in-right : (a b : Bool) → T b → T (a || b)
+or-in-right true b h = tt
+or-in-right false b h = h
+
+pub or-cases : (a b : Bool) → T (a || b) → T a ⊎ T b
+or-cases true b h = inl tt
+or-cases false b h = inr h
+
+pub and-in : (a b : Bool) → T a → T b → T (a && b)
+and-in true b g h = h
+and-in false b g h = absurd g
+
+pub and-left : (a b : Bool) → T (a && b) → T a
+and-left true b h = tt
+and-left false b h = absurd h
+
+pub and-right : (a b : Bool) → T (a && b) → T b
+and-right true b h = h
+and-right false b h = absurd h
+
+pub same : (u v : Closing) → T (eqc u v) → u ≡ v
+same done done h = refl
+same withdrawn withdrawn h = refl
+same failed failed h = refl
+same done withdrawn h = absurd h
+same done failed h = absurd h
+same withdrawn done h = absurd h
+same withdrawn failed h = absurd h
+same failed done h = absurd h
+same failed withdrawn h = absurd h
+
+pub same-in : (u v : Closing) → u ≡ v → T (eqc u v)
+same-in u v e = subst (λ x. T (eqc u x)) e (refl-in u)
+  where
+    refl-in : (u : Closing) → T (eqc u u)
+    refl-in done = tt
+    refl-in withdrawn = tt
+    refl-in failed = tt
+
+pub other : (u v : Closing) → T (not (eqc u v)) → u ≢ v
+other u v h e = no-so (eqc u v) (same-in u v e) h
+  where
+    no-so : (b : Bool) → T b → T (not b) → ⊥
+    no-so true g k = k
+    no-so false g k = g
+
+pub other-in : (u v : Closing) → u ≢ v → T (not (eqc u v))
+other-in u v h = by (eqc u v) (λ g. h (same u v g))
+  where
+    by : (b : Bool) → (T b → ⊥) → T (not b)
+    by true k = k tt
+    by false k = tt
+
+pub in-closings : (w : Closing) → List·Memᴰ w closings
+in-closings done = List·Memᴰ·head refl
+in-closings withdrawn = List·Memᴰ·tail (List·Memᴰ·head refl)
+in-closings failed = List·Memᴰ·tail (List·Memᴰ·tail (List·Memᴰ·head refl))
+
+module _ {A : Type 0} where
+  pub in-only : {x : A} {xs : List A} (b : Bool) → T b → List·Memᴰ x xs → List·Memᴰ x (only b xs)
+  unfolding only
+  in-only true h m = m
+  in-only false h m = absurd h
+
+  pub of-only : {x : A} {xs : List A} (b : Bool) → List·Memᴰ x (only b xs) → T b × List·Memᴰ x xs
+  unfolding only
+  of-only true m = (tt, m)
+  of-only false m = absurd (List·Memᴰ·not-nil m)
+
+  pub in-some : {x : A} {xs : List A} (f : A → Bool) → List·Memᴰ x xs → T (f x) → T (some-of f xs)
+  unfolding some-of
+  in-some f (List·Memᴰ·head {x} {xs} e) h = or-in-left (f x) (some-of f xs) (subst (λ y. T (f y)) e h)
+  in-some f (List·Memᴰ·tail {x} {xs} m) h = or-in-right (f x) (some-of f xs) (in-some f m h)
+
+  pub of-some : (f : A → Bool) (xs : List A) → T (some-of f xs) → (x : A) × List·Memᴰ x xs × T (f x)
+  unfolding some-of
+  of-some f [] h = absurd h
+  of-some f (x ∷ xs) h = step (of-some f xs) (or-cases (f x) (some-of f xs) h)
+    where
+      step : (T (some-of f xs) → (y : A) × List·Memᴰ y xs × T (f y)) → T (f x) ⊎ T (some-of f xs) → (y : A) × List·Memᴰ y (x ∷ xs) × T (f y)
+      step below (inl g) = (x, List·Memᴰ·head refl, g)
+      step below (inr g) = let r = below g in (r .0, List·Memᴰ·tail (r .1), r .2)
+
+  pub in-any : {x : A} {xs : List A} → List·Memᴰ x xs → T (any-at-all xs)
+  unfolding any-at-all
+  in-any (List·Memᴰ·head e) = tt
+  in-any (List·Memᴰ·tail m) = tt
+
+  pub of-any : (xs : List A) → T (any-at-all xs) → (x : A) × List·Memᴰ x xs
+  unfolding any-at-all
+  of-any (x ∷ xs) h = (x, List·Memᴰ·head refl)
+  of-any [] h = absurd h
+
+module _ {A B : Type 0} where
+  pub in-each : {x : A} {xs : List A} (f : A → List B) {y : B} → List·Memᴰ x xs → List·Memᴰ y (f x) → List·Memᴰ y (each xs f)
+  unfolding each
+  in-each f {y} (List·Memᴰ·head {xs} e) h = Memᴰ·append-left (each xs f) (subst (λ z. List·Memᴰ y (f z)) e h)
+  in-each f (List·Memᴰ·tail {x} m) h = Memᴰ·append-right (f x) (in-each f m h)
+
+  pub of-each : (xs : List A) (f : A → List B) {y : B} → List·Memᴰ y (each xs f) → (x : A) × List·Memᴰ x xs × List·Memᴰ y (f x)
+  unfolding each
+  of-each [] f m = absurd (List·Memᴰ·not-nil m)
+  of-each (x ∷ xs) f {y} m = step (of-each xs f) (List·Memᴰ·append-cases (f x) m)
+    where
+      step : (List·Memᴰ y (each xs f) → (z : A) × List·Memᴰ z xs × List·Memᴰ y (f z)) → List·Memᴰ y (f x) ⊎ List·Memᴰ y (each xs f) → (z : A) × List·Memᴰ z (x ∷ xs) × List·Memᴰ y (f z)
+      step below (inl g) = (x, List·Memᴰ·head refl, g)
+      step below (inr g) = let r = below g in (r .0, List·Memᴰ·tail (r .1), r .2)

@@ -1,0 +1,52 @@
+-- Flows as terms: standard and compensable parts (the table of sixteen kinds in 01), the form ⟨QQ, R⟩ that 002 adds for
+-- states, and the three closings with their join. Definitions only. Assumes nothing.
+use Prim.Native.Nat.{ℕ}
+use mathlib.Core.Bool.{Bool}
+use lib.Dec.{T, eqb, eqb-refl}
+
+-- ✓, ? and !
+pub data Closing : Type 0 where
+  done withdrawn failed : Closing
+
+-- Table 1 of 002; 01: "! if either is !, else ? if either is ?, else ✓"
+abbrev pub join : Closing → Closing → Closing
+join done v = v
+join withdrawn done = withdrawn
+join withdrawn withdrawn = withdrawn
+join withdrawn failed = failed
+join failed v = failed
+
+-- An event leaf: the event that it names, and the events of records that it takes, its own among them.
+-- Which those are is settled where a leaf is made, and nowhere else.
+pub record Leaf : Type 0 where
+  pub names : ℕ
+  pub takes : ℕ → Bool
+  pub own : T (takes names)
+
+-- 01: "A node matches a record exactly if the event numbers are equal."
+abbrev pub leaf : ℕ → Leaf
+leaf k = record { names = k; takes = λ a. eqb a k; own = eqb-refl k }
+
+mutual
+  -- kinds 1 to 9
+  pub data Std : Type 0 where
+    skip throw yield : Std
+    ev : Leaf → Std
+    seq alt par hnd : Std → Std → Std
+    blk : Cmp → Std
+
+  -- kinds 10 to 13; `held qq r` is 002's ⟨QQ, R⟩, which stands in states only
+  pub data Cmp : Type 0 where
+    pair : Std → Std → Cmp
+    cseq calt cpar : Cmp → Cmp → Cmp
+    held : Cmp → Std → Cmp
+
+-- kinds 14 to 16. 01: "SKIPP, THROWW, YIELDD are SKIP, THROW, YIELD paired with SKIP."
+abbrev pub skipp : Cmp
+skipp = pair skip skip
+
+abbrev pub throww : Cmp
+throww = pair throw skip
+
+abbrev pub yieldd : Cmp
+yieldd = pair yield skip

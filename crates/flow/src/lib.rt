@@ -1,0 +1,1 @@
+// Node tables and record lists: what is refused, and the flow that a table draws.
