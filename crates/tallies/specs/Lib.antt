@@ -1,0 +1,5 @@
+-- Definitions.
+pub mod Capped
+pub mod Formulas
+pub mod Counts
+pub mod Places

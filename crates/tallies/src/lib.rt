@@ -1,0 +1,413 @@
+// Views, tallies and words: what is known of a term, of several terms and of a running part without going through
+// their steps and compensations one by one. Counts stop at MOST, one more than any index a search can use: an
+// allowance is a 32-bit number, and the root is counted too.
+ghost use mathlib.Core.Path.{_≡_};
+ghost use Prim.Native.Nat.{_+_, _*_, _<_, _≤_};
+ghost use Rattle.tallies.specs.Capped.{cap};
+ghost use Rattle.tallies.specs.Formulas.{skipV, throwV, yieldV, evV, seqV, hndV, altV, parV, noneT, oneT, whenT, plusT, seqT, parT, blkV, pairW, cseqW, heldW, caltW, cparW, skippW, throwwW, yielddW, byW, fittingT, partnersT, total, afterG, insideG, besideG, withinG, closing, either-withdraws, either-fails, viewed, tallied, worded, weighs};
+ghost use mathlib.Core.Bool.{cond};
+ghost use Rattle.calculus.specs.Term.{join};
+
+pub const MOST: u64 = 4294967295;
+
+// Closings as small numbers, in the order of 01: done, withdrawn, failed.
+pub const DONE: u8 = 0;
+pub const WITHDRAWN: u8 = 1;
+pub const FAILED: u8 = 2;
+
+// JOIN[3 * x + y]: how two parallel sides end that end by x and y.
+pub const JOIN: [u8; 9] = [0, 1, 2, 1, 1, 2, 2, 2, 2];
+
+// One term, and a record: how many steps by it, and by what the term can end.
+pub struct View {
+    pub moves: u32,
+    pub done: bool,
+    pub withdraws: bool,
+    pub fails: bool,
+}
+
+// Several terms: how many, how many of them can end done, how many steps in all, and by what else some can end.
+pub struct Tally {
+    pub many: u32,
+    pub able: u32,
+    pub moves: u32,
+    pub withdraws: bool,
+    pub fails: bool,
+}
+
+// A running part: how many steps, and its compensations by each closing.
+pub struct Word {
+    pub moves: u32,
+    pub done: Tally,
+    pub withdrawn: Tally,
+    pub failed: Tally,
+}
+
+// What a compensation weighs: so much for itself, for each of its steps, and for being able to end done.
+pub struct Weight {
+    pub own: u32,
+    pub moves: u32,
+    pub able: u32,
+}
+
+fn capped(x: u64) -> u32
+    ensures { λ r. ⌜ r ≡ cap x ⌝ }
+{
+    if x < MOST { x as u32 } else { 4294967295 }
+}
+
+fn wide(x: u32) -> u64
+    ensures { λ r. ⌜ r ≡ x ⌝ }
+{
+    x as u64
+}
+
+pub fn sum(a: u32, b: u32) -> u32
+    ensures { λ r. ⌜ r ≡ cap (a + b) ⌝ }
+{
+    capped(wide(a) + wide(b))
+}
+
+pub fn product(a: u32, b: u32) -> u32
+    ensures { λ r. ⌜ r ≡ cap (a * b) ⌝ }
+{
+    capped(wide(a) * wide(b))
+}
+
+fn view_of(moves: u32, done: bool, withdraws: bool, fails: bool) -> View
+    ensures { λ r. ⌜ r ≡ viewed moves done withdraws fails ⌝ }
+{
+    View { moves, done, withdraws, fails }
+}
+
+// Views -------------------------------------------------------------------------------------------------------------
+
+pub fn skip_view() -> View
+    ensures { λ r. ⌜ r ≡ skipV ⌝ }
+{
+    view_of(0, true, false, false)
+}
+
+pub fn throw_view() -> View
+    ensures { λ r. ⌜ r ≡ throwV ⌝ }
+{
+    view_of(0, false, false, true)
+}
+
+pub fn yield_view() -> View
+    ensures { λ r. ⌜ r ≡ yieldV ⌝ }
+{
+    view_of(0, true, true, false)
+}
+
+pub fn event_view(taken: bool) -> View
+    ensures { λ r. ⌜ r ≡ evV taken ⌝ }
+{
+    if taken { view_of(1, false, false, false) } else { view_of(0, false, false, false) }
+}
+
+pub fn choice_view(p: View, q: View) -> View
+    ensures { λ r. ⌜ r ≡ altV p q ⌝ }
+{
+    view_of(sum(p.moves, q.moves), p.done | q.done, p.withdraws | q.withdraws, p.fails | q.fails)
+}
+
+pub fn sequence_view(p: View, q: View) -> View
+    ensures { λ r. ⌜ r ≡ seqV p q ⌝ }
+{
+    if p.done {
+        view_of(sum(p.moves, q.moves), q.done, p.withdraws | q.withdraws, p.fails | q.fails)
+    } else {
+        p
+    }
+}
+
+pub fn handler_view(p: View, q: View) -> View
+    ensures { λ r. ⌜ r ≡ hndV p q ⌝ }
+{
+    if p.fails {
+        view_of(sum(p.moves, q.moves), p.done | q.done, p.withdraws | q.withdraws, q.fails)
+    } else {
+        p
+    }
+}
+
+fn one_withdraws(pd: bool, pw: bool, qd: bool, qw: bool) -> bool
+    ensures { λ r. ⌜ r ≡ either-withdraws pd pw qd qw ⌝ }
+{
+    (pw & (qd | qw)) | (pd & qw)
+}
+
+fn one_fails(pd: bool, pw: bool, pf: bool, qd: bool, qw: bool, qf: bool) -> bool
+    ensures { λ r. ⌜ r ≡ either-fails pd pw pf qd qw qf ⌝ }
+{
+    (pf & (qd | (qw | qf))) | ((pd | pw) & qf)
+}
+
+pub fn parallel_view(p: View, q: View) -> View
+    ensures { λ r. ⌜ r ≡ parV p q ⌝ }
+{
+    view_of(
+        sum(p.moves, q.moves),
+        p.done & q.done,
+        one_withdraws(p.done, p.withdraws, q.done, q.withdraws),
+        one_fails(p.done, p.withdraws, p.fails, q.done, q.withdraws, q.fails),
+    )
+}
+
+// Tallies -----------------------------------------------------------------------------------------------------------
+
+fn tally_of(many: u32, able: u32, moves: u32, withdraws: bool, fails: bool) -> Tally
+    ensures { λ r. ⌜ r ≡ tallied many able moves withdraws fails ⌝ }
+{
+    Tally { many, able, moves, withdraws, fails }
+}
+
+pub fn no_tally() -> Tally
+    ensures { λ r. ⌜ r ≡ noneT ⌝ }
+{
+    tally_of(0, 0, 0, false, false)
+}
+
+pub fn one_tally(v: View) -> Tally
+    ensures { λ r. ⌜ r ≡ oneT v ⌝ }
+{
+    if v.done {
+        tally_of(1, 1, v.moves, v.withdraws, v.fails)
+    } else {
+        tally_of(1, 0, v.moves, v.withdraws, v.fails)
+    }
+}
+
+pub fn tally_when(b: bool, t: Tally) -> Tally
+    ensures { λ r. ⌜ r ≡ whenT b t ⌝ }
+{
+    if b { t } else { no_tally() }
+}
+
+// Of two lists, one after the other.
+pub fn plus(x: Tally, y: Tally) -> Tally
+    ensures { λ r. ⌜ r ≡ plusT x y ⌝ }
+{
+    if x.many == 0 {
+        return y;
+    }
+    if y.many == 0 {
+        return x;
+    }
+    tally_of(
+        sum(x.many, y.many),
+        sum(x.able, y.able),
+        sum(x.moves, y.moves),
+        x.withdraws | y.withdraws,
+        x.fails | y.fails,
+    )
+}
+
+// Of all l;k, l of x and k of y.
+pub fn sequence_tally(x: Tally, y: Tally) -> Tally
+    ensures { λ r. ⌜ r ≡ seqT x y ⌝ }
+{
+    if x.many == 0 {
+        return no_tally();
+    }
+    if y.many == 0 {
+        return no_tally();
+    }
+    let goes_on = x.able != 0;
+    tally_of(
+        product(x.many, y.many),
+        product(x.able, y.able),
+        sum(product(x.moves, y.many), product(x.able, y.moves)),
+        x.withdraws | (goes_on & y.withdraws),
+        x.fails | (goes_on & y.fails),
+    )
+}
+
+// Of all k beside l, k of x and l of y.
+pub fn parallel_tally(x: Tally, y: Tally) -> Tally
+    ensures { λ r. ⌜ r ≡ parT x y ⌝ }
+{
+    if x.many == 0 {
+        return no_tally();
+    }
+    if y.many == 0 {
+        return no_tally();
+    }
+    let xd = x.able != 0;
+    let yd = y.able != 0;
+    tally_of(
+        product(x.many, y.many),
+        product(x.able, y.able),
+        sum(product(x.moves, y.many), product(x.many, y.moves)),
+        one_withdraws(xd, x.withdraws, yd, y.withdraws),
+        one_fails(xd, x.withdraws, x.fails, yd, y.withdraws, y.fails),
+    )
+}
+
+// Words -------------------------------------------------------------------------------------------------------------
+
+fn word_of(moves: u32, done: Tally, withdrawn: Tally, failed: Tally) -> Word
+    ensures { λ r. ⌜ r ≡ worded moves done withdrawn failed ⌝ }
+{
+    Word { moves, done, withdrawn, failed }
+}
+
+pub fn tally_by(x: Word, w: u8) -> Tally
+    ensures { λ r. ⌜ r ≡ byW x (closing w) ⌝ }
+{
+    if w == DONE {
+        return x.done;
+    }
+    if w == WITHDRAWN {
+        return x.withdrawn;
+    }
+    x.failed
+}
+
+pub fn block_view(x: Word) -> View
+    ensures { λ r. ⌜ r ≡ blkV x ⌝ }
+{
+    let d = x.done;
+    let f = x.failed;
+    view_of(sum(x.moves, f.moves), (d.many != 0) | (f.able != 0), f.withdraws, f.fails)
+}
+
+pub fn pair_word(p: View, q: View) -> Word
+    ensures { λ r. ⌜ r ≡ pairW p q ⌝ }
+{
+    let skips = one_tally(skip_view());
+    word_of(p.moves, tally_when(p.done, one_tally(q)), tally_when(p.withdraws, skips), tally_when(p.fails, skips))
+}
+
+// PP;QQ whose first part runs.
+pub fn sequence_word(x: Word, y: Word) -> Word
+    ensures { λ r. ⌜ r ≡ cseqW x y ⌝ }
+{
+    let k = x.done;
+    let w = plus(x.withdrawn, sequence_tally(y.withdrawn, k));
+    let f = plus(x.failed, sequence_tally(y.failed, k));
+    word_of(sum(x.moves, product(k.many, y.moves)), sequence_tally(y.done, k), w, f)
+}
+
+// PP;QQ whose first part has become the compensation seen as r.
+pub fn held_word(y: Word, r: View) -> Word
+    ensures { λ z. ⌜ z ≡ heldW y r ⌝ }
+{
+    let k = one_tally(r);
+    word_of(y.moves, sequence_tally(y.done, k), sequence_tally(y.withdrawn, k), sequence_tally(y.failed, k))
+}
+
+pub fn choice_word(x: Word, y: Word) -> Word
+    ensures { λ r. ⌜ r ≡ caltW x y ⌝ }
+{
+    word_of(sum(x.moves, y.moves), plus(x.done, y.done), plus(x.withdrawn, y.withdrawn), plus(x.failed, y.failed))
+}
+
+pub fn parallel_word(x: Word, y: Word) -> Word
+    ensures { λ r. ⌜ r ≡ cparW x y ⌝ }
+{
+    let n = plus(y.done, y.withdrawn);
+    let w = plus(parallel_tally(x.done, y.withdrawn), parallel_tally(x.withdrawn, n));
+    let e = plus(parallel_tally(x.done, y.failed), parallel_tally(x.withdrawn, y.failed));
+    let f = plus(e, parallel_tally(x.failed, plus(n, y.failed)));
+    word_of(sum(x.moves, y.moves), parallel_tally(x.done, y.done), w, f)
+}
+
+pub fn skipp_word() -> Word
+    ensures { λ r. ⌜ r ≡ skippW ⌝ }
+{
+    word_of(0, one_tally(skip_view()), no_tally(), no_tally())
+}
+
+pub fn throww_word() -> Word
+    ensures { λ r. ⌜ r ≡ throwwW ⌝ }
+{
+    word_of(0, no_tally(), no_tally(), one_tally(skip_view()))
+}
+
+pub fn yieldd_word() -> Word
+    ensures { λ r. ⌜ r ≡ yielddW ⌝ }
+{
+    word_of(0, one_tally(skip_view()), one_tally(skip_view()), no_tally())
+}
+
+// Weights -----------------------------------------------------------------------------------------------------------
+
+fn weight_of(own: u32, moves: u32, able: u32) -> Weight
+    ensures { λ r. ⌜ r ≡ weighs own moves able ⌝ }
+{
+    Weight { own, moves, able }
+}
+
+// What all of a tally weigh.
+pub fn weight_total(t: Tally, g: Weight) -> u32
+    ensures { λ r. ⌜ r ≡ total t g ⌝ }
+{
+    sum(sum(product(g.own, t.many), product(g.moves, t.moves)), product(g.able, t.able))
+}
+
+// What k weighs with all l;k, l of t.
+pub fn weight_after(t: Tally, g: Weight) -> Weight
+    ensures { λ r. ⌜ r ≡ afterG t g ⌝ }
+{
+    weight_of(sum(product(g.own, t.many), product(g.moves, t.moves)), product(g.moves, t.able), product(g.able, t.able))
+}
+
+fn if_able(b: bool, n: u32) -> u32
+    ensures { λ r. ⌜ r ≡ cond b n 0 ⌝ }
+{
+    if b { n } else { 0 }
+}
+
+// What l weighs in l;k, where k has so many steps, and can end done or not.
+pub fn weight_inside(g: Weight, moves: u32, able: bool) -> Weight
+    ensures { λ r. ⌜ r ≡ insideG g moves able ⌝ }
+{
+    weight_of(g.own, g.moves, sum(product(g.moves, moves), if_able(able, g.able)))
+}
+
+// What p weighs with all q beside it, q of t.
+pub fn weight_beside(t: Tally, g: Weight) -> Weight
+    ensures { λ r. ⌜ r ≡ besideG t g ⌝ }
+{
+    weight_of(sum(product(g.own, t.many), product(g.moves, t.moves)), product(g.moves, t.many), product(g.able, t.able))
+}
+
+// What q weighs beside p, where p has so many steps, and can end done or not.
+pub fn weight_within(g: Weight, moves: u32, able: bool) -> Weight
+    ensures { λ r. ⌜ r ≡ withinG g moves able ⌝ }
+{
+    weight_of(sum(g.own, product(g.moves, moves)), g.moves, if_able(able, g.able))
+}
+
+// How two parallel sides end that end by x and y.
+pub fn joined(x: u8, y: u8) -> u8
+    requires { ⌜ (x < 3) × (y < 3) ⌝ }
+    ensures { λ r. ⌜ (closing r ≡ join (closing x) (closing y)) × (r < 3) ⌝ }
+{
+    let k = wide_index(3 * x + y);
+    JOIN[k]
+}
+
+fn wide_index(x: u8) -> usize
+    ensures { λ r. ⌜ r ≡ x ⌝ }
+{
+    x as usize
+}
+
+// Compensations of the second side by y, where the first ends by x and both by u.
+pub fn fitting(q: Word, u: u8, x: u8, y: u8) -> Tally
+    requires { ⌜ (u < 3) × ((x < 3) × (y < 3)) ⌝ }
+    ensures { λ r. ⌜ r ≡ fittingT q (closing u) (closing x) (closing y) ⌝ }
+{
+    tally_when(joined(x, y) == u, tally_by(q, y))
+}
+
+// All compensations of the second side that go with an ending x of the first.
+pub fn partners(q: Word, u: u8, x: u8) -> Tally
+    requires { ⌜ (u < 3) × (x < 3) ⌝ }
+    ensures { λ r. ⌜ r ≡ partnersT q (closing u) (closing x) ⌝ }
+{
+    plus(plus(fitting(q, u, x, DONE), fitting(q, u, x, WITHDRAWN)), fitting(q, u, x, FAILED))
+}
