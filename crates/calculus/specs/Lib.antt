@@ -5,9 +5,14 @@ pub mod Traces
 pub mod Records
 pub mod Successors
 pub mod Search
+pub mod Laws
 -- Theorems.
 pub mod Equations
 pub mod Members
 pub mod Exact
 pub mod RunsAreTraces
+pub mod LawsHold
+pub mod Found
+pub mod Redrawn
 pub mod Budget
+pub mod JudgedByHand

@@ -1,0 +1,378 @@
+-- The laws of demand 3 keep the traces: facts of what two sets make together, whatever makes it (`lift`), then of single traces,
+-- then each law (`same-traces`, `csame-traces`). Assumes nothing.
+use Prim.Native.Nat.{ℕ}
+use mathlib.Core.Path.{_≡_, refl, sym, _∙_, ap, subst}
+use mathlib.Core.Logic.{_≢_, _⊎_, inl, inr, _↔_}
+use lib.Dec.{T}
+use mathlib.Core.List.{List, [], _∷_, _++_, append-assoc, append-nil}
+use Rattle.calculus.specs.Term.{Closing, done, withdrawn, failed, Leaf, Std, Cmp, skip, throw, yield, ev, seq, alt, par, hnd, blk, pair, cseq, calt, cpar, held, join, skipp, throww, yieldd}
+use Rattle.calculus.specs.Traces.{Trace, tr, CTrace, ct, onto, thenT, catchT, pairT, cthenT, heldT, Mix, mix-none, mix-left, mix-right, ParT, mixed, CParT, both, BlkT, undone, closed, lift, by, Tr, CTr}
+use Rattle.calculus.specs.RunsAreTraces.{some, csome}
+use Rattle.calculus.specs.Laws.{Same, CSame, same, flip, then, in-seq, in-alt, in-par, in-hnd, in-blk, seq-assoc, seq-unit-left, seq-unit-right, seq-throw, alt-comm, alt-assoc, alt-self, par-comm, par-assoc, par-unit, seq-alt-left, seq-alt-right, par-alt-left, par-alt-right, hnd-assoc, hnd-throw-right, hnd-throw-left, hnd-skip, blk-skipp, blk-throww, blk-yieldd, blk-calt, blk-throws, csame, cflip, cthen, in-pair, in-cseq, in-calt, in-cpar, cseq-assoc, cseq-unit-left, cseq-unit-right, cseq-throw, calt-comm, calt-assoc, calt-self, cpar-comm, cpar-assoc, cpar-unit, cseq-alt-left, cseq-alt-right, cpar-alt-left, cpar-alt-right}
+
+-- what two sets put together do, whatever puts them together
+
+sum-map : {P P′ Q Q′ : Type 0} → (P → P′) → (Q → Q′) → P ⊎ Q → P′ ⊎ Q′
+sum-map f g (inl x) = inl (f x)
+sum-map f g (inr x) = inr (g x)
+
+sum-swap : {P Q : Type 0} → P ⊎ Q → Q ⊎ P
+sum-swap (inl x) = inr x
+sum-swap (inr x) = inl x
+
+sum-self : {P : Type 0} → P ⊎ P → P
+sum-self (inl x) = x
+sum-self (inr x) = x
+
+sum-right : {P Q R : Type 0} → (P ⊎ Q) ⊎ R → P ⊎ (Q ⊎ R)
+sum-right (inl (inl x)) = inl x
+sum-right (inl (inr x)) = inr (inl x)
+sum-right (inr x) = inr (inr x)
+
+sum-left : {P Q R : Type 0} → P ⊎ (Q ⊎ R) → (P ⊎ Q) ⊎ R
+sum-left (inl x) = inl (inl x)
+sum-left (inr (inl x)) = inl (inr x)
+sum-left (inr (inr x)) = inr x
+
+module _ {A B C : Type 0} (R : A → B → C → Type 0) where
+  lift-map : {P P′ : A → Type 0} {Q Q′ : B → Type 0} → ((x : A) → P x → P′ x) → ((y : B) → Q y → Q′ y) → (z : C) → lift R P Q z → lift R P′ Q′ z
+  lift-map f g z t = (t .0, t .1, f (t .0) (t .2), g (t .1) (t .3), t .4)
+
+  lift-alt-left : (P Q : A → Type 0) (S : B → Type 0) (z : C) → lift R (λ x. P x ⊎ Q x) S z ↔ (lift R P S z ⊎ lift R Q S z)
+  lift-alt-left P Q S z = (λ t. one (t .0) (t .1) (t .2) (t .3) (t .4), two)
+    where
+      one : (x : A) (y : B) → P x ⊎ Q x → S y → R x y z → lift R P S z ⊎ lift R Q S z
+      one x y (inl h) k r = inl (x, y, h, k, r)
+      one x y (inr h) k r = inr (x, y, h, k, r)
+
+      two : lift R P S z ⊎ lift R Q S z → lift R (λ x. P x ⊎ Q x) S z
+      two (inl t) = (t .0, t .1, inl (t .2), t .3, t .4)
+      two (inr t) = (t .0, t .1, inr (t .2), t .3, t .4)
+
+  lift-alt-right : (S : A → Type 0) (P Q : B → Type 0) (z : C) → lift R S (λ x. P x ⊎ Q x) z ↔ (lift R S P z ⊎ lift R S Q z)
+  lift-alt-right S P Q z = (λ t. one (t .0) (t .1) (t .2) (t .3) (t .4), two)
+    where
+      one : (x : A) (y : B) → S x → P y ⊎ Q y → R x y z → lift R S P z ⊎ lift R S Q z
+      one x y k (inl h) r = inl (x, y, k, h, r)
+      one x y k (inr h) r = inr (x, y, k, h, r)
+
+      two : lift R S P z ⊎ lift R S Q z → lift R S (λ x. P x ⊎ Q x) z
+      two (inl t) = (t .0, t .1, t .2, inl (t .3), t .4)
+      two (inr t) = (t .0, t .1, t .2, inr (t .3), t .4)
+
+module _ {A : Type 0} (f : A → A → A) (P : A → Type 0) (z : A) where
+  lift-unit-left : (e : A) → ((x : A) → f e x ≡ x) → lift (by f) (λ x. x ≡ e) P z ↔ P z
+  lift-unit-left e u = (
+    λ t. subst P (sym (t .4 ∙ ap (λ x. f x (t .1)) (t .2) ∙ u (t .1))) (t .3),
+    λ h. (e, z, refl, h, sym (u z)),
+  )
+
+  lift-unit-right : (e : A) → ((x : A) → f x e ≡ x) → lift (by f) P (λ x. x ≡ e) z ↔ P z
+  lift-unit-right e u = (
+    λ t. subst P (sym (t .4 ∙ ap (λ x. f (t .0) x) (t .3) ∙ u (t .0))) (t .2),
+    λ h. (z, e, h, refl, sym (u z)),
+  )
+
+  lift-zero : (e : A) → ((x : A) → f e x ≡ e) → (x : A) → P x → lift (by f) (λ x. x ≡ e) P z ↔ (z ≡ e)
+  lift-zero e u x h = (
+    λ t. t .4 ∙ ap (λ x. f x (t .1)) (t .2) ∙ u (t .1),
+    λ q. (e, x, refl, h, q ∙ sym (u x)),
+  )
+
+module _ {A : Type 0} (f : A → A → A) (assoc : (x y z : A) → f (f x y) z ≡ f x (f y z)) (P Q R : A → Type 0) (z : A) where
+  lift-assoc : lift (by f) (λ x. lift (by f) P Q x) R z ↔ lift (by f) P (λ x. lift (by f) Q R x) z
+  lift-assoc = (
+    λ t. let s = t .2 in (s .0, f (s .1) (t .1), s .2, (s .1, t .1, s .3, t .3, refl), t .4 ∙ ap (λ x. f x (t .1)) (s .4) ∙ assoc (s .0) (s .1) (t .1)),
+    λ t. let s = t .3 in (f (t .0) (s .0), s .1, (t .0, s .0, t .2, s .2, refl), s .3, t .4 ∙ ap (λ x. f (t .0) x) (s .4) ∙ sym (assoc (t .0) (s .0) (s .1))),
+  )
+
+module _ {A : Type 0} (R : A → A → A → Type 0) (comm : (x y z : A) → R x y z → R y x z) where
+  lift-comm : (P Q : A → Type 0) (z : A) → lift R P Q z → lift R Q P z
+  lift-comm P Q z t = (t .1, t .0, t .3, t .2, comm (t .0) (t .1) z (t .4))
+
+  module _ (assoc : (x y w u z : A) → R x y u → R u w z → (v : A) × R y w v × R x v z) (P Q S : A → Type 0) (z : A) where
+    lift-rassoc : lift R (λ x. lift R P Q x) S z → lift R P (λ x. lift R Q S x) z
+    lift-rassoc t = let s = t .2 in let v = assoc (s .0) (s .1) (t .1) (t .0) z (s .4) (t .4) in (s .0, v .0, s .2, (s .1, t .1, s .3, t .3, v .1), v .2)
+
+    lift-lassoc : lift R P (λ x. lift R Q S x) z → lift R (λ x. lift R P Q x) S z
+    lift-lassoc t = let s = t .3 in let v = assoc (s .1) (s .0) (t .0) (t .1) z (comm (s .0) (s .1) (t .1) (s .4)) (comm (t .0) (t .1) z (t .4)) in (v .0, s .1, (t .0, s .0, t .2, s .2, comm (s .0) (t .0) (v .0) (v .1)), s .3, comm (s .1) (v .0) z (v .2))
+
+-- facts of traces
+
+onto-onto : (s t : List ℕ) (y : Trace) → onto (s ++ t) y ≡ onto s (onto t y)
+onto-onto s t (tr r u) = ap (λ l. tr l u) (append-assoc s t r)
+
+onto-then : (s : List ℕ) (y z : Trace) → thenT (onto s y) z ≡ onto s (thenT y z)
+onto-then s (tr t done) z = onto-onto s t z
+onto-then s (tr t withdrawn) z = refl
+onto-then s (tr t failed) z = refl
+
+then-assoc : (x y z : Trace) → thenT (thenT x y) z ≡ thenT x (thenT y z)
+then-assoc (tr s done) y z = onto-then s y z
+then-assoc (tr s withdrawn) y z = refl
+then-assoc (tr s failed) y z = refl
+
+onto-catch : (s : List ℕ) (y z : Trace) → catchT (onto s y) z ≡ onto s (catchT y z)
+onto-catch s (tr t failed) z = onto-onto s t z
+onto-catch s (tr t withdrawn) z = refl
+onto-catch s (tr t done) z = refl
+
+catch-assoc : (x y z : Trace) → catchT (catchT x y) z ≡ catchT x (catchT y z)
+catch-assoc (tr s failed) y z = onto-catch s y z
+catch-assoc (tr s withdrawn) y z = refl
+catch-assoc (tr s done) y z = refl
+
+onto-none : (z : Trace) → onto [] z ≡ z
+onto-none (tr s w) = refl
+
+then-none : (x : Trace) → thenT x (tr [] done) ≡ x
+then-none (tr s done) = ap (λ l. tr l done) (append-nil s)
+then-none (tr s withdrawn) = refl
+then-none (tr s failed) = refl
+
+catch-none : (x : Trace) → catchT x (tr [] failed) ≡ x
+catch-none (tr s failed) = ap (λ l. tr l failed) (append-nil s)
+catch-none (tr s withdrawn) = refl
+catch-none (tr s done) = refl
+
+cthen-assoc : (x y z : CTrace) → cthenT (cthenT x y) z ≡ cthenT x (cthenT y z)
+cthen-assoc (ct (tr s done) x) (ct (tr t done) y) (ct z w) = λ i. ct (onto-onto s t z i) (sym (then-assoc w y x) i)
+cthen-assoc (ct (tr s done) x) (ct (tr t withdrawn) y) z = refl
+cthen-assoc (ct (tr s done) x) (ct (tr t failed) y) z = refl
+cthen-assoc (ct (tr s withdrawn) x) y z = refl
+cthen-assoc (ct (tr s failed) x) y z = refl
+
+join-comm : (w v : Closing) → join w v ≡ join v w
+join-comm done done = refl
+join-comm done withdrawn = refl
+join-comm done failed = refl
+join-comm withdrawn done = refl
+join-comm withdrawn withdrawn = refl
+join-comm withdrawn failed = refl
+join-comm failed done = refl
+join-comm failed withdrawn = refl
+join-comm failed failed = refl
+
+join-assoc : (w v u : Closing) → join (join w v) u ≡ join w (join v u)
+join-assoc done v u = refl
+join-assoc withdrawn done u = refl
+join-assoc withdrawn withdrawn done = refl
+join-assoc withdrawn withdrawn withdrawn = refl
+join-assoc withdrawn withdrawn failed = refl
+join-assoc withdrawn failed u = refl
+join-assoc failed v u = refl
+
+mix-comm : {s t r : List ℕ} → Mix s t r → Mix t s r
+mix-comm mix-none = mix-none
+mix-comm (mix-left m) = mix-right (mix-comm m)
+mix-comm (mix-right m) = mix-left (mix-comm m)
+
+mix-assoc : {s t r t′ r′ : List ℕ} → Mix r t′ r′ → Mix s t r → (q : List ℕ) × Mix t t′ q × Mix s q r′
+mix-assoc mix-none mix-none = ([], mix-none, mix-none)
+mix-assoc (mix-left n) (mix-left m) = let q = mix-assoc n m in (q .0, q .1, mix-left (q .2))
+mix-assoc (mix-left {a} n) (mix-right m) = let q = mix-assoc n m in (a ∷ q .0, mix-left (q .1), mix-right (q .2))
+mix-assoc (mix-right {a} n) m = let q = mix-assoc n m in (a ∷ q .0, mix-right (q .1), mix-right (q .2))
+
+mix-unit : {t r : List ℕ} → Mix [] t r → r ≡ t
+mix-unit mix-none = refl
+mix-unit (mix-right {a} m) = ap (λ l. a ∷ l) (mix-unit m)
+
+mix-unit-in : (t : List ℕ) → Mix [] t t
+mix-unit-in [] = mix-none
+mix-unit-in (a ∷ t) = mix-right (mix-unit-in t)
+
+par-comm-traces : {x y z : Trace} → ParT x y z → ParT y x z
+par-comm-traces (mixed {w} {v} m e) = mixed (mix-comm m) (e ∙ join-comm w v)
+
+par-assoc-traces : {x y w u z : Trace} → ParT x y u → ParT u w z → (v : Trace) × ParT y w v × ParT x v z
+par-assoc-traces (mixed {w} {v} m e) (mixed {v = u} n f) =
+    let q = mix-assoc n m in
+    (tr (q .0) (join v u), mixed (q .1) refl, mixed (q .2) (f ∙ ap (λ x. join x u) e ∙ join-assoc w v u))
+
+par-unit-traces : {y z : Trace} → ParT (tr [] done) y z → z ≡ y
+par-unit-traces (mixed {v} m e) = λ i. tr (mix-unit m i) (e i)
+
+par-unit-in : (y : Trace) → ParT (tr [] done) y y
+par-unit-in (tr t v) = mixed (mix-unit-in t) refl
+
+cpar-comm-traces : {x y z : CTrace} → CParT x y z → CParT y x z
+cpar-comm-traces (both f g) = both (par-comm-traces f) (par-comm-traces g)
+
+cpar-assoc-traces : {x y w u z : CTrace} → CParT x y u → CParT u w z → (v : CTrace) × CParT y w v × CParT x v z
+cpar-assoc-traces (both f g) (both h k) =
+    let a = par-assoc-traces f h in
+    let b = par-assoc-traces g k in
+    (ct (a .0) (b .0), both (a .1) (b .1), both (a .2) (b .2))
+
+cpar-unit-traces : {y z : CTrace} → CParT (ct (tr [] done) (tr [] done)) y z → z ≡ y
+cpar-unit-traces (both f g) = λ i. ct (par-unit-traces f i) (par-unit-traces g i)
+
+cpar-unit-in : (y : CTrace) → CParT (ct (tr [] done) (tr [] done)) y y
+cpar-unit-in (ct x y) = both (par-unit-in x) (par-unit-in y)
+
+cthen-unit-left : (x : CTrace) → cthenT (ct (tr [] done) (tr [] done)) x ≡ x
+cthen-unit-left (ct x y) = λ i. ct (onto-none x i) (then-none y i)
+
+cthen-unit-right : (x : CTrace) → cthenT x (ct (tr [] done) (tr [] done)) ≡ x
+cthen-unit-right (ct (tr s done) x) = λ i. ct (tr (append-nil s i) done) (onto-none x i)
+cthen-unit-right (ct (tr s withdrawn) x) = refl
+cthen-unit-right (ct (tr s failed) x) = refl
+
+-- a pair of two single traces
+
+pair-of : (e f : Trace) (z : CTrace) → lift (by pairT) (λ x. x ≡ e) (λ y. y ≡ f) z ↔ (z ≡ pairT e f)
+pair-of e f z = (λ t. t .4 ∙ (λ i. pairT (t .2 i) (t .3 i)), λ q. (e, f, refl, refl, q))
+
+abbrev skip-pair : CTrace
+skip-pair = ct (tr [] done) (tr [] done)
+
+abbrev throw-pair : CTrace
+throw-pair = ct (tr [] failed) (tr [] done)
+
+module _ {A B C : Type 0} (R : A → B → C → Type 0) {P P′ : A → Type 0} {Q Q′ : B → Type 0} where
+  lift-cong : ((x : A) → P x ↔ P′ x) → ((y : B) → Q y ↔ Q′ y) → (z : C) → lift R P Q z ↔ lift R P′ Q′ z
+  lift-cong f g z = (lift-map R (λ x. f x .0) (λ y. g y .0) z, lift-map R (λ x. f x .1) (λ y. g y .1) z)
+
+iff-then : {P Q R : Type 0} → P ↔ Q → Q ↔ R → P ↔ R
+iff-then f g = (λ x. g .0 (f .0 x), λ x. f .1 (g .1 x))
+
+iff-self : {P : Type 0} → P ↔ P
+iff-self = (λ x. x, λ x. x)
+
+blk-of : (e : CTrace) (z : Trace) (Z : Type 0) → (BlkT e z ↔ Z) → (P : CTrace → Type 0) → ((x : CTrace) → P x ↔ (x ≡ e)) → ((x : CTrace) × P x × BlkT x z) ↔ Z
+blk-of e z Z b P f = (λ t. b .0 (subst (λ x. BlkT x z) (f (t .0) .0 (t .1)) (t .2)), λ h. (e, f e .1 refl, b .1 h))
+
+blk-done : (y z : Trace) → BlkT (ct (tr [] done) y) z ↔ (z ≡ tr [] done)
+blk-done y z = (one, λ e. subst (λ z. BlkT (ct (tr [] done) y) z) (sym e) closed)
+  where
+    one : {z : Trace} → BlkT (ct (tr [] done) y) z → z ≡ tr [] done
+    one closed = refl
+
+blk-failed : (s : List ℕ) (y z : Trace) → BlkT (ct (tr s failed) y) z ↔ (z ≡ onto s y)
+blk-failed s y z = (one, λ e. undone e)
+  where
+    one : {z : Trace} → BlkT (ct (tr s failed) y) z → z ≡ onto s y
+    one (undone e) = e
+
+no-yield : {y z : Trace} → BlkT (ct (tr [] withdrawn) y) z → ⊥
+no-yield h = elim h [ ]
+
+yieldd-traces : (z : Trace) → Tr (blk yieldd) z ↔ Tr skip z
+yieldd-traces z = (
+  λ t. let u = t .1 in one (t .0) (u .0) (u .1) (u .2) (u .4) (t .2),
+  λ e. (skip-pair, (tr [] done, tr [] done, inr refl, refl, refl), blk-done (tr [] done) z .1 e),
+)
+  where
+    one : (c : CTrace) (x y : Trace) → (x ≡ tr [] withdrawn) ⊎ (x ≡ tr [] done) → c ≡ pairT x y → BlkT c z → z ≡ tr [] done
+    one c x y (inl d) q b = absurd (no-yield (subst (λ c. BlkT c z) (q ∙ ap (λ x. pairT x y) d) b))
+    one c x y (inr d) q b = blk-done y z .0 (subst (λ c. BlkT c z) (q ∙ ap (λ x. pairT x y) d) b)
+
+calt-traces : (P Q : CTrace → Type 0) (z : Trace) → ((x : CTrace) × (P x ⊎ Q x) × BlkT x z) ↔ (((x : CTrace) × P x × BlkT x z) ⊎ ((x : CTrace) × Q x × BlkT x z))
+calt-traces P Q z = (λ t. one (t .0) (t .1) (t .2), two)
+  where
+    one : (x : CTrace) → P x ⊎ Q x → BlkT x z → ((x : CTrace) × P x × BlkT x z) ⊎ ((x : CTrace) × Q x × BlkT x z)
+    one x (inl h) b = inl (x, h, b)
+    one x (inr h) b = inr (x, h, b)
+
+    two : ((x : CTrace) × P x × BlkT x z) ⊎ ((x : CTrace) × Q x × BlkT x z) → (x : CTrace) × (P x ⊎ Q x) × BlkT x z
+    two (inl t) = (t .0, inl (t .1), t .2)
+    two (inr t) = (t .0, inr (t .1), t .2)
+
+throws-traces : (l : Leaf) (q : Std) (z : Trace) → Tr (blk (cseq (pair (ev l) q) throww)) z ↔ Tr (seq (ev l) q) z
+throws-traces l q z = (one, two)
+  where
+    one : Tr (blk (cseq (pair (ev l) q) throww)) z → Tr (seq (ev l) q) z
+    one t =
+        let u = t .1 in
+        let x = u .2 in
+        let e = x .2 in
+        let a : ℕ = e .0 in
+        let y : u .1 ≡ throw-pair = pair-of (tr [] failed) (tr [] done) (u .1) .0 (u .3) in
+        let f : u .0 ≡ ct (tr (a ∷ []) done) (x .1) = x .4 ∙ ap (λ v. pairT v (x .1)) (e .2) in
+        let g : t .0 ≡ ct (tr (a ∷ []) failed) (onto [] (x .1)) = u .4 ∙ (λ i. cthenT (f i) (y i)) in
+        let h : z ≡ onto (a ∷ []) (onto [] (x .1)) = blk-failed (a ∷ []) (onto [] (x .1)) z .0 (subst (λ c. BlkT c z) g (t .2)) in
+        (tr (a ∷ []) done, x .1, (a, e .1, refl), x .3, h ∙ ap (onto (a ∷ [])) (onto-none (x .1)))
+
+    two : Tr (seq (ev l) q) z → Tr (blk (cseq (pair (ev l) q) throww)) z
+    two t =
+        let e = t .2 in
+        let a : ℕ = e .0 in
+        (
+          ct (tr (a ∷ []) failed) (onto [] (t .1)),
+          (ct (tr (a ∷ []) done) (t .1), throw-pair, (tr (a ∷ []) done, t .1, (a, e .1, refl), t .3, refl), (tr [] failed, tr [] done, refl, refl, refl), refl),
+          undone (t .4 ∙ ap (λ x. thenT x (t .1)) (e .2) ∙ sym (ap (onto (a ∷ [])) (onto-none (t .1)))),
+        )
+
+mutual
+  pub same-traces : {p q : Std} → Same p q → (z : Trace) → Tr p z ↔ Tr q z
+  same-traces same z = iff-self
+  same-traces (flip h) z = let k = same-traces h z in (k .1, k .0)
+  same-traces (then h k) z = iff-then (same-traces h z) (same-traces k z)
+  same-traces (in-seq h k) z = lift-cong (by thenT) (λ x. same-traces h x) (λ y. same-traces k y) z
+  same-traces (in-alt h k) z = let a = same-traces h z in let b = same-traces k z in (sum-map (a .0) (b .0), sum-map (a .1) (b .1))
+  same-traces (in-par h k) z = lift-cong ParT (λ x. same-traces h x) (λ y. same-traces k y) z
+  same-traces (in-hnd h k) z = lift-cong (by catchT) (λ x. same-traces h x) (λ y. same-traces k y) z
+  same-traces (in-blk h) z = (λ t. (t .0, csame-traces h (t .0) .0 (t .1), t .2), λ t. (t .0, csame-traces h (t .0) .1 (t .1), t .2))
+  same-traces (seq-assoc {p} {q} {r}) z = lift-assoc thenT then-assoc (Tr p) (Tr q) (Tr r) z
+  same-traces (seq-unit-left {p}) z = lift-unit-left thenT (Tr p) z (tr [] done) onto-none
+  same-traces (seq-unit-right {p}) z = lift-unit-right thenT (Tr p) z (tr [] done) then-none
+  same-traces (seq-throw {p}) z = let x = some p in lift-zero thenT (Tr p) z (tr [] failed) (λ x. refl) (x .0) (x .1)
+  same-traces alt-comm z = (sum-swap, sum-swap)
+  same-traces alt-assoc z = (sum-right, sum-left)
+  same-traces alt-self z = (sum-self, inl)
+  same-traces (par-comm {p} {q}) z = (lift-comm ParT (λ x y z. par-comm-traces) (Tr p) (Tr q) z, lift-comm ParT (λ x y z. par-comm-traces) (Tr q) (Tr p) z)
+  same-traces (par-assoc {p} {q} {r}) z = (
+    lift-rassoc ParT (λ x y z. par-comm-traces) (λ x y w u z. par-assoc-traces) (Tr p) (Tr q) (Tr r) z,
+    lift-lassoc ParT (λ x y z. par-comm-traces) (λ x y w u z. par-assoc-traces) (Tr p) (Tr q) (Tr r) z,
+  )
+  same-traces (par-unit {p}) z = (
+    λ t. subst (Tr p) (sym (par-unit-traces (subst (λ x. ParT x (t .1) z) (t .2) (t .4)))) (t .3),
+    λ h. (tr [] done, z, refl, h, par-unit-in z),
+  )
+  same-traces (seq-alt-left {p} {q} {r}) z = lift-alt-left (by thenT) (Tr p) (Tr q) (Tr r) z
+  same-traces (seq-alt-right {p} {q} {r}) z = lift-alt-right (by thenT) (Tr p) (Tr q) (Tr r) z
+  same-traces (par-alt-left {p} {q} {r}) z = lift-alt-left ParT (Tr p) (Tr q) (Tr r) z
+  same-traces (par-alt-right {p} {q} {r}) z = lift-alt-right ParT (Tr p) (Tr q) (Tr r) z
+  same-traces (hnd-assoc {p} {q} {r}) z = lift-assoc catchT catch-assoc (Tr p) (Tr q) (Tr r) z
+  same-traces (hnd-throw-right {p}) z = lift-unit-right catchT (Tr p) z (tr [] failed) catch-none
+  same-traces (hnd-throw-left {p}) z = lift-unit-left catchT (Tr p) z (tr [] failed) onto-none
+  same-traces (hnd-skip {p}) z = let x = some p in lift-zero catchT (Tr p) z (tr [] done) (λ x. refl) (x .0) (x .1)
+  same-traces blk-skipp z = blk-of skip-pair z (z ≡ tr [] done) (blk-done (tr [] done) z) (CTr skipp) (pair-of (tr [] done) (tr [] done))
+  same-traces blk-throww z = blk-of throw-pair z (z ≡ tr [] done) (blk-failed [] (tr [] done) z) (CTr throww) (pair-of (tr [] failed) (tr [] done))
+  same-traces blk-yieldd z = yieldd-traces z
+  same-traces (blk-calt {pp} {qq}) z = calt-traces (CTr pp) (CTr qq) z
+  same-traces (blk-throws {l} {q}) z = throws-traces l q z
+
+  pub csame-traces : {p q : Cmp} → CSame p q → (z : CTrace) → CTr p z ↔ CTr q z
+  csame-traces csame z = iff-self
+  csame-traces (cflip h) z = let k = csame-traces h z in (k .1, k .0)
+  csame-traces (cthen h k) z = iff-then (csame-traces h z) (csame-traces k z)
+  csame-traces (in-pair h k) z = lift-cong (by pairT) (λ x. same-traces h x) (λ y. same-traces k y) z
+  csame-traces (in-cseq h k) z = lift-cong (by cthenT) (λ x. csame-traces h x) (λ y. csame-traces k y) z
+  csame-traces (in-calt h k) z = let a = csame-traces h z in let b = csame-traces k z in (sum-map (a .0) (b .0), sum-map (a .1) (b .1))
+  csame-traces (in-cpar h k) z = lift-cong CParT (λ x. csame-traces h x) (λ y. csame-traces k y) z
+  csame-traces (cseq-assoc {p} {q} {r}) z = lift-assoc cthenT cthen-assoc (CTr p) (CTr q) (CTr r) z
+  csame-traces (cseq-unit-left {p}) z =
+      iff-then (lift-cong (by cthenT) (pair-of (tr [] done) (tr [] done)) (λ y. iff-self) z) (lift-unit-left cthenT (CTr p) z skip-pair cthen-unit-left)
+  csame-traces (cseq-unit-right {p}) z =
+      iff-then (lift-cong (by cthenT) (λ y. iff-self) (pair-of (tr [] done) (tr [] done)) z) (lift-unit-right cthenT (CTr p) z skip-pair cthen-unit-right)
+  csame-traces (cseq-throw {p}) z =
+      let x = csome p in
+      let f = pair-of (tr [] failed) (tr [] done) z in
+      iff-then (iff-then (lift-cong (by cthenT) (pair-of (tr [] failed) (tr [] done)) (λ y. iff-self) z) (lift-zero cthenT (CTr p) z throw-pair (λ x. refl) (x .0) (x .1))) (f .1, f .0)
+  csame-traces calt-comm z = (sum-swap, sum-swap)
+  csame-traces calt-assoc z = (sum-right, sum-left)
+  csame-traces calt-self z = (sum-self, inl)
+  csame-traces (cpar-comm {p} {q}) z = (lift-comm CParT (λ x y z. cpar-comm-traces) (CTr p) (CTr q) z, lift-comm CParT (λ x y z. cpar-comm-traces) (CTr q) (CTr p) z)
+  csame-traces (cpar-assoc {p} {q} {r}) z = (
+    lift-rassoc CParT (λ x y z. cpar-comm-traces) (λ x y w u z. cpar-assoc-traces) (CTr p) (CTr q) (CTr r) z,
+    lift-lassoc CParT (λ x y z. cpar-comm-traces) (λ x y w u z. cpar-assoc-traces) (CTr p) (CTr q) (CTr r) z,
+  )
+  csame-traces (cpar-unit {p}) z = (
+    λ t. subst (CTr p) (sym (cpar-unit-traces (subst (λ x. CParT x (t .1) z) (pair-of (tr [] done) (tr [] done) (t .0) .0 (t .2)) (t .4)))) (t .3),
+    λ h. (skip-pair, z, pair-of (tr [] done) (tr [] done) skip-pair .1 refl, h, cpar-unit-in z),
+  )
+  csame-traces (cseq-alt-left {p} {q} {r}) z = lift-alt-left (by cthenT) (CTr p) (CTr q) (CTr r) z
+  csame-traces (cseq-alt-right {p} {q} {r}) z = lift-alt-right (by cthenT) (CTr p) (CTr q) (CTr r) z
+  csame-traces (cpar-alt-left {p} {q} {r}) z = lift-alt-left CParT (CTr p) (CTr q) (CTr r) z
+  csame-traces (cpar-alt-right {p} {q} {r}) z = lift-alt-right CParT (CTr p) (CTr q) (CTr r) z

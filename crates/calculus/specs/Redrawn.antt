@@ -1,0 +1,148 @@
+-- Terms that are equal by the laws are judged alike: complete runs of the one are those of the other (`redrawn-complete`), so
+-- that they are accepted together, and rejected at the same place (`redrawn-alike`), unless either is undecided. Also that a
+-- complete run is a trace and the other way about, over record lists (`complete-traces`), and that every flow has a complete
+-- run that closes done or failed (`has-firm-run`). Assumes nothing.
+use Prim.Native.Nat.{ℕ, zero, suc, _≤_}
+use mathlib.Core.Path.{_≡_, refl, sym, _∙_, ap, subst}
+use mathlib.Core.Logic.{_⊎_, inl, inr, _↔_}
+use mathlib.Core.Bool.{Bool, true, false}
+use mathlib.Core.List.{List, [], _∷_, _++_, map}
+use native.Mathlib.Omega.{arith}
+use lib.Dec.{T, leb}
+use lib.ListN.{length}
+use Rattle.calculus.specs.Term.{Closing, done, withdrawn, failed, Std, Cmp}
+use Rattle.calculus.specs.Rules.{Run, CRun}
+use Rattle.calculus.specs.Records.{Record, event, close, State, over, std, cmp, standard, compensable, Complete, InTraces, Follows, stays}
+use Rattle.calculus.specs.Records
+use Rattle.calculus.specs.Search.{Seen, visit, Verdict, accepted, rejected, undecided, settle, judge}
+use Rattle.calculus.specs.Found.{Ends, at-end, ends-complete, complete-ends, found-complete, place-follows, place-longest}
+use Rattle.calculus.specs.Found
+use Rattle.calculus.specs.Traces.{Trace, tr, CTrace, ct, Tr, CTr}
+use Rattle.calculus.specs.RunsAreTraces.{some, csome, Firm, CFirm, runs-are-traces, cruns-are-traces}
+use Rattle.calculus.specs.Laws.{Same, CSame, Redrawn}
+use Rattle.calculus.specs.Laws
+use Rattle.calculus.specs.LawsHold.{same-traces, csame-traces}
+
+-- Complete runs are traces --------------------------------------------------------------------------------------------------
+
+pub complete-traces : (s : State) (rs : List Record) → Complete s rs ↔ InTraces s rs
+complete-traces over rs = (λ e. e, λ e. e)
+complete-traces (std p) rs = (
+  λ c. (c .0, c .1, c .2, runs-are-traces p (c .0) (c .1) .0 (c .3)),
+  λ c. (c .0, c .1, c .2, runs-are-traces p (c .0) (c .1) .1 (c .3)),
+)
+complete-traces (cmp pp) rs = (
+  λ c. (c .0, c .1, c .2, c .3, c .4, cruns-are-traces pp (c .0) (c .1) (c .2) (c .3) .0 (c .5)),
+  λ c. (c .0, c .1, c .2, c .3, c .4, cruns-are-traces pp (c .0) (c .1) (c .2) (c .3) .1 (c .5)),
+)
+
+-- Every flow has one that closes done or failed ------------------------------------------------------------------------------
+
+-- the last record is done or failed
+pub data ClosesFirm : List Record → Type 0 where
+  by-done : ClosesFirm (close done ∷ [])
+  by-failed : ClosesFirm (close failed ∷ [])
+  later : {r : Record} {rs : List Record} → ClosesFirm rs → ClosesFirm (r ∷ rs)
+
+firm-standard : (s : List ℕ) (w : Closing) → Firm (tr s w) → ClosesFirm (standard s w)
+firm-standard [] done f = by-done
+firm-standard [] withdrawn f = absurd f
+firm-standard [] failed f = by-failed
+firm-standard (a ∷ s) done f = later (firm-standard s done f)
+firm-standard (a ∷ s) withdrawn f = absurd f
+firm-standard (a ∷ s) failed f = later (firm-standard s failed f)
+
+firm-compensable : (s : List ℕ) (w : Closing) (t : List ℕ) (v : Closing) → Firm (tr t v) → ClosesFirm (compensable s w t v)
+firm-compensable [] w t v f = later (firm-standard t v f)
+firm-compensable (a ∷ s) w t v f = later (firm-compensable s w t v f)
+
+pub has-firm-run : (p : Std) → (rs : List Record) × Complete (std p) rs × ClosesFirm rs
+has-firm-run p = let z = some p in at (z .0) (z .1) (z .2)
+  where
+    at : (z : Trace) → Tr p z → Firm z → (rs : List Record) × Complete (std p) rs × ClosesFirm rs
+    at (tr s w) h f = (standard s w, (s, w, refl, runs-are-traces p s w .1 h), firm-standard s w f)
+
+pub has-firm-crun : (pp : Cmp) → (rs : List Record) × Complete (cmp pp) rs × ClosesFirm rs
+has-firm-crun pp = let z = csome pp in at (z .0) (z .1) (z .2)
+  where
+    at : (z : CTrace) → CTr pp z → CFirm z → (rs : List Record) × Complete (cmp pp) rs × ClosesFirm rs
+    at (ct (tr s w) (tr t v)) h f = (compensable s w t v, (s, w, t, v, refl, cruns-are-traces pp s w t v .1 h), firm-compensable s w t v (f .1))
+
+any-end : (s : State) → (rs : List Record) × Ends s rs
+any-end over = ([], at-end)
+any-end (std p) = let c = has-firm-run p in (c .0, complete-ends (std p) (c .0) (c .1))
+any-end (cmp pp) = let c = has-firm-crun pp in (c .0, complete-ends (cmp pp) (c .0) (c .1))
+
+-- Redrawing keeps the complete runs ------------------------------------------------------------------------------------------
+
+std-traces : {p q : Std} → Same p q → (rs : List Record) → InTraces (std p) rs → InTraces (std q) rs
+std-traces h rs c = (c .0, c .1, c .2, same-traces h (tr (c .0) (c .1)) .0 (c .3))
+
+cmp-traces : {pp qq : Cmp} → CSame pp qq → (rs : List Record) → InTraces (cmp pp) rs → InTraces (cmp qq) rs
+cmp-traces h rs c = (c .0, c .1, c .2, c .3, c .4, csame-traces h (ct (tr (c .0) (c .1)) (tr (c .2) (c .3))) .0 (c .5))
+
+pub redrawn-flip : {s t : State} → Redrawn s t → Redrawn t s
+redrawn-flip (Redrawn.standard h) = Redrawn.standard (Same.flip h)
+redrawn-flip (Redrawn.compensable h) = Redrawn.compensable (CSame.cflip h)
+
+redrawn-traces : {s t : State} → Redrawn s t → (rs : List Record) → InTraces s rs → InTraces t rs
+redrawn-traces (Redrawn.standard h) rs c = std-traces h rs c
+redrawn-traces (Redrawn.compensable h) rs c = cmp-traces h rs c
+
+pub redrawn-complete : {s t : State} → Redrawn s t → (rs : List Record) → Complete s rs → Complete t rs
+redrawn-complete {s} {t} h rs c = complete-traces t rs .1 (redrawn-traces h rs (complete-traces s rs .0 c))
+
+-- The same place: what is followed is the beginning of a complete run ----------------------------------------------------------
+
+-- the first n records are the same
+data Shared : ℕ → List Record → List Record → Type 0 where
+  none : {rs rs′ : List Record} → Shared 0 rs rs′
+  also : {r : Record} {rs rs′ : List Record} {n : ℕ} → Shared n rs rs′ → Shared (suc n) (r ∷ rs) (r ∷ rs′)
+
+follows-ends : {s : State} {rs : List Record} {n : ℕ} → Follows s rs n → (rs′ : List Record) × Shared n rs rs′ × Ends s rs′
+follows-ends (stays {s}) = let e = any-end s in (e .0, none, e .1)
+follows-ends (Follows.moves {r} m a) = let e = follows-ends a in (r ∷ e .0, also (e .1), Ends.moves m (e .2))
+
+ends-follows : {s : State} {rs rs′ : List Record} {n : ℕ} → Shared n rs rs′ → Ends s rs′ → Follows s rs n
+ends-follows none e = stays
+ends-follows (also k) (Ends.moves m e) = Follows.moves m (ends-follows k e)
+
+pub redrawn-follows : {s t : State} → Redrawn s t → {rs : List Record} {n : ℕ} → Follows s rs n → Follows t rs n
+redrawn-follows {s} {t} h f =
+    let e = follows-ends f in
+    ends-follows (e .1) (complete-ends t (e .0) (redrawn-complete h (e .0) (ends-complete s (e .0) (e .2))))
+
+-- Judged alike -----------------------------------------------------------------------------------------------------------------
+
+-- both accepted, or both rejected at the same place, or either undecided
+pub data Alike : Verdict → Verdict → Type 0 where
+  both-accepted : {n a b : ℕ} → Alike (accepted n a) (accepted n b)
+  both-rejected : {place place′ a b : ℕ} → place ≡ place′ → Alike (rejected place a) (rejected place′ b)
+  first-undecided : {n a : ℕ} {v : Verdict} → Alike (undecided n a) v
+  second-undecided : {n b : ℕ} {v : Verdict} → Alike v (undecided n b)
+
+module _ {s t : State} (h : Redrawn s t) (rs : List Record) where
+  pub redrawn-found : T ((visit rs s) .found) ↔ T ((visit rs t) .found)
+  redrawn-found = (
+    λ f. found-complete t rs .1 (redrawn-complete h rs (found-complete s rs .0 f)),
+    λ f. found-complete s rs .1 (redrawn-complete (redrawn-flip h) rs (found-complete t rs .0 f)),
+  )
+
+  pub redrawn-place : (T ((visit rs s) .found) → ⊥) → (visit rs s) .reached ≡ (visit rs t) .reached
+  redrawn-place f =
+      let g : T ((visit rs t) .found) → ⊥ = λ k. f (redrawn-found .1 k) in
+      let one = place-longest (redrawn-follows h (place-follows rs s f)) g in
+      let two = place-longest (redrawn-follows (redrawn-flip h) (place-follows rs t g)) f in
+      omega arith
+
+  pub redrawn-alike : (n m : ℕ) → Alike (judge s rs n) (judge t rs m)
+  unfolding judge settle
+  redrawn-alike n m = by (leb ((visit rs s) .entered) n) (leb ((visit rs t) .entered) m) ((visit rs s) .found) ((visit rs t) .found) redrawn-found redrawn-place
+    where
+      by : (e d f g : Bool) → T f ↔ T g → ((T f → ⊥) → (visit rs s) .reached ≡ (visit rs t) .reached) → Alike (settle e f (length rs) n (visit rs s)) (settle d g (length rs) m (visit rs t))
+      by false d f g k p = first-undecided
+      by true false f g k p = second-undecided
+      by true true true true k p = both-accepted
+      by true true true false k p = absurd (k .0 tt)
+      by true true false true k p = absurd (k .1 tt)
+      by true true false false k p = both-rejected (p (λ x. x))
