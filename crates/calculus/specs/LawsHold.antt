@@ -296,8 +296,7 @@ throws-traces l q z = (one, two)
     two : Tr (seq (ev l) q) z → Tr (blk (cseq (pair (ev l) q) throww)) z
     two t =
         let e = t .2 in
-        let a : ℕ = e .0 in
-        (
+        let a : ℕ = e .0 in (
           ct (tr (a ∷ []) failed) (onto [] (t .1)),
           (ct (tr (a ∷ []) done) (t .1), throw-pair, (tr (a ∷ []) done, t .1, (a, e .1, refl), t .3, refl), (tr [] failed, tr [] done, refl, refl, refl), refl),
           undone (t .4 ∙ ap (λ x. thenT x (t .1)) (e .2) ∙ sym (ap (onto (a ∷ [])) (onto-none (t .1)))),

@@ -6,11 +6,13 @@ pub mod Records
 pub mod Successors
 pub mod Search
 pub mod Laws
+pub mod Entered
 -- Theorems.
 pub mod Equations
 pub mod Members
 pub mod Exact
 pub mod RunsAreTraces
+pub mod EnteredTraces
 pub mod LawsHold
 pub mod Found
 pub mod Redrawn

@@ -250,22 +250,22 @@ mutual
 
 -- an ending is a trace with no events
 
-then-stop : (s : List ℕ) (w : Closing) (y : Trace) → w ≢ done → tr s w ≡ thenT (tr s w) y
+pub then-stop : (s : List ℕ) (w : Closing) (y : Trace) → w ≢ done → tr s w ≡ thenT (tr s w) y
 then-stop s done y n = absurd (n refl)
 then-stop s withdrawn y n = refl
 then-stop s failed y n = refl
 
-catch-stop : (s : List ℕ) (w : Closing) (y : Trace) → w ≢ failed → tr s w ≡ catchT (tr s w) y
+pub catch-stop : (s : List ℕ) (w : Closing) (y : Trace) → w ≢ failed → tr s w ≡ catchT (tr s w) y
 catch-stop s done y n = refl
 catch-stop s withdrawn y n = refl
 catch-stop s failed y n = absurd (n refl)
 
-pair-stop : (s : List ℕ) (w : Closing) (y : Trace) → w ≢ done → ct (tr s w) (tr [] done) ≡ pairT (tr s w) y
+pub pair-stop : (s : List ℕ) (w : Closing) (y : Trace) → w ≢ done → ct (tr s w) (tr [] done) ≡ pairT (tr s w) y
 pair-stop s done y n = absurd (n refl)
 pair-stop s withdrawn y n = refl
 pair-stop s failed y n = refl
 
-cthen-stop : (s : List ℕ) (w : Closing) (x : Trace) (y : CTrace) → w ≢ done → ct (tr s w) x ≡ cthenT (ct (tr s w) x) y
+pub cthen-stop : (s : List ℕ) (w : Closing) (x : Trace) (y : CTrace) → w ≢ done → ct (tr s w) x ≡ cthenT (ct (tr s w) x) y
 cthen-stop s done x y n = absurd (n refl)
 cthen-stop s withdrawn x y n = refl
 cthen-stop s failed x y n = refl

@@ -1,4 +1,5 @@
--- What is read off a table by going down from a node: a fold over falling node numbers, and what it depends on.
+-- What is read off a table by going down from a node: a fold over falling node numbers, and what it depends on. What a tree is,
+-- and that the parts under two children are disjoint. Which tables are trees is in FineTable. Assumes nothing.
 use Prim.Native.Nat.{ℕ, zero, suc, _+_, _*_, _<_, _≤_}
 use mathlib.Core.Path.{_≡_, refl, sym, _∙_, ap, ap₂, subst}
 use mathlib.Core.Bool.{Bool, true, false, not, _&&_, _||_, cond}
@@ -106,10 +107,30 @@ module _ (s : Shape) where
         by false t = absurd t
     child-is i g false c t h = absurd t
 
+    pub fold-one : Tree → (f : ℕ → A → A → A) (i : ℕ) → T (s .has1 i) → fold f i ≡ f i (fold f (s .one i)) (child i (fold f) (s .has2 i) (s .two i))
+    fold-one tree f i a = fold-is f i ∙ ap (λ (x : A). f i x (child i (fold f) (s .has2 i) (s .two i)))
+        (child-is i (fold f) (s .has1 i) (s .one i) a (tree .lower i (s .one i) (kid1 a refl)))
+
     pub fold-two : Tree → (f : ℕ → A → A → A) (i : ℕ) → T (s .has1 i) → T (s .has2 i) → fold f i ≡ f i (fold f (s .one i)) (fold f (s .two i))
     fold-two tree f i a b = fold-is f i ∙ ap₂ (f i)
         (child-is i (fold f) (s .has1 i) (s .one i) a (tree .lower i (s .one i) (kid1 a refl)))
         (child-is i (fold f) (s .has2 i) (s .two i) b (tree .lower i (s .two i) (kid2 b refl)))
+
+    -- the same for every node, where a node does nothing with a child that it has not
+    pub fold-node : Tree → (f : ℕ → A → A → A) (i : ℕ)
+        → (T (not (s .has1 i)) → (x x′ y : A) → f i x y ≡ f i x′ y) → (T (not (s .has2 i)) → (x y y′ : A) → f i x y ≡ f i x y′)
+        → fold f i ≡ f i (fold f (s .one i)) (fold f (s .two i))
+    fold-node tree f i skip1 skip2 = fold-is f i ∙ first (s .has1 i) (λ b. kid1 b refl) skip1 ∙ second (s .has2 i) (λ b. kid2 b refl) skip2
+      where
+        first : (b : Bool) → (T b → Kid i (s .one i)) → (T (not b) → (x x′ y : A) → f i x y ≡ f i x′ y)
+            → f i (child i (fold f) b (s .one i)) (child i (fold f) (s .has2 i) (s .two i)) ≡ f i (fold f (s .one i)) (child i (fold f) (s .has2 i) (s .two i))
+        first true k e = ap (λ x. f i x (child i (fold f) (s .has2 i) (s .two i))) (child-is i (fold f) true (s .one i) tt (tree .lower i (s .one i) (k tt)))
+        first false k e = e tt (child i (fold f) false (s .one i)) (fold f (s .one i)) (child i (fold f) (s .has2 i) (s .two i))
+
+        second : (b : Bool) → (T b → Kid i (s .two i)) → (T (not b) → (x y y′ : A) → f i x y ≡ f i x y′)
+            → f i (fold f (s .one i)) (child i (fold f) b (s .two i)) ≡ f i (fold f (s .one i)) (fold f (s .two i))
+        second true k e = ap (f i (fold f (s .one i))) (child-is i (fold f) true (s .two i) tt (tree .lower i (s .two i) (k tt)))
+        second false k e = e tt (fold f (s .one i)) (child i (fold f) false (s .two i)) (fold f (s .two i))
 
     -- it depends only on what is under the node
     go-frame : (f g : ℕ → A → A → A) (k i : ℕ) → ((j : ℕ) → Under i j → f j ≡ g j) → go f k i ≡ go g k i

@@ -3,3 +3,12 @@ pub mod Capped
 pub mod Formulas
 pub mod Counts
 pub mod Places
+pub mod Grids
+pub mod Sought
+-- Laws.
+pub mod CappedLaws
+pub mod SumsLaws
+pub mod CountsLaws
+pub mod PlacesLaws
+pub mod SeekLaws
+pub mod StepLaws

@@ -12,7 +12,9 @@ pub const MOST: u64 = 4294967295;
 
 // Closings as small numbers, in the order of 01: done, withdrawn, failed.
 pub const DONE: u8 = 0;
+
 pub const WITHDRAWN: u8 = 1;
+
 pub const FAILED: u8 = 2;
 
 // JOIN[3 * x + y]: how two parallel sides end that end by x and y.
@@ -77,7 +79,12 @@ pub fn product(a: u32, b: u32) -> u32
 fn view_of(moves: u32, done: bool, withdraws: bool, fails: bool) -> View
     ensures { λ r. ⌜ r ≡ viewed moves done withdraws fails ⌝ }
 {
-    View { moves, done, withdraws, fails }
+    View {
+        moves,
+        done,
+        withdraws,
+        fails,
+    }
 }
 
 // Views -------------------------------------------------------------------------------------------------------------
@@ -103,20 +110,34 @@ pub fn yield_view() -> View
 pub fn event_view(taken: bool) -> View
     ensures { λ r. ⌜ r ≡ evV taken ⌝ }
 {
-    if taken { view_of(1, false, false, false) } else { view_of(0, false, false, false) }
+    if taken {
+        view_of(1, false, false, false)
+    } else {
+        view_of(0, false, false, false)
+    }
 }
 
 pub fn choice_view(p: View, q: View) -> View
     ensures { λ r. ⌜ r ≡ altV p q ⌝ }
 {
-    view_of(sum(p.moves, q.moves), p.done | q.done, p.withdraws | q.withdraws, p.fails | q.fails)
+    view_of(
+        sum(p.moves, q.moves),
+        p.done | q.done,
+        p.withdraws | q.withdraws,
+        p.fails | q.fails,
+    )
 }
 
 pub fn sequence_view(p: View, q: View) -> View
     ensures { λ r. ⌜ r ≡ seqV p q ⌝ }
 {
     if p.done {
-        view_of(sum(p.moves, q.moves), q.done, p.withdraws | q.withdraws, p.fails | q.fails)
+        view_of(
+            sum(p.moves, q.moves),
+            q.done,
+            p.withdraws | q.withdraws,
+            p.fails | q.fails,
+        )
     } else {
         p
     }
@@ -126,7 +147,12 @@ pub fn handler_view(p: View, q: View) -> View
     ensures { λ r. ⌜ r ≡ hndV p q ⌝ }
 {
     if p.fails {
-        view_of(sum(p.moves, q.moves), p.done | q.done, p.withdraws | q.withdraws, q.fails)
+        view_of(
+            sum(p.moves, q.moves),
+            p.done | q.done,
+            p.withdraws | q.withdraws,
+            q.fails,
+        )
     } else {
         p
     }
@@ -160,7 +186,13 @@ pub fn parallel_view(p: View, q: View) -> View
 fn tally_of(many: u32, able: u32, moves: u32, withdraws: bool, fails: bool) -> Tally
     ensures { λ r. ⌜ r ≡ tallied many able moves withdraws fails ⌝ }
 {
-    Tally { many, able, moves, withdraws, fails }
+    Tally {
+        many,
+        able,
+        moves,
+        withdraws,
+        fails,
+    }
 }
 
 pub fn no_tally() -> Tally
@@ -177,6 +209,13 @@ pub fn one_tally(v: View) -> Tally
     } else {
         tally_of(1, 0, v.moves, v.withdraws, v.fails)
     }
+}
+
+// Of SKIP alone, the compensation of a part that has nothing to undo.
+fn skip_tally() -> Tally
+    ensures { λ r. ⌜ r ≡ oneT skipV ⌝ }
+{
+    tally_of(1, 1, 0, false, false)
 }
 
 pub fn tally_when(b: bool, t: Tally) -> Tally
@@ -250,7 +289,12 @@ pub fn parallel_tally(x: Tally, y: Tally) -> Tally
 fn word_of(moves: u32, done: Tally, withdrawn: Tally, failed: Tally) -> Word
     ensures { λ r. ⌜ r ≡ worded moves done withdrawn failed ⌝ }
 {
-    Word { moves, done, withdrawn, failed }
+    Word {
+        moves,
+        done,
+        withdrawn,
+        failed,
+    }
 }
 
 pub fn tally_by(x: Word, w: u8) -> Tally
@@ -270,14 +314,24 @@ pub fn block_view(x: Word) -> View
 {
     let d = x.done;
     let f = x.failed;
-    view_of(sum(x.moves, f.moves), (d.many != 0) | (f.able != 0), f.withdraws, f.fails)
+    view_of(
+        sum(x.moves, f.moves),
+        (d.many != 0) | (f.able != 0),
+        f.withdraws,
+        f.fails,
+    )
 }
 
 pub fn pair_word(p: View, q: View) -> Word
     ensures { λ r. ⌜ r ≡ pairW p q ⌝ }
 {
-    let skips = one_tally(skip_view());
-    word_of(p.moves, tally_when(p.done, one_tally(q)), tally_when(p.withdraws, skips), tally_when(p.fails, skips))
+    let skips = skip_tally();
+    word_of(
+        p.moves,
+        tally_when(p.done, one_tally(q)),
+        tally_when(p.withdraws, skips),
+        tally_when(p.fails, skips),
+    )
 }
 
 // PP;QQ whose first part runs.
@@ -287,7 +341,12 @@ pub fn sequence_word(x: Word, y: Word) -> Word
     let k = x.done;
     let w = plus(x.withdrawn, sequence_tally(y.withdrawn, k));
     let f = plus(x.failed, sequence_tally(y.failed, k));
-    word_of(sum(x.moves, product(k.many, y.moves)), sequence_tally(y.done, k), w, f)
+    word_of(
+        sum(x.moves, product(k.many, y.moves)),
+        sequence_tally(y.done, k),
+        w,
+        f,
+    )
 }
 
 // PP;QQ whose first part has become the compensation seen as r.
@@ -295,21 +354,37 @@ pub fn held_word(y: Word, r: View) -> Word
     ensures { λ z. ⌜ z ≡ heldW y r ⌝ }
 {
     let k = one_tally(r);
-    word_of(y.moves, sequence_tally(y.done, k), sequence_tally(y.withdrawn, k), sequence_tally(y.failed, k))
+    word_of(
+        y.moves,
+        sequence_tally(y.done, k),
+        sequence_tally(y.withdrawn, k),
+        sequence_tally(y.failed, k),
+    )
 }
 
 pub fn choice_word(x: Word, y: Word) -> Word
     ensures { λ r. ⌜ r ≡ caltW x y ⌝ }
 {
-    word_of(sum(x.moves, y.moves), plus(x.done, y.done), plus(x.withdrawn, y.withdrawn), plus(x.failed, y.failed))
+    word_of(
+        sum(x.moves, y.moves),
+        plus(x.done, y.done),
+        plus(x.withdrawn, y.withdrawn),
+        plus(x.failed, y.failed),
+    )
 }
 
 pub fn parallel_word(x: Word, y: Word) -> Word
     ensures { λ r. ⌜ r ≡ cparW x y ⌝ }
 {
     let n = plus(y.done, y.withdrawn);
-    let w = plus(parallel_tally(x.done, y.withdrawn), parallel_tally(x.withdrawn, n));
-    let e = plus(parallel_tally(x.done, y.failed), parallel_tally(x.withdrawn, y.failed));
+    let w = plus(
+        parallel_tally(x.done, y.withdrawn),
+        parallel_tally(x.withdrawn, n),
+    );
+    let e = plus(
+        parallel_tally(x.done, y.failed),
+        parallel_tally(x.withdrawn, y.failed),
+    );
     let f = plus(e, parallel_tally(x.failed, plus(n, y.failed)));
     word_of(sum(x.moves, y.moves), parallel_tally(x.done, y.done), w, f)
 }
@@ -317,19 +392,19 @@ pub fn parallel_word(x: Word, y: Word) -> Word
 pub fn skipp_word() -> Word
     ensures { λ r. ⌜ r ≡ skippW ⌝ }
 {
-    word_of(0, one_tally(skip_view()), no_tally(), no_tally())
+    word_of(0, skip_tally(), no_tally(), no_tally())
 }
 
 pub fn throww_word() -> Word
     ensures { λ r. ⌜ r ≡ throwwW ⌝ }
 {
-    word_of(0, no_tally(), no_tally(), one_tally(skip_view()))
+    word_of(0, no_tally(), no_tally(), skip_tally())
 }
 
 pub fn yieldd_word() -> Word
     ensures { λ r. ⌜ r ≡ yielddW ⌝ }
 {
-    word_of(0, one_tally(skip_view()), one_tally(skip_view()), no_tally())
+    word_of(0, skip_tally(), skip_tally(), no_tally())
 }
 
 // Weights -----------------------------------------------------------------------------------------------------------
@@ -344,14 +419,21 @@ fn weight_of(own: u32, moves: u32, able: u32) -> Weight
 pub fn weight_total(t: Tally, g: Weight) -> u32
     ensures { λ r. ⌜ r ≡ total t g ⌝ }
 {
-    sum(sum(product(g.own, t.many), product(g.moves, t.moves)), product(g.able, t.able))
+    sum(
+        sum(product(g.own, t.many), product(g.moves, t.moves)),
+        product(g.able, t.able),
+    )
 }
 
 // What k weighs with all l;k, l of t.
 pub fn weight_after(t: Tally, g: Weight) -> Weight
     ensures { λ r. ⌜ r ≡ afterG t g ⌝ }
 {
-    weight_of(sum(product(g.own, t.many), product(g.moves, t.moves)), product(g.moves, t.able), product(g.able, t.able))
+    weight_of(
+        sum(product(g.own, t.many), product(g.moves, t.moves)),
+        product(g.moves, t.able),
+        product(g.able, t.able),
+    )
 }
 
 fn if_able(b: bool, n: u32) -> u32
@@ -364,21 +446,33 @@ fn if_able(b: bool, n: u32) -> u32
 pub fn weight_inside(g: Weight, moves: u32, able: bool) -> Weight
     ensures { λ r. ⌜ r ≡ insideG g moves able ⌝ }
 {
-    weight_of(g.own, g.moves, sum(product(g.moves, moves), if_able(able, g.able)))
+    weight_of(
+        g.own,
+        g.moves,
+        sum(product(g.moves, moves), if_able(able, g.able)),
+    )
 }
 
 // What p weighs with all q beside it, q of t.
 pub fn weight_beside(t: Tally, g: Weight) -> Weight
     ensures { λ r. ⌜ r ≡ besideG t g ⌝ }
 {
-    weight_of(sum(product(g.own, t.many), product(g.moves, t.moves)), product(g.moves, t.many), product(g.able, t.able))
+    weight_of(
+        sum(product(g.own, t.many), product(g.moves, t.moves)),
+        product(g.moves, t.many),
+        product(g.able, t.able),
+    )
 }
 
 // What q weighs beside p, where p has so many steps, and can end done or not.
 pub fn weight_within(g: Weight, moves: u32, able: bool) -> Weight
     ensures { λ r. ⌜ r ≡ withinG g moves able ⌝ }
 {
-    weight_of(sum(g.own, product(g.moves, moves)), g.moves, if_able(able, g.able))
+    weight_of(
+        sum(g.own, product(g.moves, moves)),
+        g.moves,
+        if_able(able, g.able),
+    )
 }
 
 // How two parallel sides end that end by x and y.
@@ -409,5 +503,8 @@ pub fn partners(q: Word, u: u8, x: u8) -> Tally
     requires { ⌜ (u < 3) × (x < 3) ⌝ }
     ensures { λ r. ⌜ r ≡ partnersT q (closing u) (closing x) ⌝ }
 {
-    plus(plus(fitting(q, u, x, DONE), fitting(q, u, x, WITHDRAWN)), fitting(q, u, x, FAILED))
+    plus(
+        plus(fitting(q, u, x, DONE), fitting(q, u, x, WITHDRAWN)),
+        fitting(q, u, x, FAILED),
+    )
 }

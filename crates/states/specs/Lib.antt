@@ -1,0 +1,7 @@
+-- Definitions.
+pub mod State
+pub mod Stored
+pub mod Contracts
+-- Theorems.
+pub mod StateLaws
+pub mod KindFacts

@@ -1,0 +1,3 @@
+pub mod Closings
+pub mod Products
+pub mod Words

@@ -1,0 +1,15 @@
+-- `tallies::sequence_view` meets its contract: each arm rewrites with the test that led there. Assumes nothing.
+use Rattle.tallies.specs.Formulas.{seqV}
+use Rattle.tallies.proofs.sequence_view.Statement.{statement}
+use Rattle.tallies.proofs.sequence_view.Tie as tie
+
+returns : tie.Need-returns
+unfolding seqV
+returns c = simp (c .before .before .before .before .before .before .if1 .taken) (cc)
+
+returns-2 : tie.Need-returns-2
+unfolding seqV
+returns-2 c = simp (c .if1 .left)
+
+pub sequence-view-spec : {M : Type 1} → statement M
+sequence-view-spec = tie.close (tie.spec (λ _ _. tt) (λ _ _. tt) returns returns-2)

@@ -1,0 +1,11 @@
+-- `tallies::weight_total` meets its contract: by what its callees ensure. Assumes nothing.
+use Rattle.tallies.specs.Formulas.{total}
+use Rattle.tallies.proofs.weight_total.Statement.{statement}
+use Rattle.tallies.proofs.weight_total.Tie as tie
+
+returns : tie.Need-returns
+unfolding total
+returns c = cc
+
+pub weight-total-spec : {M : Type 1} → statement M
+weight-total-spec = tie.close (tie.spec (λ _ _. tt) (λ _ _. tt) (λ _ _. tt) (λ _ _. tt) (λ _ _. tt) returns)

@@ -1,0 +1,262 @@
+-- Where the steps of a part stand among the steps of the whole, for each way of putting parts together; and that an index
+-- that is left over for a part lies among that part's steps. An index is compared with counts that stop at the greatest
+-- number. a is the event of the next record. Theorems only. Assumes nothing.
+use Prim.Native.Nat.{ℕ, _-_, _≤_, _<_}
+use native.Mathlib.Omega.{arith}
+use mathlib.Core.Path.{_≡_, refl, _∙_, ap}
+use mathlib.Core.Bool.{Bool, true, false}
+use mathlib.Core.List.{List, [], _∷_, _++_, map}
+use lib.Dec.{T}
+use lib.ListN.{length, length-append, length-map}
+use Rattle.calculus.specs.Term.{done, failed, Leaf, Std, Cmp, skip, throw, yield, ev, seq, alt, par, hnd, blk, pair, cseq, calt, cpar, held}
+use Rattle.calculus.specs.Successors.{only, each, ends, steps, comps, csteps}
+use Rattle.calculus.specs.Equations.{steps-skip, steps-throw, steps-yield, steps-ev, steps-seq, steps-hnd, steps-alt, steps-par, steps-blk, csteps-pair, csteps-cseq, csteps-calt, csteps-cpar, csteps-held}
+use Rattle.tallies.specs.Capped.{cap}
+use Rattle.tallies.specs.Formulas.{movesG, holdG}
+use Rattle.tallies.specs.Counts.{sum-of, moves, weight}
+use Rattle.tallies.specs.SumsLaws.{length-each}
+use Rattle.tallies.specs.Places.{At, Finds}
+use Rattle.tallies.specs.PlacesLaws.{at-is, at-left, at-after, at-map, at-only, at-each, finds-rest, finds-rest-le, finds-same, finds-cap, sum-cap}
+
+-- Two lists, one after the other ----------------------------------------------------------------------------------------
+
+-- w is l, of n elements, and then m
+record Joined {A : Type 0} (w l m : List A) (n : ℕ) : Type 0 where
+  whole : w ≡ l ++ m
+  many : length l ≡ n
+
+module _ {A : Type 0} {w l m : List A} {n : ℕ} (s : Joined w l m n) where
+  at-first : {k : ℕ} {x : A} → At l k x → At w k x
+  at-first p = rw (s .whole) (at-left m p)
+
+  module _ {c k : ℕ} (e : c ≡ cap n) (h : k < cap (length w)) (g : c ≤ k) where
+    -- what is left of an index that lies beyond the first list lies in the second
+    room : k - c < cap (length m)
+    room = let z = ap length (s .whole) ∙ length-append l m in omega arith
+
+    at-second : {x : A} → At m (k - c) x → At w k x
+    at-second p =
+        let z : length l ≡ c = omega (arith, s .many) in
+        rw (s .whole) (at-after l (omega arith) (at-is (omega arith) p))
+
+module _ {A : Type 0} (b : Bool) (l : List A) {k : ℕ} where
+  only-holds : k < cap (length (only b l)) → T b
+  unfolding only
+  only-holds = elim b [ true ↦ λ h. tt | false ↦ λ h. omega arith ]
+
+  only-room : k < cap (length (only b l)) → k < cap (length l)
+  unfolding only
+  only-room = elim b [ true ↦ λ h. h | false ↦ λ h. omega arith ]
+
+-- Standard parts --------------------------------------------------------------------------------------------------------
+
+-- an event leaf that takes the record
+pub at-ev : (l : Leaf) (a : ℕ) {k : ℕ} → k < cap (moves a (ev l)) → At (steps (ev l) a) k skip
+unfolding moves only
+at-ev l a {k} h =
+    let go : (b : Bool) → k < cap (length (only b (skip ∷ []))) → At (only b (skip ∷ [])) k skip = elim [ true ↦ λ z. at-is (omega arith) At.here | false ↦ λ z. let f : ⊥ = omega arith in absurd f ] in
+    rw steps-ev (go (l .takes a) (rw steps-ev at h))
+
+-- the leaves without steps
+module _ (a : ℕ) {k : ℕ} where
+  pub no-skip-step : k < cap (moves a skip) → ⊥
+  unfolding moves
+  no-skip-step h = let z = ap length (steps-skip a) in omega arith
+
+  pub no-throw-step : k < cap (moves a throw) → ⊥
+  unfolding moves
+  no-throw-step h = let z = ap length (steps-throw a) in omega arith
+
+  pub no-yield-step : k < cap (moves a yield) → ⊥
+  unfolding moves
+  no-yield-step h = let z = ap length (steps-yield a) in omega arith
+
+module _ (a : ℕ) (p q : Std) where
+  seq-joined : Joined (steps (seq p q) a) (map (λ r. seq r q) (steps p a)) (only (ends p done) (steps q a)) (moves a p)
+  unfolding moves
+  seq-joined = record { whole = steps-seq p q a; many = length-map (steps p a) (λ r. seq r q) }
+
+  hnd-joined : Joined (steps (hnd p q) a) (map (λ r. hnd r q) (steps p a)) (only (ends p failed) (steps q a)) (moves a p)
+  unfolding moves
+  hnd-joined = record { whole = steps-hnd p q a; many = length-map (steps p a) (λ r. hnd r q) }
+
+  alt-joined : Joined (steps (alt p q) a) (steps p a) (steps q a) (moves a p)
+  unfolding moves
+  alt-joined = record { whole = steps-alt p q a; many = refl }
+
+  par-joined : Joined (steps (par p q) a) (map (λ r. par r q) (steps p a)) (map (λ r. par p r) (steps q a)) (moves a p)
+  unfolding moves
+  par-joined = record { whole = steps-par p q a; many = length-map (steps p a) (λ r. par r q) }
+
+  pub at-seq-first : {k : ℕ} {p′ : Std} → At (steps p a) k p′ → At (steps (seq p q) a) k (seq p′ q)
+  at-seq-first u = at-first seq-joined (at-map (λ r. seq r q) u)
+
+  pub at-hnd-first : {k : ℕ} {p′ : Std} → At (steps p a) k p′ → At (steps (hnd p q) a) k (hnd p′ q)
+  at-hnd-first u = at-first hnd-joined (at-map (λ r. hnd r q) u)
+
+  pub at-alt-first : {k : ℕ} {p′ : Std} → At (steps p a) k p′ → At (steps (alt p q) a) k p′
+  at-alt-first u = at-first alt-joined u
+
+  pub at-par-first : {k : ℕ} {p′ : Std} → At (steps p a) k p′ → At (steps (par p q) a) k (par p′ q)
+  at-par-first u = at-first par-joined (at-map (λ r. par r q) u)
+
+  -- an index beyond the first part's steps: the first part can end done, and the rest lies among the second's
+  module _ {c k : ℕ} (e : c ≡ cap (moves a p)) (h : k < cap (moves a (seq p q))) (g : c ≤ k) where
+    seq-rest : k - c < cap (length (only (ends p done) (steps q a)))
+    unfolding moves
+    seq-rest = room seq-joined e h g
+
+    pub seq-goes-on : T (ends p done)
+    seq-goes-on = only-holds (ends p done) (steps q a) seq-rest
+
+    pub seq-room : k - c < cap (moves a q)
+    unfolding moves
+    seq-room = only-room (ends p done) (steps q a) seq-rest
+
+    pub at-seq-second : {q′ : Std} → At (steps q a) (k - c) q′ → At (steps (seq p q) a) k q′
+    unfolding moves
+    at-seq-second u = at-second seq-joined e h g (at-only (ends p done) seq-goes-on u)
+
+  -- the same of a handler, whose first part can fail
+  module _ {c k : ℕ} (e : c ≡ cap (moves a p)) (h : k < cap (moves a (hnd p q))) (g : c ≤ k) where
+    hnd-rest : k - c < cap (length (only (ends p failed) (steps q a)))
+    unfolding moves
+    hnd-rest = room hnd-joined e h g
+
+    pub hnd-goes-on : T (ends p failed)
+    hnd-goes-on = only-holds (ends p failed) (steps q a) hnd-rest
+
+    pub hnd-room : k - c < cap (moves a q)
+    unfolding moves
+    hnd-room = only-room (ends p failed) (steps q a) hnd-rest
+
+    pub at-hnd-second : {q′ : Std} → At (steps q a) (k - c) q′ → At (steps (hnd p q) a) k q′
+    unfolding moves
+    at-hnd-second u = at-second hnd-joined e h g (at-only (ends p failed) hnd-goes-on u)
+
+  module _ {c k : ℕ} (e : c ≡ cap (moves a p)) (h : k < cap (moves a (alt p q))) (g : c ≤ k) where
+    pub alt-room : k - c < cap (moves a q)
+    unfolding moves
+    alt-room = room alt-joined e h g
+
+    pub at-alt-second : {q′ : Std} → At (steps q a) (k - c) q′ → At (steps (alt p q) a) k q′
+    unfolding moves
+    at-alt-second u = at-second alt-joined e h g u
+
+  module _ {c k : ℕ} (e : c ≡ cap (moves a p)) (h : k < cap (moves a (par p q))) (g : c ≤ k) where
+    pub par-room : k - c < cap (moves a q)
+    unfolding moves
+    par-room = rw (length-map (steps q a) (λ r. par p r)) at (room par-joined e h g)
+
+    pub at-par-second : {q′ : Std} → At (steps q a) (k - c) q′ → At (steps (par p q) a) k (par p q′)
+    unfolding moves
+    at-par-second u = at-second par-joined e h g (at-map (λ r. par p r) u)
+
+-- Blocks ----------------------------------------------------------------------------------------------------------------
+
+module _ (a : ℕ) where
+  moves-weight : (k : Std) → weight a movesG k ≡ length (steps k a)
+  unfolding weight moves
+  moves-weight k = omega arith
+
+  -- each compensation weighs its steps
+  pub moves-found : {l : List Std} {j : ℕ} {k : Std} {r : ℕ} → Finds (weight a movesG) l j k r → Finds (moves a) l j k r
+  unfolding moves
+  moves-found f = finds-same _ _ moves-weight f
+
+  hold-weight : (n : ℕ) (k : Std) → weight a (holdG n) k ≡ n
+  unfolding weight
+  hold-weight n k = omega arith
+
+module _ (a : ℕ) (pp : Cmp) where
+  blk-joined : Joined (steps (blk pp) a) (map blk (csteps pp a)) (each (comps pp failed) (λ k. steps k a)) (length (csteps pp a))
+  blk-joined = record { whole = steps-blk pp a; many = length-map (csteps pp a) blk }
+
+  pub at-blk-first : {k : ℕ} {pp′ : Cmp} → At (csteps pp a) k pp′ → At (steps (blk pp) a) k (blk pp′)
+  at-blk-first u = at-first blk-joined (at-map blk u)
+
+  -- out of the block by a compensation
+  module _ {c k : ℕ} (e : c ≡ cap (length (csteps pp a))) (h : k < cap (moves a (blk pp))) (g : c ≤ k) where
+    pub blk-room : k - c < cap (sum-of (weight a movesG) (comps pp failed))
+    unfolding moves
+    blk-room =
+        let z = length-each (λ k. steps k a) (comps pp failed) in
+        let y = sum-cap (weight a movesG) (λ k. length (steps k a)) (λ k. ap cap (moves-weight a k)) (comps pp failed) in
+        let x = room blk-joined e h g in omega arith
+
+    -- what is left within the compensation lies among its steps
+    pub blk-rest : {r : Std} {s : ℕ} → Finds (weight a movesG) (comps pp failed) (k - c) r s → s < cap (moves a r)
+    unfolding moves
+    blk-rest {r} f = let z = moves-weight a r in let y = finds-rest f in let x = finds-rest-le f in omega arith
+
+    pub at-blk-second : {r : Std} {s : ℕ} {r′ : Std} → Finds (weight a movesG) (comps pp failed) (k - c) r s → At (steps r a) s r′ → At (steps (blk pp) a) k r′
+    unfolding moves
+    at-blk-second f u = at-second blk-joined e h g (at-each (λ k. steps k a) (finds-same _ _ (moves-weight a) f) u)
+
+-- Compensable parts -----------------------------------------------------------------------------------------------------
+
+module _ (a : ℕ) where
+  pub at-pair : (p q : Std) {k : ℕ} {p′ : Std} → At (steps p a) k p′ → At (csteps (pair p q) a) k (pair p′ q)
+  at-pair p q u = rw csteps-pair (at-map (λ r. pair r q) u)
+
+  pub pair-room : (p q : Std) {k : ℕ} → k < cap (length (csteps (pair p q) a)) → k < cap (moves a p)
+  unfolding moves
+  pair-room p q h = let z = ap length (csteps-pair p q a) ∙ length-map (steps p a) (λ r. pair r q) in omega arith
+
+  pub at-held : (qq : Cmp) (r : Std) {k : ℕ} {qq′ : Cmp} → At (csteps qq a) k qq′ → At (csteps (held qq r) a) k (held qq′ r)
+  at-held qq r u = rw csteps-held (at-map (λ y. held y r) u)
+
+  pub held-room : (qq : Cmp) (r : Std) {k : ℕ} → k < cap (length (csteps (held qq r) a)) → k < cap (length (csteps qq a))
+  held-room qq r h = let z = ap length (csteps-held qq r a) ∙ length-map (csteps qq a) (λ y. held y r) in omega arith
+
+module _ (a : ℕ) (pp qq : Cmp) where
+  cseq-joined : Joined (csteps (cseq pp qq) a) (map (λ r. cseq r qq) (csteps pp a)) (each (comps pp done) (λ k. map (λ r. held r k) (csteps qq a))) (length (csteps pp a))
+  cseq-joined = record { whole = csteps-cseq pp qq a; many = length-map (csteps pp a) (λ r. cseq r qq) }
+
+  calt-joined : Joined (csteps (calt pp qq) a) (csteps pp a) (csteps qq a) (length (csteps pp a))
+  calt-joined = record { whole = csteps-calt pp qq a; many = refl }
+
+  cpar-joined : Joined (csteps (cpar pp qq) a) (map (λ r. cpar r qq) (csteps pp a)) (map (λ r. cpar pp r) (csteps qq a)) (length (csteps pp a))
+  cpar-joined = record { whole = csteps-cpar pp qq a; many = length-map (csteps pp a) (λ r. cpar r qq) }
+
+  pub at-cseq-first : {k : ℕ} {pp′ : Cmp} → At (csteps pp a) k pp′ → At (csteps (cseq pp qq) a) k (cseq pp′ qq)
+  at-cseq-first u = at-first cseq-joined (at-map (λ r. cseq r qq) u)
+
+  pub at-calt-first : {k : ℕ} {pp′ : Cmp} → At (csteps pp a) k pp′ → At (csteps (calt pp qq) a) k pp′
+  at-calt-first u = at-first calt-joined u
+
+  pub at-cpar-first : {k : ℕ} {pp′ : Cmp} → At (csteps pp a) k pp′ → At (csteps (cpar pp qq) a) k (cpar pp′ qq)
+  at-cpar-first u = at-first cpar-joined (at-map (λ r. cpar r qq) u)
+
+  -- PP;QQ goes on: PP has become a compensation r, which is held while QQ takes a step
+  module _ {c k n : ℕ} (e : c ≡ cap (length (csteps pp a))) (h : k < cap (length (csteps (cseq pp qq) a))) (g : c ≤ k) (d : n ≡ cap (length (csteps qq a))) where
+    held-weight : (r : Std) → cap (weight a (holdG n) r) ≡ cap (length (map (λ y. held y r) (csteps qq a)))
+    held-weight r = let z = hold-weight a n r in let y = length-map (csteps qq a) (λ y. held y r) in omega arith
+
+    pub cseq-room : k - c < cap (sum-of (weight a (holdG n)) (comps pp done))
+    cseq-room =
+        let z = length-each (λ r. map (λ y. held y r) (csteps qq a)) (comps pp done) in
+        let y = sum-cap (weight a (holdG n)) (λ r. length (map (λ y. held y r) (csteps qq a))) held-weight (comps pp done) in
+        let x = room cseq-joined e h g in omega arith
+
+    -- what is left within r lies among QQ's steps
+    pub cseq-rest : {r : Std} {s : ℕ} → Finds (weight a (holdG n)) (comps pp done) (k - c) r s → s < cap (length (csteps qq a))
+    cseq-rest {r} f = let z = hold-weight a n r in let y = finds-rest f in omega arith
+
+    pub at-cseq-second : {r : Std} {s : ℕ} {qq′ : Cmp} → Finds (weight a (holdG n)) (comps pp done) (k - c) r s → At (csteps qq a) s qq′ → At (csteps (cseq pp qq) a) k (held qq′ r)
+    at-cseq-second {r} f u =
+        at-second cseq-joined e h g (at-each (λ r. map (λ y. held y r) (csteps qq a)) (finds-cap _ _ held-weight (omega arith) f) (at-map (λ y. held y r) u))
+
+  module _ {c k : ℕ} (e : c ≡ cap (length (csteps pp a))) (h : k < cap (length (csteps (calt pp qq) a))) (g : c ≤ k) where
+    pub calt-room : k - c < cap (length (csteps qq a))
+    calt-room = room calt-joined e h g
+
+    pub at-calt-second : {qq′ : Cmp} → At (csteps qq a) (k - c) qq′ → At (csteps (calt pp qq) a) k qq′
+    at-calt-second u = at-second calt-joined e h g u
+
+  module _ {c k : ℕ} (e : c ≡ cap (length (csteps pp a))) (h : k < cap (length (csteps (cpar pp qq) a))) (g : c ≤ k) where
+    pub cpar-room : k - c < cap (length (csteps qq a))
+    cpar-room = rw (length-map (csteps qq a) (λ r. cpar pp r)) at (room cpar-joined e h g)
+
+    pub at-cpar-second : {qq′ : Cmp} → At (csteps qq a) (k - c) qq′ → At (csteps (cpar pp qq) a) k (cpar pp qq′)
+    at-cpar-second u = at-second cpar-joined e h g (at-map (λ r. cpar pp r) u)
