@@ -1,2 +1,6 @@
+-- Definitions, in the order a reader needs them.
 pub mod Nodes
 pub mod Kinds
+pub mod Records
+pub mod Refusals
+pub mod Draws
