@@ -3,4 +3,5 @@ pub mod Nodes
 pub mod Kinds
 pub mod Records
 pub mod Refusals
+pub mod Forms
 pub mod Draws
