@@ -1,3 +1,7 @@
+use Prim.Native.Nat.{ℕ}
+use mathlib.Core.Path.{_∙_, ap}
+use Rattle.flow.specs.Kinds.{kindOf}
+use Rattle.flow.specs.Forms.{form}
 use borrow.Author.Needs.{needs}
 use Rattle.flow.proofs.form_at.Statement.{statement}
 use Rattle.flow.proofs.form_at.Tie as tie
@@ -16,7 +20,7 @@ form-of-requires c κs = search needs
 
 -- src/lib.rt:131:1
 returns : tie.Need-returns
-returns c = ?
+returns c = c .form-of .ensures ∙ ap (λ (k : ℕ). form (kindOf k)) (c .before .kind-at .ensures)
 
 pub form-at-spec : {M : Type 1} → statement M
 form-at-spec = tie.close (tie.spec kind-at-requires form-of-requires returns)

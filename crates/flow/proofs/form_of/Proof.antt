@@ -1,43 +1,39 @@
+-- `flow::form_of` meets its contract: each arm by the law on its kinds. Assumes nothing.
+use native.Mathlib.Omega.{arith}
+use mathlib.Core.Path.{_≡_, refl, sym, subst}
+use Prim.Native.Nat.{ℕ}
+use Rattle.flow.specs.Kinds.{kindOf}
+use Rattle.flow.specs.Forms.{form}
+use Rattle.flow.proofs.Arms.{is-leaf, is-two, is-two-inner, is-leaf-inner, is-none-low, is-none-high}
 use Rattle.flow.proofs.form_of.Statement.{statement}
 use Rattle.flow.proofs.form_of.Tie as tie
-use Rattle.flow.proofs.form_of.Reads as reads
-use Rattle.flow.proofs.form_of.Lts as lts
 
--- src/lib.rt:45:1
 returns : tie.Need-returns
-returns c = ?
+returns c = rw (c .match .keys1)
 
--- src/lib.rt:45:1
 returns-2 : tie.Need-returns-2
-returns-2 c = ?
+returns-2 c = rw (c .match .keys2)
 
--- src/lib.rt:45:1
 returns-3 : tie.Need-returns-3
-returns-3 c = ?
+returns-3 c = rw (c .match .keys3)
 
--- src/lib.rt:45:1
 returns-4 : tie.Need-returns-4
-returns-4 c = ?
+returns-4 c = let m = c .before .before .match .rest in is-leaf _ (search arith) (m .0 .0 .1) (search arith)
 
--- src/lib.rt:45:1
 returns-5 : tie.Need-returns-5
-returns-5 c = ?
+returns-5 c = search (is-two, arith)
 
--- src/lib.rt:45:1
 returns-6 : tie.Need-returns-6
-returns-6 c = ?
+returns-6 c = let m = c .before .before .before .before .match .rest in is-two-inner _ (search arith) (m .0 .1) (m .1) (search arith)
 
--- src/lib.rt:45:1
 returns-7 : tie.Need-returns-7
-returns-7 c = ?
+returns-7 c = search (is-leaf-inner, arith)
 
--- src/lib.rt:45:1
 returns-8 : tie.Need-returns-8
-returns-8 c = ?
+returns-8 c = search (is-none-low, arith)
 
--- src/lib.rt:45:1
 returns-9 : tie.Need-returns-9
-returns-9 c = ?
+returns-9 c = search (is-none-high, arith)
 
 pub form-of-spec : {M : Type 1} → statement M
 form-of-spec =

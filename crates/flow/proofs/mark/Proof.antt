@@ -6,11 +6,11 @@ use Rattle.flow.proofs.mark.Lts as lts
 
 -- src/lib.rt:272:9
 element-write-marks : tie.Need-element-write-marks
-element-write-marks c = ?
+element-write-marks c = c .before .pre (rw (c .if1 .taken) tt)
 
 -- src/lib.rt:267:1
 returns : tie.Need-returns
-returns c = ?
+returns c = rw (c .if1 .taken)
 
 -- src/lib.rt:267:1
 returns-2 : tie.Need-returns-2

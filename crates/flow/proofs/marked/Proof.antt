@@ -6,11 +6,11 @@ use Rattle.flow.proofs.marked.Lts as lts
 
 -- src/lib.rt:223:15
 element-copy-out-result : tie.Need-element-copy-out-result
-element-copy-out-result c = ?
+element-copy-out-result c = c .before .pre (rw (c .if1 .taken) tt)
 
 -- src/lib.rt:219:1
 returns : tie.Need-returns
-returns c = ?
+returns c = rw (c .before .if1 .taken)
 
 -- src/lib.rt:219:1
 returns-2 : tie.Need-returns-2

@@ -1,3 +1,7 @@
+use mathlib.Core.Path.{ap}
+use mathlib.Core.Bool.{not}
+use Rattle.flow.specs.declared.Form.{Form}
+use Rattle.flow.specs.Refusals.{unknown-kind}
 use borrow.Author.Needs.{needs}
 use Rattle.flow.proofs.unknown_kind.Statement.{statement}
 use Rattle.flow.proofs.unknown_kind.Tie as tie
@@ -11,7 +15,8 @@ form-at-requires c κs = search needs
 
 -- src/lib.rt:161:1
 returns : tie.Need-returns
-returns c = ?
+unfolding unknown-kind
+returns c = ap (λ (f : Form). not (f .known)) (c .before .form-at .ensures)
 
 pub unknown-kind-spec : {M : Type 1} → statement M
 unknown-kind-spec = tie.close (tie.spec form-at-requires returns)
