@@ -4,7 +4,7 @@ use Prim.Native.Nat.{ℕ, _<_}
 use mathlib.Core.Path.{_≡_}
 use mathlib.Core.Bool.{Bool, false}
 use mathlib.Core.List.{List}
-use lib.ListN.{getD}
+use lib.ListN.{length, getD}
 use Rattle.flow.specs.declared.Form.{Form}
 use Rattle.flow.specs.Kinds.{Kind, kids, is-known, is-event, is-standard, of-standard}
 use Rattle.flow.specs.Refusals.{taken}
@@ -14,4 +14,5 @@ form k = record { known = is-known k; standard = is-standard k; event = is-event
 
 -- the marks say which nodes are children of a node below i
 pub record Marks (ns : List ℕ) (i : ℕ) (marks : List Bool) : Type 0 where
+  pub size : length marks ≡ 64
   pub each : (c : ℕ) → c < 64 → getD marks c false ≡ taken ns i c

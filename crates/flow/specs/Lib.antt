@@ -5,3 +5,6 @@ pub mod Records
 pub mod Refusals
 pub mod Forms
 pub mod Draws
+-- Theorems.
+pub mod Tests
+pub mod Children

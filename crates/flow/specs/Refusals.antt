@@ -4,7 +4,7 @@
 -- Definitions only: FirstRefusal proves "exactly when", FineTable what is known of a table that is not refused. 14 belongs to
 -- whoever is lent room. Assumes nothing.
 use Prim.Native.Nat.{ℕ, zero, suc, _-_, _/_, _%_}
-use mathlib.Core.Bool.{Bool, true, false, not, _&&_, _||_, cond}
+use mathlib.Core.Bool.{Bool, true, false, not, xor, _&&_, _||_, cond}
 use mathlib.Core.List.{List, [], _∷_, _++_}
 use lib.Dec.{eqb, leb, ltb}
 use lib.ListN.{length, getD}
@@ -51,17 +51,12 @@ module _ (ns : List ℕ) (i : ℕ) where
   unfoldable pub wrong-field : Bool
   wrong-field =
       (is-event (kind ns i) && not (is-event-number (one-of ns i)))
-      || ((not (is-event (kind ns i)) && (not has-one && not (eqb (one-of ns i) 0)))
+      || ((not (is-event (kind ns i)) && (eqb (kids (kind ns i)) 0 && not (eqb (one-of ns i) 0)))
       || (not has-two && not (eqb (two-of ns i) 0)))
 
   -- 6: "child not lower than its parent"
   unfoldable pub not-lower : Bool
   not-lower = (has-one && leb i (one-of ns i)) || (has-two && leb i (two-of ns i))
-
--- whether two sorts differ
-abbrev pub differ : Bool → Bool → Bool
-differ true b = not b
-differ false b = b
 
 -- whether node c is a child of node j
 unfoldable pub is-child : List ℕ → ℕ → ℕ → Bool
@@ -76,7 +71,7 @@ module _ (ns : List ℕ) (i : ℕ) where
   -- 7: "child of the wrong sort"
   unfoldable pub wrong-sort : Bool
   wrong-sort =
-      let wrong : ℕ → Bool = λ c. differ (is-standard (kind ns c)) (of-standard (kind ns i)) in
+      let wrong : ℕ → Bool = λ c. xor (is-standard (kind ns c)) (of-standard (kind ns i)) in
       (has-one ns i && wrong (one-of ns i)) || (has-two ns i && wrong (two-of ns i))
 
   -- 8: "child taken already, or the same child twice"

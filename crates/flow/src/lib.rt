@@ -3,14 +3,14 @@
 // reader wants by themselves are public too. The definitions that the contracts cite are in specs/. Nothing is written here
 // but marks of the function's own, and no lent slice is changed.
 ghost use mathlib.Core.Path.{_≡_};
-ghost use mathlib.Core.Bool.{Bool, true, false, cond, _&&_};
+ghost use mathlib.Core.Bool.{Bool, true, false, cond, xor, _&&_};
 ghost use Prim.Native.Nat.{ℕ, _+_, _*_, _-_, _<_, _≤_};
 ghost use lib.Dec.{T};
 ghost use lib.ListN.{length, getD, set};
 ghost use Rattle.flow.specs.Kinds.{kindOf, kind, one-of, two-of, is-standard};
 ghost use Rattle.flow.specs.Forms.{form, Marks};
 ghost use Rattle.flow.specs.Records.{is-event-number, is-closing-number};
-ghost use Rattle.flow.specs.Refusals.{unknown-kind, wrong-field, not-lower, wrong-sort, child-taken, differ, no-record, closings-wanted, refused, first, node-grounds, child-grounds, each, count, table-check, nodes-check, values-check, closings-check, records-check};
+ghost use Rattle.flow.specs.Refusals.{unknown-kind, wrong-field, not-lower, wrong-sort, child-taken, no-record, closings-wanted, refused, first, node-grounds, child-grounds, each, count, table-check, nodes-check, values-check, closings-check, records-check};
 
 // A refusal of document 01: its number, and the node or record that it names.
 pub struct Refusal {
@@ -193,7 +193,7 @@ fn not_lower(nodes: &[u16], i: usize) -> bool
 // Whether a child, if there is one, is not of the sort asked for.
 fn sort_differs(nodes: &[u16], child: usize, used: bool, standard: bool) -> bool
     requires { ⌜ (T used → 3 * child + 2 < length (now nodes)) ⌝ }
-    ensures { λ r. ⌜ r ≡ used && differ (is-standard (kind (now (nodes .entry)) child)) standard ⌝ }
+    ensures { λ r. ⌜ r ≡ used && xor (is-standard (kind (now (nodes .entry)) child)) standard ⌝ }
 {
     if !used {
         return false;

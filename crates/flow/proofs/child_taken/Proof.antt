@@ -1,3 +1,5 @@
+use native.Mathlib.Omega.{arith}
+use Rattle.flow.specs.Children.{lower-one, lower-two, taken-by-marks}
 use borrow.Author.Needs.{needs}
 use Rattle.flow.proofs.child_taken.Statement.{statement}
 use Rattle.flow.proofs.child_taken.Tie as tie
@@ -30,15 +32,24 @@ cast-second c = search needs
 
 -- src/lib.rt:238:5
 marked-requires : tie.Need-marked-requires
-marked-requires c κs = ?
+marked-requires c κs = λ t.
+    let s = c .before .before .before .before .before .before in
+    let low = lower-one (s .args .nodes .now) (s .args .i) (s .pre .1 .1 .0) (rw (c .before .before .before .before .form-at .ensures) at t) in
+    omega (arith, c .before .before .before .first-at .ensures)
 
 -- src/lib.rt:238:45
 marked-requires-2 : tie.Need-marked-requires-2
-marked-requires-2 c κs = ?
+marked-requires-2 c κs = λ t.
+    let s = c .before .before .before .before .before .before .before in
+    let low = lower-two (s .args .nodes .now) (s .args .i) (s .pre .1 .1 .0) (rw (c .before .before .before .before .before .form-at .ensures) at t) in
+    omega (arith, c .before .before .before .second-at .ensures)
 
 -- src/lib.rt:227:1
 returns : tie.Need-returns
-returns c = ?
+returns c = 
+    let s = c .before .before .before .before .before .before .before .before in
+    rw (c .marked2 .ensures, c .before .marked .ensures, c .before .before .before .before .before .before .form-at .ensures, c .before .before .before .before .before .first-at .ensures, c .before .before .before .before .second-at .ensures)
+    (taken-by-marks (s .args .nodes .now) (s .args .i) (s .args .marks .now) (s .pre .1 .1 .1) (s .pre .1 .0) (s .pre .1 .1 .0))
 
 pub child-taken-spec : {M : Type 1} → statement M
 child-taken-spec =

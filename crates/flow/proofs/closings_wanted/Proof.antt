@@ -1,3 +1,6 @@
+use mathlib.Core.Path.{ap}
+use Rattle.flow.specs.declared.Form.{Form}
+use Rattle.flow.specs.Refusals.{closings-wanted}
 use borrow.Author.Needs.{needs}
 use Rattle.flow.proofs.closings_wanted.Statement.{statement}
 use Rattle.flow.proofs.closings_wanted.Tie as tie
@@ -15,11 +18,13 @@ form-at-requires c κs = search needs
 
 -- src/lib.rt:359:1
 returns : tie.Need-returns
-returns c = ?
+unfolding closings-wanted
+returns c = rw (← (ap (λ (f : Form). f .standard) (c .before .form-at .ensures)), c .if1 .taken)
 
 -- src/lib.rt:359:1
 returns-2 : tie.Need-returns-2
-returns-2 c = ?
+unfolding closings-wanted
+returns-2 c = rw (← (ap (λ (f : Form). f .standard) (c .before .form-at .ensures)), c .if1 .left)
 
 pub closings-wanted-spec : {M : Type 1} → statement M
 closings-wanted-spec = tie.close (tie.spec sub-form-at form-at-requires returns returns-2)

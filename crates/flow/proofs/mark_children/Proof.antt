@@ -1,3 +1,5 @@
+use native.Mathlib.Omega.{arith}
+use Rattle.flow.specs.Children.{lower-one, lower-two, marks-more}
 use borrow.Author.Needs.{needs}
 use Rattle.flow.proofs.mark_children.Statement.{statement}
 use Rattle.flow.proofs.mark_children.Tie as tie
@@ -30,15 +32,25 @@ cast-second c = search needs
 
 -- src/lib.rt:287:5
 mark-requires : tie.Need-mark-requires
-mark-requires c κs = ?
+mark-requires c κs = λ t.
+    let s = c .before .before .before .before .before .before in
+    let low = lower-one (s .args .nodes .now) (s .args .i) (s .pre .1 .1 .0) (rw (c .before .before .before .before .form-at .ensures) at t) in
+    omega (arith, c .before .before .before .first-at .ensures)
 
 -- src/lib.rt:288:5
 mark-requires-2 : tie.Need-mark-requires-2
-mark-requires-2 c κs = ?
+mark-requires-2 c κs = λ t.
+    let s = c .before .before .before .before .before .before .before .before .before in
+    let low = lower-two (s .args .nodes .now) (s .args .i) (s .pre .1 .1 .0) (rw (c .before .before .before .before .before .before .before .form-at .ensures) at t) in
+    omega (arith, c .before .before .before .before .before .second-at .ensures)
 
 -- src/lib.rt:277:1
 returns : tie.Need-returns
-returns c = ?
+returns c = 
+    let s = c .before .before .before .before .before .before .before .before .before .before in
+    marks-more (s .args .nodes .now) (s .args .i) (s .args .marks .now) (s .pre .1 .1 .1) (s .pre .1 .0) (s .pre .1 .1 .0) _ _
+    (rw (← (c .before .before .before .before .before .before .before .before .form-at .ensures), ← (c .before .before .before .before .before .before .before .first-at .ensures)) (c .before .before .before .mark .ensures))
+    (rw (← (c .before .before .before .before .before .before .before .before .form-at .ensures), ← (c .before .before .before .before .before .before .second-at .ensures)) (c .mark2 .ensures))
 
 pub mark-children-spec : {M : Type 1} → statement M
 mark-children-spec =

@@ -1,3 +1,4 @@
+use Rattle.flow.specs.Refusals.{not-lower}
 use borrow.Author.Needs.{needs}
 use Rattle.flow.proofs.not_lower.Statement.{statement}
 use Rattle.flow.proofs.not_lower.Tie as tie
@@ -29,7 +30,8 @@ cast-second c = search needs
 
 -- src/lib.rt:183:1
 returns : tie.Need-returns
-returns c = ?
+unfolding not-lower
+returns c = rw (c .before .before .before .before .form-at .ensures, c .before .before .before .first-at .ensures, c .before .before .second-at .ensures)
 
 pub not-lower-spec : {M : Type 1} → statement M
 not-lower-spec =

@@ -1,3 +1,4 @@
+use Rattle.flow.specs.Refusals.{wrong-field}
 use borrow.Author.Needs.{needs}
 use Rattle.flow.proofs.wrong_field.Statement.{statement}
 use Rattle.flow.proofs.wrong_field.Tie as tie
@@ -26,7 +27,8 @@ is-event-requires c κs = search needs
 
 -- src/lib.rt:170:1
 returns : tie.Need-returns
-returns c = ?
+unfolding wrong-field
+returns c = rw (c .before .before .before .before .is-event .ensures, c .before .before .before .before .before .before .before .form-at .ensures, c .before .before .before .before .before .before .first-at .ensures, c .before .before .before .before .before .second-at .ensures)
 
 pub wrong-field-spec : {M : Type 1} → statement M
 wrong-field-spec =

@@ -1,3 +1,6 @@
+use native.Mathlib.Omega.{arith}
+use Rattle.flow.specs.Children.{lower-one, lower-two}
+use Rattle.flow.specs.Refusals.{wrong-sort}
 use borrow.Author.Needs.{needs}
 use Rattle.flow.proofs.wrong_sort.Statement.{statement}
 use Rattle.flow.proofs.wrong_sort.Tie as tie
@@ -30,15 +33,22 @@ cast-second c = search needs
 
 -- src/lib.rt:214:5
 sort-differs-requires : tie.Need-sort-differs-requires
-sort-differs-requires c κs = ?
+sort-differs-requires c κs = λ t.
+    let s = c .before .before .before .before .before in
+    let low = lower-one (s .args .nodes .now) (s .args .i) (s .pre .1) (rw (c .before .before .before .form-at .ensures) at t) in
+    omega (arith, c .before .before .first-at .ensures)
 
 -- src/lib.rt:215:11
 sort-differs-requires-2 : tie.Need-sort-differs-requires-2
-sort-differs-requires-2 c κs = ?
+sort-differs-requires-2 c κs = λ t.
+    let s = c .before .before .before .before .before .before .before in
+    let low = lower-two (s .args .nodes .now) (s .args .i) (s .pre .1) (rw (c .before .before .before .before .before .form-at .ensures) at t) in
+    omega (arith, c .before .before .before .second-at .ensures)
 
 -- src/lib.rt:206:1
 returns : tie.Need-returns
-returns c = ?
+unfolding wrong-sort
+returns c = rw (c .sort-differs2 .ensures, c .before .before .sort-differs .ensures, c .before .before .before .before .before .before .form-at .ensures, c .before .before .before .before .before .first-at .ensures, c .before .before .before .before .second-at .ensures)
 
 pub wrong-sort-spec : {M : Type 1} → statement M
 wrong-sort-spec =
