@@ -7,4 +7,5 @@ pub mod Forms
 pub mod Draws
 -- Theorems.
 pub mod Tests
+pub mod FirstRefusal
 pub mod Children

@@ -1,3 +1,6 @@
+use mathlib.Core.Path.{_≡_, sym, _∙_}
+use mathlib.Core.Bool.{true, false}
+use Rattle.flow.specs.Refusals.{unknown-kind, wrong-field, not-lower, wrong-sort, child-taken, first, node-grounds, answer, or-else-check}
 use borrow.Author.Needs.{needs}
 use Rattle.flow.proofs.check_node.Statement.{statement}
 use Rattle.flow.proofs.check_node.Tie as tie
@@ -20,7 +23,11 @@ refuse-requires c κs = search needs
 
 -- src/lib.rt:249:9
 returns : tie.Need-returns
-returns c = ?
+unfolding first node-grounds answer or-else-check
+returns c =
+    let s = c .before .before .before .before in
+    let e4 : unknown-kind (s .args .nodes .now) (s .args .i) ≡ true = sym (c .before .before .unknown-kind .ensures) ∙ c .before .if1 .taken in
+    rw (c .refuse .ensures, e4)
 
 -- src/lib.rt:251:8
 wrong-field-requires : tie.Need-wrong-field-requires
@@ -32,7 +39,12 @@ refuse-requires-2 c κs = search needs
 
 -- src/lib.rt:252:9
 returns-2 : tie.Need-returns-2
-returns-2 c = ?
+unfolding first node-grounds answer or-else-check
+returns-2 c =
+    let s = c .before .before .before .before .before .before in
+    let e4 : unknown-kind (s .args .nodes .now) (s .args .i) ≡ false = sym (c .before .before .before .before .unknown-kind .ensures) ∙ c .before .before .before .if1 .left in
+    let e5 : wrong-field (s .args .nodes .now) (s .args .i) ≡ true = sym (c .before .before .wrong-field .ensures) ∙ c .before .if2 .taken in
+    rw (c .refuse2 .ensures, e4, e5)
 
 -- src/lib.rt:254:8
 not-lower-requires : tie.Need-not-lower-requires
@@ -44,11 +56,20 @@ refuse-requires-3 c κs = search needs
 
 -- src/lib.rt:255:9
 returns-3 : tie.Need-returns-3
-returns-3 c = ?
+unfolding first node-grounds answer or-else-check
+returns-3 c =
+    let s = c .before .before .before .before .before .before .before .before in
+    let e4 : unknown-kind (s .args .nodes .now) (s .args .i) ≡ false = sym (c .before .before .before .before .before .before .unknown-kind .ensures) ∙ c .before .before .before .before .before .if1 .left in
+    let e5 : wrong-field (s .args .nodes .now) (s .args .i) ≡ false = sym (c .before .before .before .before .wrong-field .ensures) ∙ c .before .before .before .if2 .left in
+    let e6 : not-lower (s .args .nodes .now) (s .args .i) ≡ true = sym (c .before .before .not-lower .ensures) ∙ c .before .if3 .taken in
+    rw (c .refuse3 .ensures, e4, e5, e6)
 
 -- src/lib.rt:257:8
 wrong-sort-requires : tie.Need-wrong-sort-requires
-wrong-sort-requires c κs = ?
+wrong-sort-requires c κs =
+    let s = c .before .before .before .before .before .before .before in
+    let e6 : not-lower (s .args .nodes .now) (s .args .i) ≡ false = sym (c .before .not-lower .ensures) ∙ c .if3 .left in
+    (s .pre .0, e6)
 
 -- src/lib.rt:258:9
 refuse-requires-4 : tie.Need-refuse-requires-4
@@ -56,11 +77,21 @@ refuse-requires-4 c κs = search needs
 
 -- src/lib.rt:258:9
 returns-4 : tie.Need-returns-4
-returns-4 c = ?
+unfolding first node-grounds answer or-else-check
+returns-4 c =
+    let s = c .before .before .before .before .before .before .before .before .before .before in
+    let e4 : unknown-kind (s .args .nodes .now) (s .args .i) ≡ false = sym (c .before .before .before .before .before .before .before .before .unknown-kind .ensures) ∙ c .before .before .before .before .before .before .before .if1 .left in
+    let e5 : wrong-field (s .args .nodes .now) (s .args .i) ≡ false = sym (c .before .before .before .before .before .before .wrong-field .ensures) ∙ c .before .before .before .before .before .if2 .left in
+    let e6 : not-lower (s .args .nodes .now) (s .args .i) ≡ false = sym (c .before .before .before .before .not-lower .ensures) ∙ c .before .before .before .if3 .left in
+    let e7 : wrong-sort (s .args .nodes .now) (s .args .i) ≡ true = sym (c .before .before .wrong-sort .ensures) ∙ c .before .if4 .taken in
+    rw (c .refuse4 .ensures, e4, e5, e6, e7)
 
 -- src/lib.rt:260:8
 child-taken-requires : tie.Need-child-taken-requires
-child-taken-requires c κs = ?
+child-taken-requires c κs =
+    let s = c .before .before .before .before .before .before .before .before .before in
+    let e6 : not-lower (s .args .nodes .now) (s .args .i) ≡ false = sym (c .before .before .before .not-lower .ensures) ∙ c .before .before .if3 .left in
+    (s .pre .0, (s .pre .1 .0, (e6, s .pre .1 .1)))
 
 -- src/lib.rt:261:9
 refuse-requires-5 : tie.Need-refuse-requires-5
@@ -68,11 +99,27 @@ refuse-requires-5 c κs = search needs
 
 -- src/lib.rt:261:9
 returns-5 : tie.Need-returns-5
-returns-5 c = ?
+unfolding first node-grounds answer or-else-check
+returns-5 c =
+    let s = c .before .before .before .before .before .before .before .before .before .before .before .before in
+    let e4 : unknown-kind (s .args .nodes .now) (s .args .i) ≡ false = sym (c .before .before .before .before .before .before .before .before .before .before .unknown-kind .ensures) ∙ c .before .before .before .before .before .before .before .before .before .if1 .left in
+    let e5 : wrong-field (s .args .nodes .now) (s .args .i) ≡ false = sym (c .before .before .before .before .before .before .before .before .wrong-field .ensures) ∙ c .before .before .before .before .before .before .before .if2 .left in
+    let e6 : not-lower (s .args .nodes .now) (s .args .i) ≡ false = sym (c .before .before .before .before .before .before .not-lower .ensures) ∙ c .before .before .before .before .before .if3 .left in
+    let e7 : wrong-sort (s .args .nodes .now) (s .args .i) ≡ false = sym (c .before .before .before .before .wrong-sort .ensures) ∙ c .before .before .before .if4 .left in
+    let e8 : child-taken (s .args .nodes .now) (s .args .i) ≡ true = sym (c .before .before .child-taken .ensures) ∙ c .before .if5 .taken in
+    rw (c .refuse5 .ensures, e4, e5, e6, e7, e8)
 
 -- src/lib.rt:242:1
 returns-6 : tie.Need-returns-6
-returns-6 c = ?
+unfolding first node-grounds answer or-else-check
+returns-6 c =
+    let s = c .before .before .before .before .before .before .before .before .before .before .before in
+    let e4 : unknown-kind (s .args .nodes .now) (s .args .i) ≡ false = sym (c .before .before .before .before .before .before .before .before .before .unknown-kind .ensures) ∙ c .before .before .before .before .before .before .before .before .if1 .left in
+    let e5 : wrong-field (s .args .nodes .now) (s .args .i) ≡ false = sym (c .before .before .before .before .before .before .before .wrong-field .ensures) ∙ c .before .before .before .before .before .before .if2 .left in
+    let e6 : not-lower (s .args .nodes .now) (s .args .i) ≡ false = sym (c .before .before .before .before .before .not-lower .ensures) ∙ c .before .before .before .before .if3 .left in
+    let e7 : wrong-sort (s .args .nodes .now) (s .args .i) ≡ false = sym (c .before .before .before .wrong-sort .ensures) ∙ c .before .before .if4 .left in
+    let e8 : child-taken (s .args .nodes .now) (s .args .i) ≡ false = sym (c .before .child-taken .ensures) ∙ c .if5 .left in
+    rw (e4, e5, e6, e7, e8)
 
 pub check-node-spec : {M : Type 1} → statement M
 check-node-spec =
