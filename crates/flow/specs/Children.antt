@@ -11,7 +11,9 @@ use lib.Seq.{getD-set-same, getD-set-other}
 use borrow.Author.Tests.{leb-false, eqb-true, eqb-false}
 use Rattle.flow.specs.Tests.{neither-one, neither-two, then-false, same-of-xor}
 use Rattle.flow.specs.Kinds.{kind, one-of, two-of, is-standard, of-standard}
-use Rattle.flow.specs.Refusals.{has-one, has-two, not-lower, wrong-sort, child-taken, taken, is-child}
+use Rattle.flow.specs.Refusals.{has-one, has-two, not-lower, wrong-sort, child-taken, taken, is-child, count, refused, first, nobodys-child, child-grounds}
+use Rattle.flow.specs.declared.Check.the-variants.{Fine}
+use Rattle.flow.specs.FirstRefusal.{single-held, single-passed}
 use Rattle.flow.specs.Forms.{Marks}
 
 module _ (ns : List ℕ) (i : ℕ) where
@@ -69,3 +71,17 @@ module _ (ns : List ℕ) (i : ℕ) (m : List Bool) where
       let one = marked-is marks (has-one ns i) (one-of ns i) (λ t. omega (arith, lower-one ns i low t)) in
       let two = marked-is marks (has-two ns i) (two-of ns i) (λ t. omega (arith, lower-two ns i low t)) in
       ap₂ (λ (a b : Bool). a || (b || (has-two ns i && eqb (one-of ns i) (two-of ns i)))) one two
+
+-- 9, read off the marks of all nodes
+module _ (ns : List ℕ) (m : List Bool) (marks : Marks ns (count ns) m) (i : ℕ) (small : i < 64) where
+  nobody-is : (b : Bool) → b ≡ getD m i false → nobodys-child ns i ≡ not b
+  unfolding nobodys-child
+  nobody-is b e = ap not (sym (e ∙ marks .each i small))
+
+  pub nobody-held : (b : Bool) → b ≡ getD m i false → not b ≡ true → first (child-grounds ns i) ≡ refused 9 i
+  unfolding child-grounds
+  nobody-held b e t = single-held 9 i (nobodys-child ns i) (nobody-is b e ∙ t)
+
+  pub nobody-passed : (b : Bool) → b ≡ getD m i false → not b ≡ false → first (child-grounds ns i) ≡ Fine
+  unfolding child-grounds
+  nobody-passed b e t = single-passed 9 i (nobodys-child ns i) (nobody-is b e ∙ t)

@@ -13,7 +13,7 @@ use Rattle.flow.specs.Tests.{is-true, is-false}
 use Rattle.flow.specs.declared.Refusal.{Refusal}
 use Rattle.flow.specs.declared.Check.{Check}
 use Rattle.flow.specs.declared.Check.the-variants.{Fine, Refused}
-use Rattle.flow.specs.Refusals.{Ground, or-else-check, answer, first, each, table-check, table-grounds, records-check, records-grounds}
+use Rattle.flow.specs.Refusals.{Ground, ground, refused, or-else-check, answer, first, each, table-check, table-grounds, records-check, records-grounds}
 
 -- r is the first refusal: its ground holds, and none before it does
 pub data First (r : Refusal) : List Ground → Type 0 where
@@ -123,3 +123,32 @@ none-each f i zero j n lo hi = absurd (omega arith)
 none-each f i (suc k) j n lo hi =
     let m = none-append (f i) (each f (suc i) k) n in
     ⊎-elim (λ e. subst (λ (x : ℕ). None (f x)) e (m .0)) (λ l. none-each f (suc i) k j (m .1) l (omega arith)) (eq-or-lt-of-le lo)
+
+-- the check of places i to n: by the one at i, or by the others
+module _ (f : ℕ → List Ground) (i n : ℕ) where
+  each-first : i < n → first (each f i (n - i)) ≡ or-else-check (first (f i)) (first (each f (i + 1) (n - (i + 1))))
+  each-first h = ap first (each-next f i n h) ∙ first-append (f i) (each f (i + 1) (n - (i + 1)))
+
+  pub each-held : i < n → (r : Refusal) → first (f i) ≡ Refused r → first (each f i (n - i)) ≡ Refused r
+  unfolding or-else-check
+  each-held h r e = each-first h ∙ ap (λ (c : Check). or-else-check c (first (each f (i + 1) (n - (i + 1))))) e
+
+  pub each-passed : i < n → first (f i) ≡ Fine → first (each f i (n - i)) ≡ first (each f (i + 1) (n - (i + 1)))
+  unfolding or-else-check
+  each-passed h e = each-first h ∙ ap (λ (c : Check). or-else-check c (first (each f (i + 1) (n - (i + 1))))) e
+
+  pub each-over : n ≤ i → first (each f i (n - i)) ≡ Fine
+  unfolding each first
+  each-over h = let e : n - i ≡ zero = omega arith in rw e
+
+pub each-start : (f : ℕ → List Ground) (n : ℕ) → first (each f 0 (n - 0)) ≡ first (each f 0 n)
+each-start f n = let e : n - 0 ≡ n = omega arith in rw e
+
+-- a check of one ground
+module _ (number place : ℕ) (b : Bool) where
+  pub single-held : b ≡ true → first (ground number place b ∷ []) ≡ refused number place
+  single-held e = first-held (ground number place b) [] e
+
+  pub single-passed : b ≡ false → first (ground number place b ∷ []) ≡ Fine
+  unfolding first
+  single-passed e = first-passed (ground number place b) [] e
