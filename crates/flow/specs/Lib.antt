@@ -9,3 +9,4 @@ pub mod Draws
 pub mod Tests
 pub mod FirstRefusal
 pub mod Children
+pub mod Closings

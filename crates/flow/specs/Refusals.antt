@@ -175,9 +175,12 @@ unfoldable pub table-grounds : List ℕ → List Ground
 table-grounds ns =
     ground 1 0 (no-nodes ns) ∷ ground 2 0 (not-whole ns) ∷ ground 3 0 (too-many-nodes ns) ∷ nodes-grounds ns
 
+unfoldable pub value-grounds : List ℕ → ℕ → List Ground
+value-grounds rs i = ground 12 i (no-record (getD rs i 0)) ∷ []
+
 -- 12, "lowest such"
-unfoldable pub value-grounds : List ℕ → List Ground
-value-grounds rs = each (λ i. ground 12 i (no-record (getD rs i 0)) ∷ []) 0 (length rs)
+unfoldable pub values-grounds : List ℕ → List Ground
+values-grounds rs = each (value-grounds rs) 0 (length rs)
 
 unfoldable pub closing-grounds : List ℕ → List ℕ → List Ground
 closing-grounds ns rs = ground 13 (after-closings rs (closings-wanted ns)) (wrong-closings ns rs) ∷ []
@@ -185,7 +188,7 @@ closing-grounds ns rs = ground 13 (after-closings rs (closings-wanted ns)) (wron
 -- "then 9 to 14"
 unfoldable pub records-grounds : List ℕ → List ℕ → List Ground
 records-grounds ns rs =
-    ground 10 0 (no-records rs) ∷ ground 11 0 (too-many-records rs) ∷ (value-grounds rs ++ closing-grounds ns rs)
+    ground 10 0 (no-records rs) ∷ ground 11 0 (too-many-records rs) ∷ (values-grounds rs ++ closing-grounds ns rs)
 
 ---- The checks ----
 
@@ -199,7 +202,7 @@ nodes-check ns = first (nodes-grounds ns)
 
 -- 12
 unfoldable pub values-check : List ℕ → Check
-values-check rs = first (value-grounds rs)
+values-check rs = first (values-grounds rs)
 
 -- 13
 unfoldable pub closings-check : List ℕ → List ℕ → Check

@@ -147,6 +147,13 @@ pub fn is_closing(number: u16) -> bool
     (number == DONE) | ((number == WITHDRAWN) | (number == FAILED))
 }
 
+// 12 of a record.
+fn no_record(number: u16) -> bool
+    ensures { λ r. ⌜ r ≡ no-record number ⌝ }
+{
+    !(is_event(number) | is_closing(number))
+}
+
 fn refuse(number: u16, place: usize) -> Check
     requires { ⌜ place < 4294967296 ⌝ }
     ensures { λ r. ⌜ r ≡ refused number place ⌝ }
@@ -347,7 +354,7 @@ pub fn check_values(records: &[u16]) -> Check
 {
     let mut i = 0;
     while i < records.len() {
-        if !(is_event(records[i]) | is_closing(records[i])) {
+        if no_record(records[i]) {
             return refuse(12, i);
         }
         i += 1;
