@@ -6,14 +6,14 @@ use mathlib.Core.List.{List}
 use native.Mathlib.Omega.{arith}
 use native.Mathlib.Numerals.{add-one}
 use lib.Dec.{T, eqb, leb}
-use lib.ListN.{length, getD, set, length-set}
+use lib.ListN.{length, getD, set, length-set, replicate, getD-replicate}
 use lib.Seq.{getD-set-same, getD-set-other}
 use borrow.Author.Tests.{leb-false, eqb-true, eqb-false}
-use Rattle.flow.specs.Tests.{neither-one, neither-two, then-false, same-of-xor}
+use Rattle.flow.specs.Tests.{is-false, neither-one, neither-two, then-false, same-of-xor}
 use Rattle.flow.specs.Kinds.{kind, one-of, two-of, is-standard, of-standard}
-use Rattle.flow.specs.Refusals.{has-one, has-two, not-lower, wrong-sort, child-taken, taken, is-child, count, refused, first, nobodys-child, child-grounds}
+use Rattle.flow.specs.Refusals.{has-one, has-two, not-lower, wrong-sort, child-taken, taken, is-child, count, refused, first, unknown-kind, wrong-field, node-grounds, nobodys-child, child-grounds}
 use Rattle.flow.specs.declared.Check.the-variants.{Fine}
-use Rattle.flow.specs.FirstRefusal.{single-held, single-passed}
+use Rattle.flow.specs.FirstRefusal.{None, none, more, single-held, single-passed}
 use Rattle.flow.specs.Forms.{Marks}
 
 module _ (ns : List ℕ) (i : ℕ) where
@@ -85,3 +85,25 @@ module _ (ns : List ℕ) (m : List Bool) (marks : Marks ns (count ns) m) (i : �
   pub nobody-passed : (b : Bool) → b ≡ getD m i false → not b ≡ false → first (child-grounds ns i) ≡ Fine
   unfolding child-grounds
   nobody-passed b e t = single-passed 9 i (nobodys-child ns i) (nobody-is b e ∙ t)
+
+pub marks-none : (ns : List ℕ) → Marks ns 0 (replicate 64 false)
+unfolding taken
+marks-none ns = record { size = refl; each = λ c h. getD-replicate 64 c false false h }
+
+-- none of 4 to 8
+pub record FineNode (ns : List ℕ) (i : ℕ) : Type 0 where
+  pub known : unknown-kind ns i ≡ false
+  pub fields : wrong-field ns i ≡ false
+  pub lower : not-lower ns i ≡ false
+  pub sorts : wrong-sort ns i ≡ false
+  pub free : child-taken ns i ≡ false
+
+pub fine-node : (ns : List ℕ) (i : ℕ) → None (node-grounds ns i) → FineNode ns i
+unfolding node-grounds
+fine-node ns i (more a (more b (more c (more d (more e n))))) = record {
+  known = is-false (unknown-kind ns i) a;
+  fields = is-false (wrong-field ns i) b;
+  lower = is-false (not-lower ns i) c;
+  sorts = is-false (wrong-sort ns i) d;
+  free = is-false (child-taken ns i) e
+}

@@ -13,7 +13,7 @@ use Rattle.flow.specs.Tests.{is-true, is-false}
 use Rattle.flow.specs.declared.Refusal.{Refusal}
 use Rattle.flow.specs.declared.Check.{Check}
 use Rattle.flow.specs.declared.Check.the-variants.{Fine, Refused}
-use Rattle.flow.specs.Refusals.{Ground, ground, refused, or-else-check, answer, first, each, table-check, table-grounds, records-check, records-grounds}
+use Rattle.flow.specs.Refusals.{Ground, ground, refused, or-else-check, answer, first, each, no-nodes, not-whole, too-many-nodes, no-records, too-many-records, table-check, table-grounds, nodes-check, records-check, records-grounds, values-check, values-grounds, closings-check, closing-grounds}
 
 -- r is the first refusal: its ground holds, and none before it does
 pub data First (r : Refusal) : List Ground → Type 0 where
@@ -152,3 +152,19 @@ module _ (number place : ℕ) (b : Bool) where
   pub single-passed : b ≡ false → first (ground number place b ∷ []) ≡ Fine
   unfolding first
   single-passed e = first-passed (ground number place b) [] e
+
+---- The checks in parts ----
+
+pub table-parts : (ns : List ℕ) → no-nodes ns ≡ false → not-whole ns ≡ false → too-many-nodes ns ≡ false → table-check ns ≡ nodes-check ns
+unfolding table-check table-grounds nodes-check
+table-parts ns a b c =
+    first-passed (ground 1 0 (no-nodes ns)) _ a
+    ∙ first-passed (ground 2 0 (not-whole ns)) _ b
+    ∙ first-passed (ground 3 0 (too-many-nodes ns)) _ c
+
+pub records-parts : (ns rs : List ℕ) → no-records rs ≡ false → too-many-records rs ≡ false → records-check ns rs ≡ or-else-check (values-check rs) (closings-check ns rs)
+unfolding records-check records-grounds values-check closings-check
+records-parts ns rs a b =
+    first-passed (ground 10 0 (no-records rs)) _ a
+    ∙ first-passed (ground 11 0 (too-many-records rs)) _ b
+    ∙ first-append (values-grounds rs) (closing-grounds ns rs)
