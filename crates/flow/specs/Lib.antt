@@ -10,3 +10,4 @@ pub mod Tests
 pub mod FirstRefusal
 pub mod Children
 pub mod Closings
+pub mod FineTable
