@@ -11,3 +11,4 @@ pub mod FirstRefusal
 pub mod Children
 pub mod Closings
 pub mod FineTable
+pub mod OneFlow

@@ -1,4 +1,5 @@
--- What is read off a table by going down from a node: a fold over falling node numbers, and what it depends on.
+-- What is read off a table by going down from a node: a fold over falling node numbers, and what it depends on. What a tree is,
+-- and that the parts under two children are disjoint. Which tables are trees is in FineTable. Assumes nothing.
 use Prim.Native.Nat.{ℕ, zero, suc, _+_, _*_, _<_, _≤_}
 use mathlib.Core.Path.{_≡_, refl, sym, _∙_, ap, ap₂, subst}
 use mathlib.Core.Bool.{Bool, true, false, not, _&&_, _||_, cond}
@@ -105,6 +106,10 @@ module _ (s : Shape) where
         by true t = refl
         by false t = absurd t
     child-is i g false c t h = absurd t
+
+    pub fold-one : Tree → (f : ℕ → A → A → A) (i : ℕ) → T (s .has1 i) → fold f i ≡ f i (fold f (s .one i)) (child i (fold f) (s .has2 i) (s .two i))
+    fold-one tree f i a = fold-is f i ∙ ap (λ (x : A). f i x (child i (fold f) (s .has2 i) (s .two i)))
+        (child-is i (fold f) (s .has1 i) (s .one i) a (tree .lower i (s .one i) (kid1 a refl)))
 
     pub fold-two : Tree → (f : ℕ → A → A → A) (i : ℕ) → T (s .has1 i) → T (s .has2 i) → fold f i ≡ f i (fold f (s .one i)) (fold f (s .two i))
     fold-two tree f i a b = fold-is f i ∙ ap₂ (f i)
