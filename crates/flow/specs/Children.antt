@@ -41,22 +41,22 @@ mark-length m false x = refl
 module _ (ns : List ℕ) (i : ℕ) (m : List Bool) where
   -- the marks, with those of node i's children
   pub marks-more : Marks ns i m → i < 64 → not-lower ns i ≡ false → (m₁ m₂ : List Bool)
-    → m₁ ≡ cond (has-one ns i) (set m (one-of ns i) true) m
-    → m₂ ≡ cond (has-two ns i) (set m₁ (two-of ns i) true) m₁
-    → Marks ns (i + 1) m₂
+      → m₁ ≡ cond (has-one ns i) (set m (one-of ns i) true) m
+      → m₂ ≡ cond (has-two ns i) (set m₁ (two-of ns i) true) m₁
+      → Marks ns (i + 1) m₂
   unfolding taken is-child
   marks-more marks small low m₁ m₂ e₁ e₂ =
       let l₁ : length m₁ ≡ 64 = ap length e₁ ∙ mark-length m (has-one ns i) (one-of ns i) ∙ marks .size in
       let l₂ : length m₂ ≡ 64 = ap length e₂ ∙ mark-length m₁ (has-two ns i) (two-of ns i) ∙ l₁ in
       let at : (c : ℕ) → c < 64 → getD m₂ c false ≡ taken ns (suc i) c
-          = λ c h.
-            ap (λ (x : List Bool). getD x c false) e₂
-            ∙ mark-at m₁ (has-two ns i) (two-of ns i) c (λ t. omega (arith, lower-two ns i low t))
-            ∙ ap (λ (b : Bool). b || (has-two ns i && eqb (two-of ns i) c))
-              (ap (λ (x : List Bool). getD x c false) e₁
-              ∙ mark-at m (has-one ns i) (one-of ns i) c (λ t. omega (arith, lower-one ns i low t, marks .size))
-              ∙ ap (λ (b : Bool). b || (has-one ns i && eqb (one-of ns i) c)) (marks .each c h))
-            ∙ or-assoc (taken ns i c) _ _ in
+      = λ c h.
+      ap (λ (x : List Bool). getD x c false) e₂
+      ∙ mark-at m₁ (has-two ns i) (two-of ns i) c (λ t. omega (arith, lower-two ns i low t))
+      ∙ ap (λ (b : Bool). b || (has-two ns i && eqb (two-of ns i) c))
+      (ap (λ (x : List Bool). getD x c false) e₁
+      ∙ mark-at m (has-one ns i) (one-of ns i) c (λ t. omega (arith, lower-one ns i low t, marks .size))
+      ∙ ap (λ (b : Bool). b || (has-one ns i && eqb (one-of ns i) c)) (marks .each c h))
+      ∙ or-assoc (taken ns i c) _ _ in
       record { size = l₂; each = rw add-one at }
 
   marked-is : Marks ns i m → (h : Bool) (x : ℕ) → (T h → x < 64) → (h && getD m x false) ≡ (h && taken ns i x)
@@ -65,7 +65,7 @@ module _ (ns : List ℕ) (i : ℕ) (m : List Bool) where
 
   -- 8, read off the marks
   pub taken-by-marks : Marks ns i m → i < 64 → not-lower ns i ≡ false
-    → ((has-one ns i && getD m (one-of ns i) false) || ((has-two ns i && getD m (two-of ns i) false) || (has-two ns i && eqb (one-of ns i) (two-of ns i)))) ≡ child-taken ns i
+      → ((has-one ns i && getD m (one-of ns i) false) || ((has-two ns i && getD m (two-of ns i) false) || (has-two ns i && eqb (one-of ns i) (two-of ns i)))) ≡ child-taken ns i
   unfolding child-taken
   taken-by-marks marks small low =
       let one = marked-is marks (has-one ns i) (one-of ns i) (λ t. omega (arith, lower-one ns i low t)) in
@@ -105,5 +105,5 @@ fine-node ns i (more a (more b (more c (more d (more e n))))) = record {
   fields = is-false (wrong-field ns i) b;
   lower = is-false (not-lower ns i) c;
   sorts = is-false (wrong-sort ns i) d;
-  free = is-false (child-taken ns i) e
+  free = is-false (child-taken ns i) e;
 }

@@ -23,7 +23,7 @@ pub record Passed (rs : List ℕ) (wanted i left : ℕ) : Type 0 where
 
 -- what one record is to the closings to come
 module _ (r : ℕ) (rs : List ℕ) where
-  event-closed : (left : ℕ) → 1 ≤ left → is-closing-number r ≡ false → closed (r ∷ rs) left ≡ closed rs left
+  pub event-closed : (left : ℕ) → 1 ≤ left → is-closing-number r ≡ false → closed (r ∷ rs) left ≡ closed rs left
   unfolding closed
   event-closed zero h e = absurd (omega arith)
   event-closed (suc n) h e = rw e
@@ -33,7 +33,7 @@ module _ (r : ℕ) (rs : List ℕ) where
   event-place zero h e = absurd (omega arith)
   event-place (suc n) h e = rw e
 
-  closing-closed : (left : ℕ) → 1 ≤ left → is-closing-number r ≡ true → closed (r ∷ rs) left ≡ closed rs (left - 1)
+  pub closing-closed : (left : ℕ) → 1 ≤ left → is-closing-number r ≡ true → closed (r ∷ rs) left ≡ closed rs (left - 1)
   unfolding closed
   closing-closed zero h e = absurd (omega arith)
   closing-closed (suc n) h e = let q : suc n - 1 ≡ n = omega arith in rw (e, q)
@@ -88,7 +88,7 @@ module _ (rs : List ℕ) (wanted : ℕ) where
           within = omega arith;
           some = p .some;
           closes = sym (event-closed (getD rs i 0) (drop (i + 1) rs) left (p .some) e) ∙ closes-here;
-          place = omega (arith, place-here)
+          place = omega (arith, place-here);
         }
 
     pub passed-closing : is-closing-number (getD rs i 0) ≡ true → left ≢ 1 → Passed rs wanted (i + 1) (left - 1)
@@ -98,7 +98,7 @@ module _ (rs : List ℕ) (wanted : ℕ) where
           within = omega arith;
           some = omega (arith, p .some, n);
           closes = sym (closing-closed (getD rs i 0) (drop (i + 1) rs) left (p .some) e) ∙ closes-here;
-          place = omega (arith, place-here)
+          place = omega (arith, place-here);
         }
 
     -- the last closing that is wanted

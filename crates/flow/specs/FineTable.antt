@@ -42,7 +42,7 @@ module _ (ns : List ℕ) where
         few = nc;
         whole = omega (arith, nb);
         node = λ i h. fine-node ns i (none-each (node-grounds ns) 0 (count ns) i (m .0) (omega arith) (omega arith));
-        child = λ i h. fine-child i (none-each (child-grounds ns) 0 (count ns - 1) i (m .1) (omega arith) (omega arith))
+        child = λ i h. fine-child i (none-each (child-grounds ns) 0 (count ns - 1) i (m .1) (omega arith) (omega arith));
       }
 
   pub fine-table : table-check ns ≡ Fine → FineTable ns
@@ -97,6 +97,7 @@ module _ (ns : List ℕ) where
     where
       two : T (has-two ns j && eqb (two-of ns j) c) → Kid (shape ns) j c
       two t = kid2 (one-of-both (has-two ns j) (eqb (two-of ns j) c) t) (sym (eqb→eq (two-of ns j) c (two-of-both (has-two ns j) (eqb (two-of ns j) c) t)))
+
       by : (a : Bool) → has-one ns j ≡ a → (b : Bool) → eqb (one-of ns j) c ≡ b → T ((a && b) || (has-two ns j && eqb (two-of ns j) c)) → Kid (shape ns) j c
       by true p true q t = kid1 (subst T (sym p) tt) (sym (eqb-true (one-of ns j) c q))
       by true p false q t = two t

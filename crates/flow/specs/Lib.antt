@@ -12,3 +12,4 @@ pub mod Children
 pub mod Closings
 pub mod FineTable
 pub mod OneFlow
+pub mod RecordsFit

@@ -1,8 +1,7 @@
--- A table that is not refused means exactly one flow, standard or compensable as its last node's kind is; and records that pass
--- check 13 have the closings that this flow takes. Assumes nothing.
+-- A table that is not refused means exactly one flow, standard or compensable as its last node's kind is. Assumes nothing.
 use Prim.Native.Nat.{ℕ, zero, suc, _-_, _<_, _≤_}
 use mathlib.Core.Path.{_≡_, refl, sym, ap, _∙_, subst}
-use mathlib.Core.Bool.{Bool, true, false, not, cond}
+use mathlib.Core.Bool.{Bool, true, false, not}
 use mathlib.Core.List.{List, [], _∷_}
 use native.Mathlib.Omega.{arith}
 use lib.Dec.{T, eqb}
@@ -31,7 +30,7 @@ module _ (ns : List ℕ) (tree : Tree (shape ns)) where
   drawn-none i k e s same = fold-is (shape ns) over at-node i ∙ same-part (one-of ns i) e refl refl ∙ same _ _
 
   drawn-one : (i : ℕ) (k : Kind) → kind ns i ≡ k → T (not (eqb (kids k) 0)) → (a s : State) → ((b : State) → part k (one-of ns i) a b ≡ s)
-    → drawn ns (one-of ns i) ≡ a → drawn ns i ≡ s
+      → drawn ns (one-of ns i) ≡ a → drawn ns i ≡ s
   unfolding drawn
   drawn-one i k e t a s same d =
       fold-one (shape ns) over tree at-node i (subst (λ (x : Kind). T (not (eqb (kids x) 0))) (sym e) t)
@@ -39,7 +38,7 @@ module _ (ns : List ℕ) (tree : Tree (shape ns)) where
       ∙ same _
 
   drawn-two : (i : ℕ) (k : Kind) → kind ns i ≡ k → T (not (eqb (kids k) 0)) → T (eqb (kids k) 2) → (a b : State)
-    → drawn ns (one-of ns i) ≡ a → drawn ns (two-of ns i) ≡ b → drawn ns i ≡ part k (one-of ns i) a b
+      → drawn ns (one-of ns i) ≡ a → drawn ns (two-of ns i) ≡ b → drawn ns i ≡ part k (one-of ns i) a b
   unfolding drawn
   drawn-two i k e t u a b d d′ =
       fold-two (shape ns) over tree at-node i (subst (λ (x : Kind). T (not (eqb (kids x) 0))) (sym e) t) (subst (λ (x : Kind). T (eqb (kids x) 2)) (sym e) u)
@@ -73,14 +72,14 @@ pub data Part (ns : List ℕ) (i : ℕ) : Bool → Type 0 where
 
 module _ (ns : List ℕ) (i : ℕ) where
   both-std : (f : Std → Std → Std) → ((p q : Std) → Draws ns (one-of ns i) (std p) → Draws ns (two-of ns i) (std q) → Draws ns i (std (f p q)))
-    → Part ns (one-of ns i) true → Part ns (two-of ns i) true → Part ns i true
+      → Part ns (one-of ns i) true → Part ns (two-of ns i) true → Part ns i true
   both-std f make (standard-part p d) (standard-part q d′) = standard-part (f p q) (make p q d d′)
 
   both-pair : kind ns i ≡ Pair → Part ns (one-of ns i) true → Part ns (two-of ns i) true → Part ns i false
   both-pair e (standard-part p d) (standard-part q d′) = compensable-part (pair p q) (at-pair e d d′)
 
   both-cmp : (f : Cmp → Cmp → Cmp) → ((pp qq : Cmp) → Draws ns (one-of ns i) (cmp pp) → Draws ns (two-of ns i) (cmp qq) → Draws ns i (cmp (f pp qq)))
-    → Part ns (one-of ns i) false → Part ns (two-of ns i) false → Part ns i false
+      → Part ns (one-of ns i) false → Part ns (two-of ns i) false → Part ns i false
   both-cmp f make (compensable-part pp d) (compensable-part qq d′) = compensable-part (f pp qq) (make pp qq d d′)
 
   the-block : kind ns i ≡ Blk → Part ns (one-of ns i) false → Part ns i true
@@ -125,3 +124,50 @@ module _ (ns : List ℕ) (fine : FineTable ns) where
 
   pub part-of : (i : ℕ) → i < count ns → Part ns i (is-standard (kind ns i))
   part-of i w = parts-below (suc i) i (omega arith) w
+
+---- "A table that is not refused means exactly one term" ----
+
+module _ (ns : List ℕ) (fine : FineTable ns) where
+  part-drawn : {b : Bool} (i : ℕ) → Part ns i b → Draws ns i (drawn ns i)
+  part-drawn i (standard-part p d) = subst (Draws ns i) (sym (drawn-is ns (fine-tree ns fine) d)) d
+  part-drawn i (compensable-part pp d) = subst (Draws ns i) (sym (drawn-is ns (fine-tree ns fine) d)) d
+
+  -- of any node
+  pub node-drawn : (i : ℕ) → i < count ns → Draws ns i (drawn ns i)
+  node-drawn i w = part-drawn i (part-of ns fine i w)
+
+  pub node-only : (i : ℕ) (s : State) → Draws ns i s → s ≡ drawn ns i
+  node-only i s d = sym (drawn-is ns (fine-tree ns fine) d)
+
+  -- of its sort
+  pub node-standard : (i : ℕ) → i < count ns → is-standard (kind ns i) ≡ true → (p : Std) × (drawn ns i ≡ std p)
+  node-standard i w e = by (subst (Part ns i) e (part-of ns fine i w))
+    where
+      by : Part ns i true → (p : Std) × (drawn ns i ≡ std p)
+      by (standard-part p d) = (p, drawn-is ns (fine-tree ns fine) d)
+
+  pub node-compensable : (i : ℕ) → i < count ns → is-standard (kind ns i) ≡ false → (pp : Cmp) × (drawn ns i ≡ cmp pp)
+  node-compensable i w e = by (subst (Part ns i) e (part-of ns fine i w))
+    where
+      by : Part ns i false → (pp : Cmp) × (drawn ns i ≡ cmp pp)
+      by (compensable-part pp d) = (pp, drawn-is ns (fine-tree ns fine) d)
+
+  root-within : root ns < count ns
+  root-within = omega (arith, fine .some)
+
+  -- of the root
+  pub flow-standard : is-standard (kind ns (root ns)) ≡ true → (p : Std) × (flow-of ns ≡ std p)
+  unfolding flow-of
+  flow-standard e = node-standard (root ns) root-within e
+
+  pub flow-compensable : is-standard (kind ns (root ns)) ≡ false → (pp : Cmp) × (flow-of ns ≡ cmp pp)
+  unfolding flow-of
+  flow-compensable e = node-compensable (root ns) root-within e
+
+pub flow-drawn : (ns : List ℕ) → table-check ns ≡ Fine → Draws ns (root ns) (flow-of ns)
+unfolding flow-of
+flow-drawn ns e = node-drawn ns (fine-table ns e) (root ns) (root-within ns (fine-table ns e))
+
+pub flow-only : (ns : List ℕ) → table-check ns ≡ Fine → (s : State) → Draws ns (root ns) s → s ≡ flow-of ns
+unfolding flow-of
+flow-only ns e s d = node-only ns (fine-table ns e) (root ns) s d

@@ -34,7 +34,7 @@ unfolding nodes-check nodes-grounds
 loop-holds c =
     let ns = c .before .args .nodes .now in
     let start : or-else-check (first (each (node-grounds ns) 0 (count ns - 0))) (first (each (child-grounds ns) 0 (count ns - 1))) ≡ nodes-check ns
-        = ap (λ (x : Check). or-else-check x (first (each (child-grounds ns) 0 (count ns - 1)))) (each-start (node-grounds ns) (count ns)) ∙ sym (first-append _ _) in
+    = ap (λ (x : Check). or-else-check x (first (each (child-grounds ns) 0 (count ns - 1)))) (each-start (node-grounds ns) (count ns)) ∙ sym (first-append _ _) in
     (omega arith, (marks-none ns, start))
 
 -- src/lib.rt:317:13

@@ -46,7 +46,7 @@ marked-requires-2 c κs = λ t.
 
 -- src/lib.rt:227:1
 returns : tie.Need-returns
-returns c = 
+returns c =
     let s = c .before .before .before .before .before .before .before .before in
     rw (c .marked2 .ensures, c .before .marked .ensures, c .before .before .before .before .before .before .form-at .ensures, c .before .before .before .before .before .first-at .ensures, c .before .before .before .before .second-at .ensures)
     (taken-by-marks (s .args .nodes .now) (s .args .i) (s .args .marks .now) (s .pre .1 .1 .1) (s .pre .1 .0) (s .pre .1 .1 .0))

@@ -46,7 +46,7 @@ mark-requires-2 c κs = λ t.
 
 -- src/lib.rt:277:1
 returns : tie.Need-returns
-returns c = 
+returns c =
     let s = c .before .before .before .before .before .before .before .before .before .before in
     marks-more (s .args .nodes .now) (s .args .i) (s .args .marks .now) (s .pre .1 .1 .1) (s .pre .1 .0) (s .pre .1 .1 .0) (c .before .before .before .mark .last .0) (c .mark2 .last .0)
     (rw (c .before .before .before .before .before .before .before .before .form-at .ensures, c .before .before .before .before .before .before .before .first-at .ensures) at (c .before .before .before .mark .ensures))

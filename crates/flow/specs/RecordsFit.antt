@@ -1,0 +1,95 @@
+-- Records that pass check 13 have the closings that the table's flow takes. Assumes nothing.
+use Prim.Native.Nat.{ℕ, zero, suc, _-_}
+use mathlib.Core.Path.{_≡_, refl, sym, ap, _∙_, subst}
+use mathlib.Core.Bool.{Bool, true, false, not, _||_, cond}
+use mathlib.Core.List.{List, [], _∷_}
+use native.Mathlib.Omega.{arith}
+use lib.Dec.{T, eqb}
+use borrow.Author.Tests.{not-true, not-false}
+use Rattle.calculus.specs.Term.{Closing, done, withdrawn, failed}
+use Rattle.calculus.specs.Records.{Record, event, close, State, Closed, last, ClosedTwice, turn, Fits}
+use Rattle.flow.specs.declared.Check.the-variants.{Fine}
+use Rattle.flow.specs.Kinds.{kind, is-standard}
+use Rattle.flow.specs.Records.{done-number, withdrawn-number, failed-number, is-closing-number, record-of, records}
+use Rattle.flow.specs.Refusals.{root, closed, closings-wanted, wrong-closings, closing-grounds, closings-check, table-check}
+use Rattle.flow.specs.Tests.{is-false}
+use Rattle.flow.specs.FirstRefusal.{None, none, more, fine-exactly}
+use Rattle.flow.specs.Closings.{event-closed, closing-closed}
+use Rattle.flow.specs.Draws.{flow-of}
+use Rattle.flow.specs.FineTable.{fine-table}
+use Rattle.flow.specs.OneFlow.{flow-standard, flow-compensable}
+
+-- a closing's number is a closing, any other an event
+closing-record : (r : ℕ) → is-closing-number r ≡ true → (w : Closing) × (record-of r ≡ close w)
+unfolding record-of is-closing-number
+closing-record r e = by (eqb r done-number) (eqb r withdrawn-number) (eqb r failed-number) e
+  where
+    by : (a b c : Bool) → (a || (b || c)) ≡ true
+        → (w : Closing) × (cond a (close done) (cond b (close withdrawn) (cond c (close failed) (event r))) ≡ close w)
+    by true b c e = (done, refl)
+    by false true c e = (withdrawn, refl)
+    by false false true e = (failed, refl)
+    by false false false e = absurd (subst T (sym e) tt)
+
+event-record : (r : ℕ) → is-closing-number r ≡ false → record-of r ≡ event r
+unfolding record-of is-closing-number
+event-record r e = by (eqb r done-number) (eqb r withdrawn-number) (eqb r failed-number) e
+  where
+    by : (a b c : Bool) → (a || (b || c)) ≡ false
+        → cond a (close done) (cond b (close withdrawn) (cond c (close failed) (event r))) ≡ event r
+    by true b c e = absurd (subst (λ (x : Bool). T (not x)) (sym e) tt)
+    by false true c e = absurd (subst (λ (x : Bool). T (not x)) (sym e) tt)
+    by false false true e = absurd (subst (λ (x : Bool). T (not x)) (sym e) tt)
+    by false false false e = refl
+
+closed-nil : (rs : List ℕ) → closed rs 0 ≡ true → rs ≡ []
+unfolding closed
+closed-nil [] e = refl
+closed-nil (r ∷ rs) e = absurd (subst T (sym e) tt)
+
+-- one closing, last
+closed-once : (rs : List ℕ) → closed rs 1 ≡ true → Closed (records rs)
+unfolding closed
+closed-once [] e = absurd (subst T (sym e) tt)
+closed-once (r ∷ rs) e = by (is-closing-number r) refl (closed-once rs)
+  where
+    by : (b : Bool) → is-closing-number r ≡ b → (closed rs 1 ≡ true → Closed (records rs)) → Closed (record-of r ∷ records rs)
+    by true h rec =
+        let w = closing-record r h in
+        let n = closed-nil rs (sym (closing-closed r rs 1 (omega arith) h) ∙ e) in
+        subst (λ (l : List Record). Closed l) (sym (λ x. w .1 x ∷ records (n x))) last
+    by false h rec = subst (λ (x : Record). Closed (x ∷ records rs)) (sym (event-record r h)) (Closed.more (rec (sym (event-closed r rs 1 (omega arith) h) ∙ e)))
+
+-- a closing, and one last
+closed-twice : (rs : List ℕ) → closed rs 2 ≡ true → ClosedTwice (records rs)
+unfolding closed
+closed-twice [] e = absurd (subst T (sym e) tt)
+closed-twice (r ∷ rs) e = by (is-closing-number r) refl (closed-twice rs)
+  where
+    by : (b : Bool) → is-closing-number r ≡ b → (closed rs 2 ≡ true → ClosedTwice (records rs)) → ClosedTwice (record-of r ∷ records rs)
+    by true h rec =
+        let w = closing-record r h in
+        subst (λ (x : Record). ClosedTwice (x ∷ records rs)) (sym (w .1)) (turn (closed-once rs (sym (closing-closed r rs 2 (omega arith) h) ∙ e)))
+    by false h rec = subst (λ (x : Record). ClosedTwice (x ∷ records rs)) (sym (event-record r h)) (ClosedTwice.more (rec (sym (event-closed r rs 2 (omega arith) h) ∙ e)))
+
+module _ (ns rs : List ℕ) where
+  no-wrong : None (closing-grounds ns rs) → closed rs (closings-wanted ns) ≡ true
+  unfolding closing-grounds wrong-closings
+  no-wrong (None.more t n) = not-false (closed rs (closings-wanted ns)) (is-false (wrong-closings ns rs) t)
+
+  closings-closed : closings-check ns rs ≡ Fine → closed rs (closings-wanted ns) ≡ true
+  unfolding closings-check
+  closings-closed e = no-wrong (fine-exactly (closing-grounds ns rs) .0 e)
+
+  -- 13 leaves the closings that the root needs
+  pub records-fit : table-check ns ≡ Fine → closings-check ns rs ≡ Fine → Fits (flow-of ns) (records rs)
+  unfolding closings-wanted
+  records-fit e f = by (is-standard (kind ns (root ns))) refl (closings-closed f)
+    where
+      by : (b : Bool) → is-standard (kind ns (root ns)) ≡ b → closed rs (closings-wanted ns) ≡ true → Fits (flow-of ns) (records rs)
+      by true h c =
+          let p = flow-standard ns (fine-table ns e) h in
+          subst (λ (s : State). Fits s (records rs)) (sym (p .1)) (closed-once rs (ap (λ (b : Bool). closed rs (cond b 1 2)) (sym h) ∙ c))
+      by false h c =
+          let p = flow-compensable ns (fine-table ns e) h in
+          subst (λ (s : State). Fits s (records rs)) (sym (p .1)) (closed-twice rs (ap (λ (b : Bool). closed rs (cond b 1 2)) (sym h) ∙ c))
