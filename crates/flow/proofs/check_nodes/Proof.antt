@@ -1,23 +1,16 @@
-use mathlib.Core.Path.{ap, subst}
+-- `flow::check_nodes` meets its contract: the marks are those of the nodes passed, and what is left to check is the grounds from `i` on. Assumes nothing.
+use Prim.Native.Nat.{_≤_, _<_, _-_}
+use mathlib.Core.Path.{ap, _≡_, sym, _∙_}
+use native.Mathlib.Omega.{arith}
+use borrow.Author.Needs.{needs}
 use Rattle.flow.specs.declared.Check.{Check}
 use Rattle.flow.specs.declared.Check.the-variants.{Fine}
-use Rattle.flow.specs.FirstRefusal.{fine-exactly}
+use Rattle.flow.specs.FirstRefusal.{fine-exactly, each-start, each-held, each-passed, each-over, first-append}
 use Rattle.flow.specs.Children.{marks-none, fine-node}
-use Prim.Native.Nat.{_≤_, _<_, _-_}
-use mathlib.Core.Path.{_≡_, refl, sym, _∙_}
-use borrow.Author.Needs.{needs}
-use native.Mathlib.Omega.{arith}
-use lib.ListN.{length, getD}
 use Rattle.flow.specs.Forms.{Marks}
 use Rattle.flow.specs.Refusals.{count, or-else-check, first, each, node-grounds, child-grounds, nodes-grounds, nodes-check}
-use Rattle.flow.specs.FirstRefusal.{each-start, each-held, each-passed, each-over, first-append}
 use Rattle.flow.proofs.check_nodes.Statement.{statement}
 use Rattle.flow.proofs.check_nodes.Tie as tie
-use Rattle.flow.proofs.check_nodes.Reads as reads
-use Rattle.flow.proofs.check_nodes.Lts as lts
-use Rattle.flow.proofs.check_children.Reads as check-children-reads
-use Rattle.flow.proofs.check_node.Reads as check-node-reads
-use Rattle.flow.proofs.mark_children.Reads as mark-children-reads
 
 abbrev Inv-loop : tie.InvT-loop
 Inv-loop nodes n marks₀ i₀ marks i =
@@ -28,7 +21,6 @@ Inv-loop nodes n marks₀ i₀ marks i =
 abbrev μ-loop : tie.MeasureT-loop
 μ-loop nodes n marks₀ i₀ marks i = count nodes - i
 
--- src/lib.rt:316:5
 loop-holds : tie.Need-loop-holds Inv-loop μ-loop
 unfolding nodes-check nodes-grounds
 loop-holds c =
@@ -37,15 +29,12 @@ loop-holds c =
     = ap (λ (x : Check). or-else-check x (first (each (child-grounds ns) 0 (count ns - 1)))) (each-start (node-grounds ns) (count ns)) ∙ sym (first-append _ _) in
     (omega arith, (marks-none ns, start))
 
--- src/lib.rt:317:13
 check-node-requires : tie.Need-check-node-requires Inv-loop μ-loop
 check-node-requires c κs = (omega arith, (omega arith, c .before .before .loop .inv .1 .0))
 
--- src/lib.rt:318:31
 enum-known-found : tie.Need-enum-known-found Inv-loop μ-loop
 enum-known-found c = search needs
 
--- src/lib.rt:319:13
 returns : tie.Need-returns Inv-loop μ-loop
 unfolding or-else-check
 returns c =
@@ -58,7 +47,6 @@ returns c =
 enum-told : tie.Need-enum-told Inv-loop μ-loop
 enum-told c = search needs
 
--- src/lib.rt:321:9
 mark-children-requires : tie.Need-mark-children-requires Inv-loop μ-loop
 mark-children-requires c κs =
     let ns = c .before .before .before .before .before .before .before .before .args .nodes .now in
@@ -67,15 +55,12 @@ mark-children-requires c κs =
     let e : first (node-grounds ns (l .i)) ≡ Fine = sym (c .before .before .before .check-node .ensures) ∙ c .before .enum-told .given .1 in
     (omega arith, (omega arith, (fine-node ns (l .i) (fine-exactly (node-grounds ns (l .i)) .0 e) .lower, l .inv .1 .0)))
 
--- src/lib.rt:322:9
 add-i : tie.Need-add-i Inv-loop μ-loop
 add-i c = search needs
 
--- src/lib.rt:316:5
 loop-less : tie.Need-loop-less Inv-loop μ-loop
 loop-less c = search needs
 
--- src/lib.rt:316:5
 loop-again : tie.Need-loop-again Inv-loop μ-loop
 loop-again c =
     let ns = c .before .before .before .before .before .before .before .before .before .args .nodes .now in
@@ -84,7 +69,6 @@ loop-again c =
     let e : first (node-grounds ns (l .i)) ≡ Fine = sym (c .before .before .before .before .check-node .ensures) ∙ c .before .before .enum-told .given .1 in
     (omega arith, (c .mark-children .ensures, sym (ap (λ (x : Check). or-else-check x (first (each (child-grounds ns) 0 (count ns - 1)))) (each-passed (node-grounds ns) (l .i) (count ns) h e)) ∙ l .inv .1 .1))
 
--- src/lib.rt:324:5
 check-children-requires : tie.Need-check-children-requires Inv-loop μ-loop
 check-children-requires c κs =
     let ns = c .before .before .before .before .args .nodes .now in
@@ -92,7 +76,6 @@ check-children-requires c κs =
     let e : l .i ≡ count ns = omega arith in
     (c .before .before .before .before .pre, rw e at (l .inv .1 .0))
 
--- src/lib.rt:309:1
 returns-2 : tie.Need-returns-2 Inv-loop μ-loop
 unfolding or-else-check
 returns-2 c =

@@ -1,9 +1,5 @@
 -- `flow::form_of` meets its contract: each arm by the law on its kinds. Assumes nothing.
 use native.Mathlib.Omega.{arith}
-use mathlib.Core.Path.{_≡_, refl, sym, subst}
-use Prim.Native.Nat.{ℕ}
-use Rattle.flow.specs.Kinds.{kindOf}
-use Rattle.flow.specs.Forms.{form}
 use Rattle.flow.proofs.Arms.{is-leaf, is-two, is-two-inner, is-leaf-inner, is-none-low, is-none-high}
 use Rattle.flow.proofs.form_of.Statement.{statement}
 use Rattle.flow.proofs.form_of.Tie as tie
