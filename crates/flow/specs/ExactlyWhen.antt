@@ -9,7 +9,7 @@ use mathlib.Core.Logic.{_⊎_, inl, inr, ⊎-elim, _↔_, Iff·trans}
 use native.Mathlib.Omega.{arith}
 use native.Mathlib.Nat.{eq-or-lt-of-le}
 use lib.Dec.{T, T-not}
-use lib.ListN.{length, getD}
+use lib.ListN.{length}
 use Rattle.flow.specs.declared.Refusal.{Refusal}
 use Rattle.flow.specs.declared.Check.the-variants.{Refused}
 use Rattle.flow.specs.Refusals.{Ground, ground, each, count, after-closings, closings-wanted, table-check, table-grounds, nodes-grounds, node-grounds, child-grounds, records-check, records-grounds, value-grounds, values-grounds, closing-grounds}
