@@ -1,7 +1,7 @@
 -- What the conditions 6 to 8 say of each child where they do not hold, and how marks of taken children grow. Assumes nothing.
 use Prim.Native.Nat.{ℕ, suc, _+_, _<_}
-use mathlib.Core.Path.{_≡_, refl, sym, ap, ap₂, _∙_, subst}
-use mathlib.Core.Bool.{Bool, true, false, not, xor, _&&_, _||_, cond, or-true, or-false, or-assoc}
+use mathlib.Core.Path.{_≡_, refl, sym, ap, ap₂, _∙_}
+use mathlib.Core.Bool.{Bool, true, false, not, _&&_, _||_, cond, or-true, or-false, or-assoc}
 use mathlib.Core.List.{List}
 use native.Mathlib.Omega.{arith}
 use native.Mathlib.Numerals.{add-one}
@@ -9,11 +9,11 @@ use lib.Dec.{T, eqb, leb}
 use lib.ListN.{length, getD, set, length-set, replicate, getD-replicate}
 use lib.Seq.{getD-set-same, getD-set-other}
 use borrow.Author.Tests.{leb-false, eqb-true, eqb-false}
-use Rattle.flow.specs.Tests.{is-false, neither-one, neither-two, then-false, same-of-xor}
-use Rattle.flow.specs.Kinds.{kind, one-of, two-of, is-standard, of-standard}
+use Rattle.flow.specs.Tests.{is-false, neither-one, neither-two, then-false}
+use Rattle.flow.specs.Kinds.{one-of, two-of}
 use Rattle.flow.specs.Refusals.{has-one, has-two, not-lower, wrong-sort, child-taken, taken, is-child, count, refused, first, unknown-kind, wrong-field, node-grounds, nobodys-child, child-grounds}
 use Rattle.flow.specs.declared.Check.the-variants.{Fine}
-use Rattle.flow.specs.FirstRefusal.{None, none, more, single-held, single-passed}
+use Rattle.flow.specs.FirstRefusal.{None, more, single-held, single-passed}
 use Rattle.flow.specs.Forms.{Marks}
 
 module _ (ns : List ℕ) (i : ℕ) where

@@ -1,20 +1,20 @@
 -- What is known of a table that is not refused: how many nodes it has, that children are lower and of the right sort, that each
 -- node but the last is a child exactly once; so the table is a tree. Assumes nothing.
-use Prim.Native.Nat.{ℕ, zero, suc, _+_, _-_, _*_, _/_, _%_, _<_, _≤_}
+use Prim.Native.Nat.{ℕ, zero, suc, _+_, _-_, _*_, _%_, _<_, _≤_}
 use mathlib.Core.Path.{_≡_, refl, sym, ap, _∙_, subst}
 use mathlib.Core.Bool.{Bool, true, false, not, xor, _&&_, _||_}
-use mathlib.Core.List.{List, [], _∷_, _++_}
+use mathlib.Core.List.{List}
 use mathlib.Core.Logic.{_≢_}
 use native.Mathlib.Omega.{arith}
 use lib.Dec.{T, eqb, ltb, eqb→eq, eqb-refl}
-use lib.ListN.{length, getD, List·getD-eq-default}
-use borrow.Author.Tests.{eqb-true, eqb-false, ltb-true, ltb-false, not-true, not-false, eq-eqb, ne-eqb}
+use lib.ListN.{length, List·getD-eq-default}
+use borrow.Author.Tests.{eqb-true, eqb-false, ltb-true, ltb-false, not-false}
 use Rattle.flow.specs.declared.Check.the-variants.{Fine}
 use Rattle.flow.specs.Nodes.{Kid, kid1, kid2, Tree}
 use Rattle.flow.specs.Kinds.{Kind, Unknown, kindOf, kids, kind, one-of, two-of, shape, is-standard, of-standard}
-use Rattle.flow.specs.Refusals.{count, root, has-one, has-two, no-nodes, not-whole, too-many-nodes, wrong-sort, child-taken, nobodys-child, is-child, taken, table-check, table-grounds, nodes-grounds, node-grounds, child-grounds, each}
-use Rattle.flow.specs.Tests.{is-true, is-false, not-both, neither-one, neither-two, then-false, same-of-xor}
-use Rattle.flow.specs.FirstRefusal.{None, none, more, fine-exactly, none-append, none-each}
+use Rattle.flow.specs.Refusals.{count, has-one, has-two, no-nodes, not-whole, too-many-nodes, wrong-sort, child-taken, nobodys-child, is-child, taken, table-check, table-grounds, nodes-grounds, node-grounds, child-grounds, each}
+use Rattle.flow.specs.Tests.{is-false, not-both, neither-one, neither-two, then-false, same-of-xor}
+use Rattle.flow.specs.FirstRefusal.{None, more, fine-exactly, none-append, none-each}
 use Rattle.flow.specs.Children.{FineNode, fine-node, lower-one, lower-two}
 
 -- none of 1 to 9
@@ -140,6 +140,9 @@ module _ (ns : List ℕ) (fine : FineTable ns) where
   kid-lower i c (kid1 t e) = omega (arith, e, lower-one ns i (fine .node i (parent-within i t) .lower) t)
   kid-lower i c (kid2 t e) = omega (arith, e, lower-two ns i (fine .node i (parent-within i (two-means-one i t)) .lower) t)
 
+  pub kid-below : (i c : ℕ) → Kid (shape ns) i c → c < count ns
+  kid-below i c k = omega (arith, kid-lower i c k, kid-within i c k)
+
   -- 7
   pub sort-one : (i : ℕ) → T (has-one ns i) → is-standard (kind ns (one-of ns i)) ≡ of-standard (kind ns i)
   unfolding wrong-sort
@@ -186,6 +189,14 @@ module _ (ns : List ℕ) (fine : FineTable ns) where
       let f = fine .node i (parent-within i t) .free in
       let g = neither-two (has-one ns i && taken ns i (one-of ns i)) ((has-two ns i && taken ns i (two-of ns i)) || (has-two ns i && eqb (one-of ns i) (two-of ns i))) f in
       eqb-false (one-of ns i) (two-of ns i) (then-false (has-two ns i) (eqb (one-of ns i) (two-of ns i)) (neither-two (has-two ns i && taken ns i (two-of ns i)) _ g) u)
+
+  -- the three numbers of a node stand in the table
+  pub fine-node-long : (i : ℕ) → i < count ns → 3 * i + 2 < length ns
+  fine-node-long i h = omega (arith, fine .whole)
+
+  -- there is a root
+  pub fine-long : 3 ≤ length ns
+  fine-long = omega (arith, fine .whole, fine .some)
 
   -- a table that is not refused is a tree
   pub fine-tree : Tree (shape ns)

@@ -3,11 +3,13 @@ pub mod Nodes
 pub mod Kinds
 pub mod Records
 pub mod Refusals
+pub mod Given
 pub mod Forms
 pub mod Draws
 -- Theorems.
 pub mod Tests
 pub mod FirstRefusal
+pub mod ExactlyWhen
 pub mod Children
 pub mod Closings
 pub mod FineTable

@@ -1,11 +1,11 @@
 -- What is read off a table by going down from a node: a fold over falling node numbers, and what it depends on. What a tree is,
 -- and that the parts under two children are disjoint. Which tables are trees is in FineTable. Assumes nothing.
-use Prim.Native.Nat.{ℕ, zero, suc, _+_, _*_, _<_, _≤_}
+use Prim.Native.Nat.{ℕ, zero, suc, _<_, _≤_}
 use mathlib.Core.Path.{_≡_, refl, sym, _∙_, ap, ap₂, subst}
-use mathlib.Core.Bool.{Bool, true, false, not, _&&_, _||_, cond}
+use mathlib.Core.Bool.{Bool, true, false, _&&_, cond}
 use mathlib.Core.Logic.{_⊎_, inl, inr, _≢_}
 use native.Mathlib.Omega.{arith}
-use lib.Dec.{T, ltb, ltb→lt, nltb→le, lt→ltb}
+use lib.Dec.{T, ltb, ltb→lt, lt→ltb}
 
 -- which nodes have a first and a second child, and which these are
 pub record Shape : Type 0 where

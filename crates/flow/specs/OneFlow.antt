@@ -1,19 +1,19 @@
 -- A table that is not refused means exactly one flow, standard or compensable as its last node's kind is. Assumes nothing.
-use Prim.Native.Nat.{ℕ, zero, suc, _-_, _<_, _≤_}
+use Prim.Native.Nat.{ℕ, zero, suc, _<_}
 use mathlib.Core.Path.{_≡_, refl, sym, ap, _∙_, subst}
 use mathlib.Core.Bool.{Bool, true, false, not}
-use mathlib.Core.List.{List, [], _∷_}
+use mathlib.Core.List.{List}
 use native.Mathlib.Omega.{arith}
 use lib.Dec.{T, eqb}
-use borrow.Author.Tests.{eqb-true, not-true, not-false}
-use Rattle.calculus.specs.Term.{Std, Cmp, ev, leaf, skip, throw, yield, seq, alt, par, hnd, blk, pair, cseq, calt, cpar, skipp, throww, yieldd}
+use borrow.Author.Tests.{not-false}
+use Rattle.calculus.specs.Term.{Std, Cmp, seq, alt, par, hnd, blk, pair, cseq, calt, cpar}
 use Rattle.calculus.specs.Records.{State, over, std, cmp}
 use Rattle.flow.specs.declared.Check.the-variants.{Fine}
-use Rattle.flow.specs.Nodes.{Kid, kid1, kid2, Tree, fold, fold-is, fold-one, fold-two}
+use Rattle.flow.specs.Nodes.{kid1, kid2, Tree, fold-is, fold-one, fold-two}
 use Rattle.flow.specs.Kinds.{Kind, Event, Skip, Throw, Yield, Seq, Alt, Par, Hnd, Blk, Pair, CSeq, CAlt, CPar, Skipp, Throww, Yieldd, Unknown, kids, kind, one-of, two-of, shape, is-known, is-standard, of-standard}
 use Rattle.flow.specs.Refusals.{count, root, has-one, has-two, unknown-kind, table-check}
 use Rattle.flow.specs.Draws.{Draws, at-event, at-skip, at-throw, at-yield, at-seq, at-alt, at-par, at-hnd, at-blk, at-pair, at-cseq, at-calt, at-cpar, at-skipp, at-throww, at-yieldd, part, drawn, flow-of}
-use Rattle.flow.specs.FineTable.{FineTable, fine-table, fine-tree, kid-lower, kid-within, sort-one, sort-two}
+use Rattle.flow.specs.FineTable.{FineTable, fine-table, fine-tree, kid-lower, sort-one, sort-two}
 
 ---- What is drawn is what the function says ----
 

@@ -1,8 +1,8 @@
 -- What is refused: the refusal table of 01, numbers 1 to 13. First each number's own condition, in the table's words. Then the
 -- order in which they are looked at, as a list of grounds, each a number, a place and the condition there; a check answers the
 -- first ground that holds. `ns` are the numbers of the nodes, `rs` those of the records.
--- Definitions only: FirstRefusal proves "exactly when", FineTable what is known of a table that is not refused. 14 belongs to
--- whoever is lent room. Assumes nothing.
+-- Definitions only: Given has the table as it is printed, and ExactlyWhen proves that the checks answer it; FineTable proves what is
+-- known of a table that is not refused. 14 belongs to whoever is lent room. Assumes nothing.
 use Prim.Native.Nat.{ℕ, zero, suc, _-_, _/_, _%_}
 use mathlib.Core.Bool.{Bool, true, false, not, xor, _&&_, _||_, cond}
 use mathlib.Core.List.{List, [], _∷_, _++_}
@@ -11,7 +11,7 @@ use lib.ListN.{length, getD}
 use Rattle.flow.specs.declared.Refusal.{Refusal}
 use Rattle.flow.specs.declared.Check.{Check}
 use Rattle.flow.specs.declared.Check.the-variants.{Fine, Refused}
-use Rattle.flow.specs.Kinds.{Kind, kids, is-known, is-event, is-standard, of-standard, kind, one-of, two-of}
+use Rattle.flow.specs.Kinds.{kids, is-known, is-event, is-standard, of-standard, kind, one-of, two-of}
 use Rattle.flow.specs.Records.{is-event-number, is-closing-number}
 
 ---- The conditions on a node table ----
@@ -33,8 +33,11 @@ unfoldable pub not-whole : List ℕ → Bool
 not-whole ns = not (eqb (length ns % 3) 0)
 
 -- 3: "over 64 nodes"
+abbrev pub most-nodes : ℕ
+most-nodes = 64
+
 unfoldable pub too-many-nodes : List ℕ → Bool
-too-many-nodes ns = ltb 64 (count ns)
+too-many-nodes ns = ltb most-nodes (count ns)
 
 module _ (ns : List ℕ) (i : ℕ) where
   abbrev pub has-one : Bool
@@ -92,8 +95,11 @@ unfoldable pub no-records : List ℕ → Bool
 no-records rs = eqb (length rs) 0
 
 -- 11: "over 256"
+abbrev pub most-records : ℕ
+most-records = 256
+
 unfoldable pub too-many-records : List ℕ → Bool
-too-many-records rs = ltb 256 (length rs)
+too-many-records rs = ltb most-records (length rs)
 
 -- 12: "neither event nor closing"
 unfoldable pub no-record : ℕ → Bool

@@ -41,6 +41,10 @@ pub const FAILED: u16 = 61443;
 
 pub const MOST_EVENTS: u16 = 256;
 
+pub const MOST_NODES: usize = 64;
+
+pub const MOST_RECORDS: usize = 256;
+
 // The sixteen kinds.
 pub fn form_of(kind: u16) -> Form
     ensures { λ r. ⌜ r ≡ form (kindOf kind) ⌝ }
@@ -341,7 +345,7 @@ pub fn check_table(nodes: &[u16]) -> Check
     if nodes.len() % 3 != 0 {
         return refuse(2, 0);
     }
-    if nodes.len() / 3 > 64 {
+    if nodes.len() / 3 > MOST_NODES {
         return refuse(3, 0);
     }
     check_nodes(nodes)
@@ -402,7 +406,7 @@ pub fn check_records(nodes: &[u16], records: &[u16]) -> Check
     if records.len() == 0 {
         return refuse(10, 0);
     }
-    if records.len() > 256 {
+    if records.len() > MOST_RECORDS {
         return refuse(11, 0);
     }
     let values = check_values(records);
