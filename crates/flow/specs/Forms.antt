@@ -2,7 +2,7 @@
 -- marks of taken children say. Definitions only. Assumes nothing.
 use Prim.Native.Nat.{ℕ, _<_}
 use mathlib.Core.Path.{_≡_}
-use mathlib.Core.Bool.{Bool, false}
+use mathlib.Core.Bool.{Bool, true, false}
 use mathlib.Core.List.{List}
 use lib.ListN.{length, getD}
 use Rattle.flow.specs.declared.Form.{Form}
@@ -11,6 +11,13 @@ use Rattle.flow.specs.Refusals.{taken}
 
 abbrev pub form : Kind → Form
 form k = record { known = is-known k; standard = is-standard k; event = is-event k; kids = kids k; inner = of-standard k }
+
+-- of the kinds without children, and of those with them
+abbrev pub leaf-form : Bool → Bool → Form
+leaf-form standard event = record { known = true; standard = standard; event = event; kids = 0; inner = false }
+
+abbrev pub branch-form : Bool → ℕ → Bool → Form
+branch-form standard kids inner = record { known = true; standard = standard; event = false; kids = kids; inner = inner }
 
 -- the marks say which nodes are children of a node below i
 pub record Marks (ns : List ℕ) (i : ℕ) (marks : List Bool) : Type 0 where

@@ -8,7 +8,7 @@ ghost use Prim.Native.Nat.{ℕ, _+_, _*_, _-_, _<_, _≤_};
 ghost use lib.Dec.{T};
 ghost use lib.ListN.{length, getD, set};
 ghost use Rattle.flow.specs.Kinds.{kindOf, kind, one-of, two-of, is-standard};
-ghost use Rattle.flow.specs.Forms.{form, Marks};
+ghost use Rattle.flow.specs.Forms.{form, leaf-form, branch-form, Marks};
 ghost use Rattle.flow.specs.Records.{is-event-number, is-closing-number};
 ghost use Rattle.flow.specs.Refusals.{unknown-kind, wrong-field, not-lower, wrong-sort, child-taken, no-record, closings-wanted, refused, first, node-grounds, child-grounds, each, count, table-check, nodes-check, values-check, closings-check, records-check};
 
@@ -45,60 +45,44 @@ pub const MOST_NODES: usize = 64;
 
 pub const MOST_RECORDS: usize = 256;
 
+// A part without children.
+fn leaf(standard: bool, event: bool) -> Form
+    ensures { λ r. ⌜ r ≡ leaf-form standard event ⌝ }
+{
+    Form {
+        known: true,
+        standard,
+        event,
+        kids: 0,
+        inner: false,
+    }
+}
+
+// A part whose children are standard or compensable.
+fn branch(standard: bool, kids: u8, inner: bool) -> Form
+    ensures { λ r. ⌜ r ≡ branch-form standard kids inner ⌝ }
+{
+    Form {
+        known: true,
+        standard,
+        event: false,
+        kids,
+        inner,
+    }
+}
+
 // The sixteen kinds.
 pub fn form_of(kind: u16) -> Form
     ensures { λ r. ⌜ r ≡ form (kindOf kind) ⌝ }
 {
     match kind {
-        1 => Form {
-            known: true,
-            standard: true,
-            event: true,
-            kids: 0,
-            inner: false,
-        },
-        2..=4 => Form {
-            known: true,
-            standard: true,
-            event: false,
-            kids: 0,
-            inner: false,
-        },
-        5..=8 => Form {
-            known: true,
-            standard: true,
-            event: false,
-            kids: 2,
-            inner: true,
-        },
-        9 => Form {
-            known: true,
-            standard: true,
-            event: false,
-            kids: 1,
-            inner: false,
-        },
-        10 => Form {
-            known: true,
-            standard: false,
-            event: false,
-            kids: 2,
-            inner: true,
-        },
-        11..=13 => Form {
-            known: true,
-            standard: false,
-            event: false,
-            kids: 2,
-            inner: false,
-        },
-        14..=16 => Form {
-            known: true,
-            standard: false,
-            event: false,
-            kids: 0,
-            inner: false,
-        },
+        1 => leaf(true, true),
+        2..=4 => leaf(true, false),
+        5..=8 => branch(true, 2, true),
+        9 => branch(true, 1, false),
+        10 => branch(false, 2, true),
+        11..=13 => branch(false, 2, false),
+        14..=16 => leaf(false, false),
         _ => Form {
             known: false,
             standard: false,
