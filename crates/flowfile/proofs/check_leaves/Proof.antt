@@ -1,0 +1,98 @@
+use Rattle.flowfile.proofs.check_leaves.Statement.{statement}
+use Rattle.flowfile.proofs.check_leaves.Tie as tie
+use Rattle.flowfile.proofs.check_leaves.Reads as reads
+use Rattle.flowfile.proofs.check_leaves.Lts as lts
+use Rattle.flowfile.proofs.refusal.Reads as refusal-reads
+
+abbrev Inv-loop : tie.InvT-loop
+Inv-loop nodes names i₀ i = ?
+
+abbrev μ-loop : tie.MeasureT-loop
+μ-loop nodes names i₀ i = ?
+
+-- src/lib.rt:356:5
+loop-holds : tie.Need-loop-holds Inv-loop μ-loop
+loop-holds c = ?
+
+-- src/lib.rt:356:11
+mul-loop : tie.Need-mul-loop Inv-loop μ-loop
+mul-loop c = ?
+
+-- src/lib.rt:356:11
+add-loop : tie.Need-add-loop Inv-loop μ-loop
+add-loop c = ?
+
+-- src/lib.rt:357:18
+mul-if1 : tie.Need-mul-if1 Inv-loop μ-loop
+mul-if1 c = ?
+
+-- src/lib.rt:357:12
+mul-if1-2 : tie.Need-mul-if1-2 Inv-loop μ-loop
+mul-if1-2 c = ?
+
+-- src/lib.rt:357:12
+shared-slice-read-if1 : tie.Need-shared-slice-read-if1 Inv-loop μ-loop
+shared-slice-read-if1 c = ?
+
+-- src/lib.rt:357:47
+mul-if2 : tie.Need-mul-if2 Inv-loop μ-loop
+mul-if2 c = ?
+
+-- src/lib.rt:357:47
+add-if2 : tie.Need-add-if2 Inv-loop μ-loop
+add-if2 c = ?
+
+-- src/lib.rt:357:41
+mul-if2-2 : tie.Need-mul-if2-2 Inv-loop μ-loop
+mul-if2-2 c = ?
+
+-- src/lib.rt:357:41
+shared-slice-read-if2 : tie.Need-shared-slice-read-if2 Inv-loop μ-loop
+shared-slice-read-if2 c = ?
+
+-- src/lib.rt:358:35
+refusal-requires : tie.Need-refusal-requires Inv-loop μ-loop
+refusal-requires c κs = ?
+
+-- src/lib.rt:358:13
+returns : tie.Need-returns Inv-loop μ-loop
+returns c = ?
+
+-- src/lib.rt:360:9
+add-i : tie.Need-add-i Inv-loop μ-loop
+add-i c = ?
+
+-- src/lib.rt:356:5
+loop-less : tie.Need-loop-less Inv-loop μ-loop
+loop-less c = ?
+
+-- src/lib.rt:356:5
+loop-again : tie.Need-loop-again Inv-loop μ-loop
+loop-again c = ?
+
+-- src/lib.rt:351:1
+returns-2 : tie.Need-returns-2 Inv-loop μ-loop
+returns-2 c = ?
+
+pub check-leaves-spec : {M : Type 1} → statement M
+check-leaves-spec =
+    tie.close
+    (tie.spec
+    Inv-loop
+    μ-loop
+    loop-holds
+    mul-loop
+    add-loop
+    mul-if1
+    mul-if1-2
+    shared-slice-read-if1
+    mul-if2
+    add-if2
+    mul-if2-2
+    shared-slice-read-if2
+    refusal-requires
+    returns
+    add-i
+    loop-less
+    loop-again
+    returns-2)

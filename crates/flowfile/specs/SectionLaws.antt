@@ -1,0 +1,192 @@
+-- What the plans of counts, numbers, entries and the three sections come to, by the runs of their parts. Assumes nothing.
+use Prim.Native.Nat.{ℕ, zero, suc, _+_, _*_, _-_, _≤_, _<_}
+use mathlib.Core.Bool.{Bool, true, false, _&&_, cond}
+use mathlib.Core.List.{List, [], _∷_, _++_}
+use mathlib.Core.Logic.{_⊎_, inl, inr}
+use mathlib.Core.Path.{_≡_, refl, ap, ap₂, sym, _∙_, subst}
+use native.Mathlib.Numerals.{add-one}
+use native.Mathlib.Omega.{arith}
+use borrow.Author.Tests.{leb-true, leb-false, le-leb, lt-leb, lt-ltb, le-ltb, eq-eqb, ne-eqb, ltb-true, ltb-false, eqb-false}
+use lib.Dec.{ltb, eqb}
+use lib.ListN.{length, getD}
+use Rattle.flowfile.specs.Format.{Entry, File}
+use Rattle.flowfile.specs.Plan.{Plan, done, refuse, place, item, _>>=_, Ran, got, bad, run}
+use Rattle.flowfile.specs.Plans.{run-bind, bind-bad, bind-got}
+use Rattle.flowfile.specs.Reading.{number, entry, met, new-entry, entries, name-count, names, some-count, numbers, layout}
+use Rattle.flowfile.specs.Items.{number-at, values, entry-at, entry-end, entries-at, entries-end}
+use Rattle.flowfile.specs.ItemLaws.{le-or-lt, got-value, got-next, number-cut, number-got, entry-there, EntryThere}
+
+---- A number ----
+
+-- what a number that was read is, and where it ends
+pub record NumberThere (s : List ℕ) (at v next : ℕ) : Type 0 where
+  pub is : v ≡ number-at s at
+  pub ends : next ≡ at + 2
+  pub inside : at + 2 ≤ length s
+
+module _ (s : List ℕ) (at : ℕ) where
+  pub number-there : {v next : ℕ} → run s at number ≡ got v next → NumberThere s at v next
+  number-there {v} {next} e = by (le-or-lt (at + 2) (length s))
+    where
+      by : (at + 2 ≤ length s) ⊎ (length s < at + 2) → NumberThere s at v next
+      by (inl h) = let g = sym e ∙ number-got s at h in record { is = got-value g; ends = got-next g; inside = h }
+      by (inr h) = let b = number-cut s at h in let z : _≡_ {A = ℕ} 0 1 = cc in absurd (omega arith)
+
+---- Counts ----
+
+  counted : ℕ → Plan ℕ
+  counted n = cond (ltb 256 n) (refuse 16 at) (done n)
+
+  pub name-count-bad : {n p : ℕ} → run s at number ≡ bad n p → run s at name-count ≡ bad n p
+  unfolding name-count run counted
+  name-count-bad e = bind-bad s at number counted e
+
+  module _ {v next : ℕ} (e : run s at number ≡ got v next) where
+    pub name-count-many : 256 < v → run s at name-count ≡ bad 16 at
+    unfolding name-count run counted
+    name-count-many h = bind-got s at number counted e ∙ rw (lt-ltb 256 v h)
+
+    pub name-count-got : v ≤ 256 → run s at name-count ≡ got v next
+    unfolding name-count run counted
+    name-count-got h = bind-got s at number counted e ∙ rw (le-ltb 256 v h)
+
+  module _ (none over most : ℕ) where
+    some-counted : ℕ → Plan ℕ
+    some-counted n = cond (eqb n 0) (refuse none at) (cond (ltb most n) (refuse over at) (done n))
+
+    pub some-count-bad : {n p : ℕ} → run s at number ≡ bad n p → run s at (some-count none over most) ≡ bad n p
+    unfolding some-count run some-counted
+    some-count-bad e = bind-bad s at number some-counted e
+
+    module _ {v next : ℕ} (e : run s at number ≡ got v next) where
+      pub some-count-none : v ≡ 0 → run s at (some-count none over most) ≡ bad none at
+      unfolding some-count run some-counted
+      some-count-none h = bind-got s at number some-counted e ∙ rw (eq-eqb v 0 h)
+
+      module _ (n : v ≡ 0 → ⊥) where
+        pub some-count-over : most < v → run s at (some-count none over most) ≡ bad over at
+        unfolding some-count run some-counted
+        some-count-over h = bind-got s at number some-counted e ∙ rw (ne-eqb v 0 n, lt-ltb most v h)
+
+        pub some-count-got : v ≤ most → run s at (some-count none over most) ≡ got v next
+        unfolding some-count run some-counted
+        some-count-got h = bind-got s at number some-counted e ∙ rw (ne-eqb v 0 n, le-ltb most v h)
+
+---- Numbers ----
+
+module _ (s : List ℕ) where
+  rest-of : ℕ → ℕ → Plan (List ℕ)
+  rest-of k n = numbers k >>= (λ ns. done (n ∷ ns))
+
+  pub numbers-bad : (k at : ℕ) {n p : ℕ} → run s at number ≡ bad n p → run s at (numbers (suc k)) ≡ bad n p
+  unfolding numbers rest-of
+  numbers-bad k at e = bind-bad s at number (rest-of k) e
+
+  module _ (k at : ℕ) (h : at + 2 ≤ length s) where
+    pub numbers-next-bad : {n p : ℕ} → run s (at + 2) (numbers k) ≡ bad n p → run s at (numbers (suc k)) ≡ bad n p
+    unfolding numbers rest-of
+    numbers-next-bad e = bind-got s at number (rest-of k) (number-got s at h) ∙ bind-bad s (at + 2) (numbers k) _ e
+
+    pub numbers-next-got : {ns : List ℕ} {next : ℕ} → run s (at + 2) (numbers k) ≡ got ns next → run s at (numbers (suc k)) ≡ got (number-at s at ∷ ns) next
+    unfolding numbers rest-of run
+    numbers-next-got e = bind-got s at number (rest-of k) (number-got s at h) ∙ bind-got s (at + 2) (numbers k) _ e
+
+  pub numbers-got : (k at : ℕ) → at + 2 * k ≤ length s → run s at (numbers k) ≡ got (values s k at) (at + 2 * k)
+  unfolding numbers run values
+  numbers-got zero at h = ap (λ (n : ℕ). got [] n) (omega arith)
+  numbers-got (suc k) at h =
+      numbers-next-got k at (omega arith) (numbers-got k (at + 2) (omega arith))
+      ∙ ap (λ (n : ℕ). got (number-at s at ∷ values s k (at + 2)) n) (omega arith)
+
+  -- the first numbers stand whole, and the next one is refused
+  pub numbers-stop : (i k at : ℕ) {n p : ℕ} → i < k → at + 2 * i ≤ length s → run s (at + 2 * i) number ≡ bad n p → run s at (numbers k) ≡ bad n p
+  numbers-stop i zero at h l e = absurd (omega arith)
+  numbers-stop zero (suc k) at {n} {p} h l e =
+      let d : at + 2 * 0 ≡ at = omega arith in
+      numbers-bad k at (subst (λ (x : ℕ). run s x number ≡ bad n p) d e)
+  numbers-stop (suc i) (suc k) at {n} {p} h l e =
+      let d : at + 2 * suc i ≡ (at + 2) + 2 * i = omega arith in
+      numbers-next-bad k at (omega arith)
+      (numbers-stop i k (at + 2) (omega arith) (omega arith) (subst (λ (x : ℕ). run s x number ≡ bad n p) d e))
+
+---- Entries ----
+
+  pub entries-at-more : (i at : ℕ) → entries-at s (suc i) at ≡ entries-at s i at ++ (entry-at s (entries-end s i at) ∷ [])
+  unfolding entries-at entries-end
+  entries-at-more zero at = refl
+  entries-at-more (suc i) at = ap (λ (es : List Entry). entry-at s at ∷ es) (entries-at-more i (entry-end s at))
+
+  pub entries-end-more : (i at : ℕ) → entries-end s (suc i) at ≡ entry-end s (entries-end s i at)
+  unfolding entries-end
+  entries-end-more zero at = refl
+  entries-end-more (suc i) at = entries-end-more i (entry-end s at)
+
+  -- the walk goes forward
+  pub entries-end-le : (i at : ℕ) → at ≤ entries-end s i at
+  unfolding entries-end
+  entries-end-le zero at = omega arith
+  entries-end-le (suc i) at = omega (arith, entries-end-le i (entry-end s at))
+
+module _ (s : List ℕ) (at : ℕ) (earlier : List Entry) where
+  fresh : Entry → Plan Entry
+  fresh e = cond (met e earlier) (refuse 18 at) (done e)
+
+  pub new-entry-bad : {n p : ℕ} → run s at entry ≡ bad n p → run s at (new-entry earlier) ≡ bad n p
+  unfolding new-entry run fresh
+  new-entry-bad e = bind-bad s at entry fresh e
+
+  module _ {e : Entry} {next : ℕ} (h : run s at entry ≡ got e next) where
+    pub new-entry-met : met e earlier ≡ true → run s at (new-entry earlier) ≡ bad 18 at
+    unfolding new-entry run fresh
+    new-entry-met m = bind-got s at entry fresh h ∙ rw m
+
+    pub new-entry-got : met e earlier ≡ false → run s at (new-entry earlier) ≡ got e next
+    unfolding new-entry run fresh
+    new-entry-got m = bind-got s at entry fresh h ∙ rw m
+
+  -- an entry that is read as a new one is an entry that is read, and none of the earlier ones
+  pub record NewThere (e : Entry) (next : ℕ) : Type 0 where
+    pub read : run s at entry ≡ got e next
+    pub there : EntryThere s at e next
+    pub new : met e earlier ≡ false
+
+  pub new-entry-there : {e : Entry} {next : ℕ} → run s at (new-entry earlier) ≡ got e next → NewThere e next
+  new-entry-there {e} {next} h = by-entry (run s at entry) refl
+    where
+      not-bad : {k p : ℕ} → run s at (new-entry earlier) ≡ bad k p → NewThere e next
+      not-bad b = let z : _≡_ {A = ℕ} 0 1 = cc in absurd (omega arith)
+      by-met : {g : Entry} {last : ℕ} → run s at entry ≡ got g last → (b : Bool) → met g earlier ≡ b → NewThere e next
+      by-met a true m = not-bad (new-entry-met a m)
+      by-met {g} {last} a false m =
+          let q : got g last ≡ got e next = sym (new-entry-got a m) ∙ h in
+          let d : g ≡ e = got-value q in
+          record { read = a ∙ q; there = entry-there s at (a ∙ q); new = subst (λ (x : Entry). met x earlier ≡ false) d m }
+      by-entry : (x : Ran Entry) → run s at entry ≡ x → NewThere e next
+      by-entry (got g last) a = by-met a (met g earlier) refl
+      by-entry (bad k p) a = not-bad (new-entry-bad a)
+
+  then-more : ℕ → Entry → Plan (List Entry)
+  then-more k e = entries k (earlier ++ (e ∷ []))
+
+  pub entries-bad : (k : ℕ) {n p : ℕ} → run s at (new-entry earlier) ≡ bad n p → run s at (entries (suc k) earlier) ≡ bad n p
+  unfolding entries then-more
+  entries-bad k e = bind-bad s at (new-entry earlier) (then-more k) e
+
+  pub entries-more : (k : ℕ) {e : Entry} {next : ℕ} → run s at (new-entry earlier) ≡ got e next
+      → run s at (entries (suc k) earlier) ≡ run s next (entries k (earlier ++ (e ∷ [])))
+  unfolding entries then-more
+  entries-more k h = bind-got s at (new-entry earlier) (then-more k) h
+
+---- The names section ----
+
+module _ (s : List ℕ) where
+  all-entries : ℕ → Plan (List Entry)
+  all-entries n = entries n []
+
+  pub names-bad : {n p : ℕ} → run s 0 name-count ≡ bad n p → run s 0 names ≡ bad n p
+  unfolding names all-entries
+  names-bad e = bind-bad s 0 name-count all-entries e
+
+  pub names-from : {v next : ℕ} → run s 0 name-count ≡ got v next → run s 0 names ≡ run s next (entries v [])
+  unfolding names all-entries
+  names-from e = bind-got s 0 name-count all-entries e
