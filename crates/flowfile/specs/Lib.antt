@@ -6,3 +6,4 @@ pub mod Reading
 pub mod Items
 pub mod ItemLaws
 pub mod SectionLaws
+pub mod NameLaws

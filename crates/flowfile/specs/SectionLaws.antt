@@ -109,6 +109,15 @@ module _ (s : List ℕ) where
       numbers-next-bad k at (omega arith)
       (numbers-stop i k (at + 2) (omega arith) (omega arith) (subst (λ (x : ℕ). run s x number ≡ bad n p) d e))
 
+  -- the same, at an offset that is known to be theirs
+  pub numbers-stop-at : (i k at m : ℕ) {n p : ℕ} → m ≡ at + 2 * i → i < k → at + 2 * i ≤ length s → run s m number ≡ bad n p → run s at (numbers k) ≡ bad n p
+  numbers-stop-at i k at m {n} {p} d h l e = numbers-stop i k at h l (subst (λ (x : ℕ). run s x number ≡ bad n p) d e)
+
+  pub values-length : (k at : ℕ) → length (values s k at) ≡ k
+  unfolding values
+  values-length zero at = refl
+  values-length (suc k) at = ap suc (values-length k (at + 2))
+
 ---- Entries ----
 
   pub entries-at-more : (i at : ℕ) → entries-at s (suc i) at ≡ entries-at s i at ++ (entry-at s (entries-end s i at) ∷ [])

@@ -287,7 +287,7 @@ fn some_count_at(file: &[u8], c: Cursor, none: u16, over: u16, most: u16) -> Ite
 
 // So many numbers, one after the other. The value is how many.
 fn numbers_at(file: &[u8], c: Cursor, count: u16) -> Item
-    requires { ⌜ (c .at < 64000) × (count ≤ 256) ⌝ }
+    requires { ⌜ (c .at < 64000) × (c .at ≤ length (now file)) × (count ≤ 256) ⌝ }
     ensures { λ r. ⌜ r ≡ answered length (run (now (file .entry)) (c .at) (numbers count)) ⌝ }
 {
     let mut next = c;

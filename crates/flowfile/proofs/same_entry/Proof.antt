@@ -1,3 +1,9 @@
+use Rattle.flowfile.specs.Items.{name-at}
+use Rattle.flowfile.specs.Reading.{same, same-entry}
+use denote.Ref.{now}
+use Prim.Native.Nat.{ℕ}
+use native.Mathlib.Omega.{arith}
+use mathlib.Core.Path.{_≡_, refl, ap, ap₂, sym, _∙_}
 use borrow.Author.Needs.{needs}
 use Rattle.flowfile.proofs.same_entry.Statement.{statement}
 use Rattle.flowfile.proofs.same_entry.Tie as tie
@@ -20,15 +26,20 @@ end-of-name-requires-2 c κs = search needs
 
 -- src/lib.rt:189:9
 same-name-requires-2 : tie.Need-same-name-requires-2
-same-name-requires-2 c κs = ?
+same-name-requires-2 c κs = (rw (c .before .end-of-name .ensures) (c .before .before .before .before .before .pre .0), rw (c .end-of-name2 .ensures) (c .before .before .before .before .before .pre .1))
 
 -- src/lib.rt:184:1
 returns : tie.Need-returns
-returns c = ?
+unfolding same-entry
+returns c = 
+    let s = now (c .before .before .before .before .before .before .args .file) in
+    let t = sym (c .before .before .before .before .same-name .ensures) ∙ c .before .before .before .if1 .taken in
+    rw t (c .same-name2 .ensures ∙ ap₂ (λ (m n : ℕ). same (name-at s m) (name-at s n)) (c .before .before .end-of-name .ensures) (c .before .end-of-name2 .ensures))
 
 -- src/lib.rt:184:1
 returns-2 : tie.Need-returns-2
-returns-2 c = ?
+unfolding same-entry
+returns-2 c = rw (sym (c .before .same-name .ensures) ∙ c .if1 .left)
 
 pub same-entry-spec : {M : Type 1} → statement M
 same-entry-spec =

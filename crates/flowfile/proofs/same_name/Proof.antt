@@ -1,3 +1,11 @@
+use lib.ListN.{getD}
+use Prim.Native.Nat.{_-_}
+use Rattle.flowfile.specs.Reading.{same}
+use lib.ListN.{take, drop}
+use denote.Ref.{now}
+use Prim.Native.Nat.{ℕ, _+_}
+use native.Mathlib.Omega.{arith}
+use mathlib.Core.Path.{_≡_, refl, ap, ap₂, sym, _∙_}
 use borrow.Author.Needs.{needs}
 use Rattle.flowfile.proofs.same_name.Statement.{statement}
 use Rattle.flowfile.proofs.same_name.Tie as tie
@@ -52,7 +60,13 @@ same-requires c κs = search needs
 
 -- src/lib.rt:172:1
 returns : tie.Need-returns
-returns c = ?
+returns c = 
+    let s = now (c .before .before .before .before .before .before .args .file) in
+    let a = c .before .before .before .before .before .before .args .a in
+    let b = c .before .before .before .before .before .before .args .b in
+    let d : c .before .before .before .before .end-of-name .result - (a + 1) ≡ getD s a 0 = omega arith in
+    let e : c .before .before .before .end-of-name2 .result - (b + 1) ≡ getD s b 0 = omega arith in
+    c .same .ensures ∙ ap₂ (λ (m n : ℕ). same (take m (drop (a + 1) s)) (take n (drop (b + 1) s))) d e
 
 pub same-name-spec : {M : Type 1} → statement M
 same-name-spec =
