@@ -34,6 +34,11 @@ module _ (s : List ℕ) (at : ℕ) where
 
 ---- Counts ----
 
+not-zero : (v : ℕ) → (v ≡ 0 → ⊥) → 1 ≤ v
+not-zero zero n = absurd (n refl)
+not-zero (suc v) n = omega arith
+
+module _ (s : List ℕ) (at : ℕ) where
   counted : ℕ → Plan ℕ
   counted n = cond (ltb 256 n) (refuse 16 at) (done n)
 
@@ -71,6 +76,48 @@ module _ (s : List ℕ) (at : ℕ) where
         pub some-count-got : v ≤ most → run s at (some-count none over most) ≡ got v next
         unfolding some-count run some-counted
         some-count-got h = bind-got s at number some-counted e ∙ rw (ne-eqb v 0 n, le-ltb most v h)
+
+-- what a count that was read is, and where it ends
+pub record CountThere (s : List ℕ) (at most v next : ℕ) : Type 0 where
+  pub there : NumberThere s at v next
+  pub few : v ≤ most
+
+module _ (s : List ℕ) (at : ℕ) where
+  pub name-count-there : {v next : ℕ} → run s at name-count ≡ got v next → CountThere s at 256 v next
+  name-count-there {v} {next} e = by-number (run s at number) refl
+    where
+      not-bad : {k p : ℕ} → run s at name-count ≡ bad k p → CountThere s at 256 v next
+      not-bad b = let z : _≡_ {A = ℕ} 0 1 = cc in absurd (omega arith)
+      by-size : {w last : ℕ} → run s at number ≡ got w last → (w ≤ 256) ⊎ (256 < w) → CountThere s at 256 v next
+      by-size {w} {last} a (inl l) =
+          let q : got w last ≡ got v next = sym (name-count-got s at a l) ∙ e in
+          record { there = number-there s at (a ∙ q); few = subst (λ (x : ℕ). x ≤ 256) (got-value q) l }
+      by-size a (inr l) = not-bad (name-count-many s at a l)
+      by-number : (x : Ran ℕ) → run s at number ≡ x → CountThere s at 256 v next
+      by-number (got w last) a = by-size a (le-or-lt w 256)
+      by-number (bad k p) a = not-bad (name-count-bad s at a)
+
+  module _ (none over most : ℕ) where
+    pub some-count-there : {v next : ℕ} → run s at (some-count none over most) ≡ got v next → CountThere s at most v next × (1 ≤ v)
+    some-count-there {v} {next} e = by-number (run s at number) refl
+      where
+        not-bad : {k p : ℕ} → run s at (some-count none over most) ≡ bad k p → CountThere s at most v next × (1 ≤ v)
+        not-bad b = let z : _≡_ {A = ℕ} 0 1 = cc in absurd (omega arith)
+        by-most : {w last : ℕ} → run s at number ≡ got w last → (w ≡ 0 → ⊥) → (w ≤ most) ⊎ (most < w) → CountThere s at most v next × (1 ≤ v)
+        by-most {w} {last} a n (inl l) =
+            let q : got w last ≡ got v next = sym (some-count-got s at none over most a n l) ∙ e in
+            let d : w ≡ v = got-value q in
+            (record { there = number-there s at (a ∙ q); few = subst (λ (x : ℕ). x ≤ most) d l }, by-zero d)
+          where
+            by-zero : w ≡ v → 1 ≤ v
+            by-zero d = not-zero v (λ z. n (d ∙ z))
+        by-most a n (inr l) = not-bad (some-count-over s at none over most a n l)
+        by-none : {w last : ℕ} → run s at number ≡ got w last → (w ≤ 0) ⊎ (0 < w) → CountThere s at most v next × (1 ≤ v)
+        by-none a (inl z) = not-bad (some-count-none s at none over most a (omega arith))
+        by-none {w} a (inr z) = by-most a (λ q. omega arith) (le-or-lt w most)
+        by-number : (x : Ran ℕ) → run s at number ≡ x → CountThere s at most v next × (1 ≤ v)
+        by-number (got w last) a = by-none a (le-or-lt w 0)
+        by-number (bad k p) a = not-bad (some-count-bad s at none over most a)
 
 ---- Numbers ----
 
@@ -199,3 +246,69 @@ module _ (s : List ℕ) where
   pub names-from : {v next : ℕ} → run s 0 name-count ≡ got v next → run s 0 names ≡ run s next (entries v [])
   unfolding names all-entries
   names-from e = bind-got s 0 name-count all-entries e
+
+  pub entries-at-length : (k at : ℕ) → length (entries-at s k at) ≡ k
+  unfolding entries-at
+  entries-at-length zero at = refl
+  entries-at-length (suc k) at = ap suc (entries-at-length k (entry-end s at))
+
+---- The names scan ----
+
+-- the first i of n entries are read, and `at` is behind them
+pub record Scanned (s : List ℕ) (n i at : ℕ) : Type 0 where
+  pub some : i ≤ n
+  pub few : n ≤ 256
+  pub here : at ≡ entries-end s i 2
+  pub near : at ≤ 2 + 82 * i
+  pub inside : at ≤ length s
+  pub goes-on : run s 0 names ≡ run s at (entries (n - i) (entries-at s i 2))
+
+module _ (s : List ℕ) where
+  pub scan-start : {v next : ℕ} → run s 0 name-count ≡ got v next → Scanned s v 0 next
+  unfolding entries-at entries-end
+  scan-start {v} {next} e =
+      let t = name-count-there s 0 e in
+      let z : v - 0 ≡ v = omega arith in
+      record
+        { some = omega arith
+        ; few = t .few
+        ; here = t .there .ends
+        ; near = omega (arith, t .there .ends)
+        ; inside = omega (arith, t .there .ends, t .there .inside)
+        ; goes-on = names-from s e ∙ ap (λ (k : ℕ). run s next (entries k [])) (sym z)
+        }
+
+  module _ {n i at : ℕ} (h : Scanned s n i at) where
+    module _ (l : i < n) where
+      left-over : n - i ≡ suc (n - (i + 1))
+      left-over = omega arith
+
+      pub scan-stop : {k p : ℕ} → run s at (new-entry (entries-at s i 2)) ≡ bad k p → run s 0 names ≡ bad k p
+      scan-stop e =
+          h .goes-on ∙ ap (λ (k : ℕ). run s at (entries k (entries-at s i 2))) left-over
+          ∙ entries-bad s at (entries-at s i 2) (n - (i + 1)) e
+
+      pub scan-more : {e : Entry} {next : ℕ} → run s at (new-entry (entries-at s i 2)) ≡ got e next → Scanned s n (i + 1) next
+      scan-more {e} {next} g =
+          let t = new-entry-there s at (entries-at s i 2) g .there in
+          let d : e ≡ entry-at s (entries-end s i 2) = t .is ∙ ap (entry-at s) (h .here) in
+          let more : entries-at s (i + 1) 2 ≡ entries-at s i 2 ++ (e ∷ []) =
+                ap (λ (k : ℕ). entries-at s k 2) (add-one i) ∙ entries-at-more s i 2 ∙ ap (λ (x : Entry). entries-at s i 2 ++ (x ∷ [])) (sym d) in
+          record
+            { some = omega arith
+            ; few = h .few
+            ; here = t .ends ∙ ap (entry-end s) (h .here) ∙ sym (entries-end-more s i 2) ∙ ap (λ (k : ℕ). entries-end s k 2) (sym (add-one i))
+            ; near = omega (arith, t .ends, t .short, h .near)
+            ; inside = omega (arith, t .ends, t .inside)
+            ; goes-on =
+                h .goes-on ∙ ap (λ (k : ℕ). run s at (entries k (entries-at s i 2))) left-over
+                ∙ entries-more s at (entries-at s i 2) (n - (i + 1)) g
+                ∙ ap (λ (es : List Entry). run s next (entries (n - (i + 1)) es)) (sym more)
+            }
+
+    pub scan-end : n ≤ i → run s 0 names ≡ got (entries-at s n 2) at
+    unfolding entries run
+    scan-end l =
+        let z : n - i ≡ 0 = omega arith in
+        let e : i ≡ n = omega (arith, h .some) in
+        h .goes-on ∙ ap₂ (λ (k j : ℕ). run s at (entries k (entries-at s j 2))) z e
