@@ -7,3 +7,4 @@ pub mod Items
 pub mod ItemLaws
 pub mod SectionLaws
 pub mod NameLaws
+pub mod LayoutLaws
