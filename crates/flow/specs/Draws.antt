@@ -61,10 +61,8 @@ part Yieldd k a b = cmp yieldd
 part Unknown k a b = over
 
 unfoldable pub drawn : List ℕ → ℕ → State
-unfolding part
 drawn ns i = fold (shape ns) over (λ j a b. part (kind ns j) (one-of ns j) a b) i
 
 -- the flow of the last node
 unfoldable pub flow-of : List ℕ → State
-unfolding drawn
 flow-of ns = drawn ns (root ns)

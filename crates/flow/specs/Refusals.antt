@@ -4,9 +4,9 @@
 -- Definitions only: FirstRefusal proves "exactly when", FineTable what is known of a table that is not refused. 14 belongs to
 -- whoever is lent room. Assumes nothing.
 use Prim.Native.Nat.{ℕ, zero, suc, _-_, _/_, _%_}
-use mathlib.Core.Bool.{Bool, true, false, not, _&&_, _||_, cond}
+use mathlib.Core.Bool.{Bool, true, false, not, xor, _&&_, _||_, cond}
 use mathlib.Core.List.{List, [], _∷_, _++_}
-use lib.Dec.{eqb, ltb}
+use lib.Dec.{eqb, leb, ltb}
 use lib.ListN.{length, getD}
 use Rattle.flow.specs.declared.Refusal.{Refusal}
 use Rattle.flow.specs.declared.Check.{Check}
@@ -50,17 +50,13 @@ module _ (ns : List ℕ) (i : ℕ) where
   -- 5: "event out of 1 to 256, or an unused field not 0"
   unfoldable pub wrong-field : Bool
   wrong-field =
-      cond (is-event (kind ns i)) (not (is-event-number (one-of ns i))) (not has-one && not (eqb (one-of ns i) 0))
-      || (not has-two && not (eqb (two-of ns i) 0))
+      (is-event (kind ns i) && not (is-event-number (one-of ns i)))
+      || ((not (is-event (kind ns i)) && (eqb (kids (kind ns i)) 0 && not (eqb (one-of ns i) 0)))
+      || (not has-two && not (eqb (two-of ns i) 0)))
 
   -- 6: "child not lower than its parent"
   unfoldable pub not-lower : Bool
-  not-lower = (has-one && not (ltb (one-of ns i) i)) || (has-two && not (ltb (two-of ns i) i))
-
--- whether two sorts differ
-abbrev pub differ : Bool → Bool → Bool
-differ true b = not b
-differ false b = b
+  not-lower = (has-one && leb i (one-of ns i)) || (has-two && leb i (two-of ns i))
 
 -- whether node c is a child of node j
 unfoldable pub is-child : List ℕ → ℕ → ℕ → Bool
@@ -68,7 +64,6 @@ is-child ns j c = (has-one ns j && eqb (one-of ns j) c) || (has-two ns j && eqb 
 
 -- whether node c is a child of a node below i
 unfoldable pub taken : List ℕ → ℕ → ℕ → Bool
-unfolding is-child
 taken ns zero c = false
 taken ns (suc j) c = taken ns j c || is-child ns j c
 
@@ -76,19 +71,18 @@ module _ (ns : List ℕ) (i : ℕ) where
   -- 7: "child of the wrong sort"
   unfoldable pub wrong-sort : Bool
   wrong-sort =
-      let wrong : ℕ → Bool = λ c. differ (is-standard (kind ns c)) (of-standard (kind ns i)) in
+      let wrong : ℕ → Bool = λ c. xor (is-standard (kind ns c)) (of-standard (kind ns i)) in
       (has-one ns i && wrong (one-of ns i)) || (has-two ns i && wrong (two-of ns i))
 
   -- 8: "child taken already, or the same child twice"
   unfoldable pub child-taken : Bool
-  unfolding taken
   child-taken =
-      (has-one ns i && taken ns i (one-of ns i)) || (has-two ns i && taken ns i (two-of ns i))
-      || (has-two ns i && eqb (one-of ns i) (two-of ns i))
+      (has-one ns i && taken ns i (one-of ns i))
+      || ((has-two ns i && taken ns i (two-of ns i))
+      || (has-two ns i && eqb (one-of ns i) (two-of ns i)))
 
   -- 9: "node other than the last is nobody's child"; the last is left out where these grounds are listed
   unfoldable pub nobodys-child : Bool
-  unfolding taken
   nobodys-child = not (taken ns (count ns) i)
 
 ---- The conditions on a record list ----
@@ -103,7 +97,6 @@ too-many-records rs = ltb 256 (length rs)
 
 -- 12: "neither event nor closing"
 unfoldable pub no-record : ℕ → Bool
-unfolding is-event-number is-closing-number
 no-record r = not (is-event-number r || is-closing-number r)
 
 -- 01: "A standard root takes events and then one closing, last. A compensable root takes forward events, a closing, compensation
@@ -113,7 +106,6 @@ closings-wanted ns = cond (is-standard (kind ns (root ns))) 1 2
 
 -- the records end with the n-th closing
 unfoldable pub closed : List ℕ → ℕ → Bool
-unfolding is-closing-number
 closed [] zero = true
 closed [] (suc n) = false
 closed (r ∷ rs) zero = false
@@ -121,12 +113,10 @@ closed (r ∷ rs) (suc n) = closed rs (cond (is-closing-number r) n (suc n))
 
 -- 13: "closings not as the root needs"
 unfoldable pub wrong-closings : List ℕ → List ℕ → Bool
-unfolding closings-wanted closed
 wrong-closings ns rs = not (closed rs (closings-wanted ns))
 
 -- "first record after the one or two closings the root needs, or the number of records if closings are too few"
 unfoldable pub after-closings : List ℕ → ℕ → ℕ
-unfolding is-closing-number
 after-closings [] n = 0
 after-closings (r ∷ rs) zero = 0
 after-closings (r ∷ rs) (suc n) = suc (after-closings rs (cond (is-closing-number r) n (suc n)))
@@ -141,6 +131,9 @@ pub record Ground : Type 0 where
 abbrev pub ground : ℕ → ℕ → Bool → Ground
 ground number place holds = record { refusal = record { number = number; place = place }; holds = holds }
 
+abbrev pub refused : ℕ → ℕ → Check
+refused number place = Refused (record { number = number; place = place })
+
 -- the first refusal wins
 unfoldable pub or-else-check : Check → Check → Check
 or-else-check Fine c = c
@@ -152,7 +145,6 @@ answer g = cond (g .holds) (Refused (g .refusal)) Fine
 
 -- the first ground that holds
 unfoldable pub first : List Ground → Check
-unfolding answer or-else-check
 first [] = Fine
 first (g ∷ gs) = or-else-check (answer g) (first gs)
 
@@ -163,7 +155,6 @@ each f i (suc k) = f i ++ each f (suc i) k
 
 -- "nodes .., each in the order 4 to 8"
 unfoldable pub node-grounds : List ℕ → ℕ → List Ground
-unfolding unknown-kind wrong-field not-lower wrong-sort child-taken
 node-grounds ns i =
     ground 4 i (unknown-kind ns i)
     ∷ ground 5 i (wrong-field ns i)
@@ -173,58 +164,50 @@ node-grounds ns i =
     ∷ []
 
 unfoldable pub child-grounds : List ℕ → ℕ → List Ground
-unfolding nobodys-child
 child-grounds ns i = ground 9 i (nobodys-child ns i) ∷ []
 
 -- "then nodes from 0 up ..; then 9", which is of no place but a "node other than the last"
 unfoldable pub nodes-grounds : List ℕ → List Ground
-unfolding each node-grounds child-grounds
 nodes-grounds ns = each (node-grounds ns) 0 (count ns) ++ each (child-grounds ns) 0 (count ns - 1)
 
 -- "Judging checks 1 to 3; then nodes"
 unfoldable pub table-grounds : List ℕ → List Ground
-unfolding no-nodes not-whole too-many-nodes nodes-grounds
 table-grounds ns =
     ground 1 0 (no-nodes ns) ∷ ground 2 0 (not-whole ns) ∷ ground 3 0 (too-many-nodes ns) ∷ nodes-grounds ns
 
+unfoldable pub value-grounds : List ℕ → ℕ → List Ground
+value-grounds rs i = ground 12 i (no-record (getD rs i 0)) ∷ []
+
 -- 12, "lowest such"
-unfoldable pub value-grounds : List ℕ → List Ground
-unfolding each no-record
-value-grounds rs = each (λ i. ground 12 i (no-record (getD rs i 0)) ∷ []) 0 (length rs)
+unfoldable pub values-grounds : List ℕ → List Ground
+values-grounds rs = each (value-grounds rs) 0 (length rs)
 
 unfoldable pub closing-grounds : List ℕ → List ℕ → List Ground
-unfolding wrong-closings after-closings closings-wanted
 closing-grounds ns rs = ground 13 (after-closings rs (closings-wanted ns)) (wrong-closings ns rs) ∷ []
 
 -- "then 9 to 14"
 unfoldable pub records-grounds : List ℕ → List ℕ → List Ground
-unfolding no-records too-many-records value-grounds closing-grounds
 records-grounds ns rs =
-    ground 10 0 (no-records rs) ∷ ground 11 0 (too-many-records rs) ∷ (value-grounds rs ++ closing-grounds ns rs)
+    ground 10 0 (no-records rs) ∷ ground 11 0 (too-many-records rs) ∷ (values-grounds rs ++ closing-grounds ns rs)
 
 ---- The checks ----
 
 -- 1 to 9
 unfoldable pub table-check : List ℕ → Check
-unfolding first table-grounds
 table-check ns = first (table-grounds ns)
 
 -- 4 to 9
 unfoldable pub nodes-check : List ℕ → Check
-unfolding first nodes-grounds
 nodes-check ns = first (nodes-grounds ns)
 
 -- 12
 unfoldable pub values-check : List ℕ → Check
-unfolding first value-grounds
-values-check rs = first (value-grounds rs)
+values-check rs = first (values-grounds rs)
 
 -- 13
 unfoldable pub closings-check : List ℕ → List ℕ → Check
-unfolding first closing-grounds
 closings-check ns rs = first (closing-grounds ns rs)
 
 -- 10 to 13
 unfoldable pub records-check : List ℕ → List ℕ → Check
-unfolding first records-grounds
 records-check ns rs = first (records-grounds ns rs)

@@ -1,4 +1,16 @@
-// Node tables and record lists: what is refused, and the flow that a table draws.
+// Node tables and record lists: what is refused, in the order of document 01's table, and what stands in a node.
+// `check_table` answers the first of the refusals 1 to 9, `check_records` of 10 to 13; the parts of both that the flow file's
+// reader wants by themselves are public too. The definitions that the contracts cite are in specs/. Nothing is written here
+// but marks of the function's own, and no lent slice is changed.
+ghost use mathlib.Core.Path.{_≡_};
+ghost use mathlib.Core.Bool.{Bool, true, false, cond, xor, _&&_};
+ghost use Prim.Native.Nat.{ℕ, _+_, _*_, _-_, _<_, _≤_};
+ghost use lib.Dec.{T};
+ghost use lib.ListN.{length, getD, set};
+ghost use Rattle.flow.specs.Kinds.{kindOf, kind, one-of, two-of, is-standard};
+ghost use Rattle.flow.specs.Forms.{form, Marks};
+ghost use Rattle.flow.specs.Records.{is-event-number, is-closing-number};
+ghost use Rattle.flow.specs.Refusals.{unknown-kind, wrong-field, not-lower, wrong-sort, child-taken, no-record, closings-wanted, refused, first, node-grounds, child-grounds, each, count, table-check, nodes-check, values-check, closings-check, records-check};
 
 // A refusal of document 01: its number, and the node or record that it names.
 pub struct Refusal {
@@ -9,4 +21,393 @@ pub struct Refusal {
 pub enum Check {
     Fine,
     Refused(Refusal),
+}
+
+// What a kind asks of a node: whether there is such a kind, its sort, whether its first field is an event, how many children
+// its fields name, and whether these are standard.
+pub struct Form {
+    pub known: bool,
+    pub standard: bool,
+    pub event: bool,
+    pub kids: u8,
+    pub inner: bool,
+}
+
+pub const DONE: u16 = 61441;
+
+pub const WITHDRAWN: u16 = 61442;
+
+pub const FAILED: u16 = 61443;
+
+pub const MOST_EVENTS: u16 = 256;
+
+// The sixteen kinds.
+pub fn form_of(kind: u16) -> Form
+    ensures { λ r. ⌜ r ≡ form (kindOf kind) ⌝ }
+{
+    match kind {
+        1 => Form {
+            known: true,
+            standard: true,
+            event: true,
+            kids: 0,
+            inner: false,
+        },
+        2..=4 => Form {
+            known: true,
+            standard: true,
+            event: false,
+            kids: 0,
+            inner: false,
+        },
+        5..=8 => Form {
+            known: true,
+            standard: true,
+            event: false,
+            kids: 2,
+            inner: true,
+        },
+        9 => Form {
+            known: true,
+            standard: true,
+            event: false,
+            kids: 1,
+            inner: false,
+        },
+        10 => Form {
+            known: true,
+            standard: false,
+            event: false,
+            kids: 2,
+            inner: true,
+        },
+        11..=13 => Form {
+            known: true,
+            standard: false,
+            event: false,
+            kids: 2,
+            inner: false,
+        },
+        14..=16 => Form {
+            known: true,
+            standard: false,
+            event: false,
+            kids: 0,
+            inner: false,
+        },
+        _ => Form {
+            known: false,
+            standard: false,
+            event: false,
+            kids: 0,
+            inner: false,
+        },
+    }
+}
+
+// A node's three numbers.
+pub fn kind_at(nodes: &[u16], i: usize) -> u16
+    requires { ⌜ 3 * i + 2 < length (now nodes) ⌝ }
+    ensures { λ r. ⌜ r ≡ getD (now (nodes .entry)) (3 * i) 0 ⌝ }
+{
+    nodes[3 * i]
+}
+
+pub fn first_at(nodes: &[u16], i: usize) -> u16
+    requires { ⌜ 3 * i + 2 < length (now nodes) ⌝ }
+    ensures { λ r. ⌜ r ≡ one-of (now (nodes .entry)) i ⌝ }
+{
+    nodes[3 * i + 1]
+}
+
+pub fn second_at(nodes: &[u16], i: usize) -> u16
+    requires { ⌜ 3 * i + 2 < length (now nodes) ⌝ }
+    ensures { λ r. ⌜ r ≡ two-of (now (nodes .entry)) i ⌝ }
+{
+    nodes[3 * i + 2]
+}
+
+// What node i's kind asks.
+pub fn form_at(nodes: &[u16], i: usize) -> Form
+    requires { ⌜ 3 * i + 2 < length (now nodes) ⌝ }
+    ensures { λ r. ⌜ r ≡ form (kind (now (nodes .entry)) i) ⌝ }
+{
+    form_of(kind_at(nodes, i))
+}
+
+pub fn is_event(number: u16) -> bool
+    ensures { λ r. ⌜ r ≡ is-event-number number ⌝ }
+{
+    (number >= 1) & (number <= MOST_EVENTS)
+}
+
+pub fn is_closing(number: u16) -> bool
+    ensures { λ r. ⌜ r ≡ is-closing-number number ⌝ }
+{
+    (number == DONE) | ((number == WITHDRAWN) | (number == FAILED))
+}
+
+// 12 of a record.
+fn no_record(number: u16) -> bool
+    ensures { λ r. ⌜ r ≡ no-record number ⌝ }
+{
+    !(is_event(number) | is_closing(number))
+}
+
+fn refuse(number: u16, place: usize) -> Check
+    requires { ⌜ place < 4294967296 ⌝ }
+    ensures { λ r. ⌜ r ≡ refused number place ⌝ }
+{
+    Check::Refused(Refusal {
+        number: number,
+        place: place as u32,
+    })
+}
+
+// 4 of node i.
+fn unknown_kind(nodes: &[u16], i: usize) -> bool
+    requires { ⌜ 3 * i + 2 < length (now nodes) ⌝ }
+    ensures { λ r. ⌜ r ≡ unknown-kind (now (nodes .entry)) i ⌝ }
+{
+    let form = form_at(nodes, i);
+    !form.known
+}
+
+// 5 of node i.
+fn wrong_field(nodes: &[u16], i: usize) -> bool
+    requires { ⌜ 3 * i + 2 < length (now nodes) ⌝ }
+    ensures { λ r. ⌜ r ≡ wrong-field (now (nodes .entry)) i ⌝ }
+{
+    let form = form_at(nodes, i);
+    let first = first_at(nodes, i);
+    let second = second_at(nodes, i);
+    let no_event = form.event & !is_event(first);
+    let no_child = !form.event & ((form.kids == 0) & (first != 0));
+    no_event | (no_child | ((form.kids != 2) & (second != 0)))
+}
+
+// 6 of node i.
+fn not_lower(nodes: &[u16], i: usize) -> bool
+    requires { ⌜ 3 * i + 2 < length (now nodes) ⌝ }
+    ensures { λ r. ⌜ r ≡ not-lower (now (nodes .entry)) i ⌝ }
+{
+    let form = form_at(nodes, i);
+    let first = first_at(nodes, i) as usize;
+    let second = second_at(nodes, i) as usize;
+    ((form.kids != 0) & (first >= i)) | ((form.kids == 2) & (second >= i))
+}
+
+// Whether a child, if there is one, is not of the sort asked for.
+fn sort_differs(nodes: &[u16], child: usize, used: bool, standard: bool) -> bool
+    requires { ⌜ (T used → 3 * child + 2 < length (now nodes)) ⌝ }
+    ensures { λ r. ⌜ r ≡ used && xor (is-standard (kind (now (nodes .entry)) child)) standard ⌝ }
+{
+    if !used {
+        return false;
+    }
+    let form = form_at(nodes, child);
+    form.standard != standard
+}
+
+// 7 of node i, whose children are lower.
+fn wrong_sort(nodes: &[u16], i: usize) -> bool
+    requires { ⌜ 3 * i + 2 < length (now nodes) ⌝ }
+    requires { ⌜ not-lower (now nodes) i ≡ false ⌝ }
+    ensures { λ r. ⌜ r ≡ wrong-sort (now (nodes .entry)) i ⌝ }
+{
+    let form = form_at(nodes, i);
+    let first = first_at(nodes, i) as usize;
+    let second = second_at(nodes, i) as usize;
+    sort_differs(nodes, first, form.kids != 0, form.inner)
+        | sort_differs(nodes, second, form.kids == 2, form.inner)
+}
+
+// Whether a child, if there is one, is marked.
+fn marked(marks: &[bool; 64], child: usize, used: bool) -> bool
+    requires { ⌜ (T used → child < 64) ⌝ }
+    ensures { λ r. ⌜ r ≡ used && getD (now (marks .entry)) child false ⌝ }
+{
+    if used { marks[child] } else { false }
+}
+
+// 8 of node i, whose children are lower; the marks are those of the nodes below it.
+fn child_taken(nodes: &[u16], i: usize, marks: &[bool; 64]) -> bool
+    requires { ⌜ 3 * i + 2 < length (now nodes) ⌝ }
+    requires { ⌜ i < 64 ⌝ }
+    requires { ⌜ not-lower (now nodes) i ≡ false ⌝ }
+    requires { ⌜ Marks (now nodes) i (now marks) ⌝ }
+    ensures { λ r. ⌜ r ≡ child-taken (now (nodes .entry)) i ⌝ }
+{
+    let form = form_at(nodes, i);
+    let first = first_at(nodes, i) as usize;
+    let second = second_at(nodes, i) as usize;
+    let two = form.kids == 2;
+    marked(marks, first, form.kids != 0) | (marked(marks, second, two) | (two & (first == second)))
+}
+
+// 4 to 8 of node i.
+fn check_node(nodes: &[u16], i: usize, marks: &[bool; 64]) -> Check
+    requires { ⌜ 3 * i + 2 < length (now nodes) ⌝ }
+    requires { ⌜ i < 64 ⌝ }
+    requires { ⌜ Marks (now nodes) i (now marks) ⌝ }
+    ensures { λ r. ⌜ r ≡ first (node-grounds (now (nodes .entry)) i) ⌝ }
+{
+    if unknown_kind(nodes, i) {
+        return refuse(4, i);
+    }
+    if wrong_field(nodes, i) {
+        return refuse(5, i);
+    }
+    if not_lower(nodes, i) {
+        return refuse(6, i);
+    }
+    if wrong_sort(nodes, i) {
+        return refuse(7, i);
+    }
+    if child_taken(nodes, i, marks) {
+        return refuse(8, i);
+    }
+    Check::Fine
+}
+
+// Marks a child, if there is one.
+fn mark(marks: &mut [bool; 64], child: usize, used: bool)
+    requires { ⌜ (T used → child < 64) ⌝ }
+    ensures { λ r. ⌜ now (marks .exit) ≡ cond used (set (now (marks .entry)) child true) (now (marks .entry)) ⌝ }
+{
+    if used {
+        marks[child] = true;
+    }
+}
+
+// Marks the children of node i, which are lower.
+fn mark_children(nodes: &[u16], i: usize, marks: &mut [bool; 64])
+    requires { ⌜ 3 * i + 2 < length (now nodes) ⌝ }
+    requires { ⌜ i < 64 ⌝ }
+    requires { ⌜ not-lower (now nodes) i ≡ false ⌝ }
+    requires { ⌜ Marks (now nodes) i (now marks) ⌝ }
+    ensures { λ r. ⌜ Marks (now (nodes .entry)) (i + 1) (now (marks .exit)) ⌝ }
+{
+    let form = form_at(nodes, i);
+    let first = first_at(nodes, i) as usize;
+    let second = second_at(nodes, i) as usize;
+    mark(marks, first, form.kids != 0);
+    mark(marks, second, form.kids == 2);
+}
+
+// 9: the lowest node that is nobody's child, the last one aside. The marks are those of all nodes.
+fn check_children(nodes: &[u16], marks: &[bool; 64]) -> Check
+    requires { ⌜ length (now nodes) ≤ 192 ⌝ }
+    requires { ⌜ Marks (now nodes) (count (now nodes)) (now marks) ⌝ }
+    ensures { λ r. ⌜ r ≡ first (each (child-grounds (now (nodes .entry))) 0 (count (now (nodes .entry)) - 1)) ⌝ }
+{
+    let n = nodes.len() / 3;
+    let mut i = 0;
+    while i + 1 < n {
+        if !marked(marks, i, true) {
+            return refuse(9, i);
+        }
+        i += 1;
+    }
+    Check::Fine
+}
+
+// 4 to 9, of at most 64 whole nodes.
+pub fn check_nodes(nodes: &[u16]) -> Check
+    requires { ⌜ length (now nodes) ≤ 192 ⌝ }
+    ensures { λ r. ⌜ r ≡ nodes-check (now (nodes .entry)) ⌝ }
+{
+    let n = nodes.len() / 3;
+    let mut marks = [false; 64];
+    let mut i = 0;
+    while i < n {
+        let found = check_node(nodes, i, &marks);
+        if let Check::Refused(refusal) = found {
+            return Check::Refused(refusal);
+        }
+        mark_children(nodes, i, &mut marks);
+        i += 1;
+    }
+    check_children(nodes, &marks)
+}
+
+// 1 to 9.
+pub fn check_table(nodes: &[u16]) -> Check
+    ensures { λ r. ⌜ r ≡ table-check (now (nodes .entry)) ⌝ }
+{
+    if nodes.len() == 0 {
+        return refuse(1, 0);
+    }
+    if nodes.len() % 3 != 0 {
+        return refuse(2, 0);
+    }
+    if nodes.len() / 3 > 64 {
+        return refuse(3, 0);
+    }
+    check_nodes(nodes)
+}
+
+// 12, of at most 256 records.
+pub fn check_values(records: &[u16]) -> Check
+    requires { ⌜ length (now records) ≤ 256 ⌝ }
+    ensures { λ r. ⌜ r ≡ values-check (now (records .entry)) ⌝ }
+{
+    let mut i = 0;
+    while i < records.len() {
+        if no_record(records[i]) {
+            return refuse(12, i);
+        }
+        i += 1;
+    }
+    Check::Fine
+}
+
+// How many closings the root takes.
+pub fn closings_wanted(nodes: &[u16]) -> u16
+    requires { ⌜ 3 ≤ length (now nodes) ⌝ }
+    ensures { λ r. ⌜ r ≡ closings-wanted (now (nodes .entry)) ⌝ }
+{
+    let form = form_at(nodes, nodes.len() / 3 - 1);
+    if form.standard { 1 } else { 2 }
+}
+
+// 13, of at most 256 records.
+pub fn check_closings(nodes: &[u16], records: &[u16]) -> Check
+    requires { ⌜ 3 ≤ length (now nodes) ⌝ }
+    requires { ⌜ length (now records) ≤ 256 ⌝ }
+    ensures { λ r. ⌜ r ≡ closings-check (now (nodes .entry)) (now (records .entry)) ⌝ }
+{
+    let mut left = closings_wanted(nodes);
+    let mut i = 0;
+    while i < records.len() {
+        if is_closing(records[i]) {
+            if left == 1 {
+                if i + 1 == records.len() {
+                    return Check::Fine;
+                }
+                return refuse(13, i + 1);
+            }
+            left -= 1;
+        }
+        i += 1;
+    }
+    refuse(13, i)
+}
+
+// 10 to 13.
+pub fn check_records(nodes: &[u16], records: &[u16]) -> Check
+    requires { ⌜ 3 ≤ length (now nodes) ⌝ }
+    ensures { λ r. ⌜ r ≡ records-check (now (nodes .entry)) (now (records .entry)) ⌝ }
+{
+    if records.len() == 0 {
+        return refuse(10, 0);
+    }
+    if records.len() > 256 {
+        return refuse(11, 0);
+    }
+    let values = check_values(records);
+    if let Check::Refused(refusal) = values {
+        return Check::Refused(refusal);
+    }
+    check_closings(nodes, records)
 }

@@ -1,0 +1,144 @@
+use Rattle.flow.specs.Closings.{wanted-some}
+use mathlib.Core.Bool.{true, false}
+use mathlib.Core.Logic.{⊎-elim}
+use lib.ListN.{getD}
+use Rattle.flow.specs.Records.{is-closing-number}
+use Prim.Native.Nat.{ℕ, _+_, _≤_, _<_, _-_}
+use mathlib.Core.Path.{_≡_, refl, sym, _∙_}
+use borrow.Author.Needs.{needs}
+use native.Mathlib.Omega.{arith}
+use lib.ListN.{length}
+use Rattle.flow.specs.Refusals.{closings-wanted}
+use Rattle.flow.specs.Closings.{Passed, passed-none, passed-event, passed-closing, closed-last, closed-early, place-early, closed-late, place-late, closings-fine, closings-refused}
+use Rattle.flow.proofs.check_closings.Statement.{statement}
+use Rattle.flow.proofs.check_closings.Tie as tie
+use Rattle.flow.proofs.check_closings.Reads as reads
+use Rattle.flow.proofs.check_closings.Lts as lts
+use Rattle.flow.proofs.closings_wanted.Reads as closings-wanted-reads
+use Rattle.flow.proofs.is_closing.Reads as is-closing-reads
+use Rattle.flow.proofs.refuse.Reads as refuse-reads
+
+abbrev Inv-loop : tie.InvT-loop
+Inv-loop nodes records left₀ i₀ left i = Passed records (closings-wanted nodes) i left
+
+abbrev μ-loop : tie.MeasureT-loop
+μ-loop nodes records left₀ i₀ left i = length records - i
+
+-- src/lib.rt:373:9
+closings-wanted-requires : tie.Need-closings-wanted-requires Inv-loop μ-loop
+closings-wanted-requires c κs = search needs
+
+-- src/lib.rt:375:5
+loop-holds : tie.Need-loop-holds Inv-loop μ-loop
+loop-holds c = rw (c .closings-wanted .ensures) (passed-none _ _ (wanted-some _))
+
+-- src/lib.rt:376:23
+mul-is-closing : tie.Need-mul-is-closing Inv-loop μ-loop
+mul-is-closing c = search needs
+
+-- src/lib.rt:376:23
+shared-slice-read-is-closing : tie.Need-shared-slice-read-is-closing Inv-loop μ-loop
+shared-slice-read-is-closing c = search needs
+
+-- src/lib.rt:376:12
+is-closing-requires : tie.Need-is-closing-requires Inv-loop μ-loop
+is-closing-requires c κs = search needs
+
+-- src/lib.rt:378:20
+add-if3 : tie.Need-add-if3 Inv-loop μ-loop
+add-if3 c = search needs
+
+-- src/lib.rt:379:21
+returns : tie.Need-returns Inv-loop μ-loop
+returns c =
+    let s = c .before .before .before .before .before .before .before .before .before .before in
+    let l = c .before .before .before .before .before .before .loop in
+    let ns = s .args .nodes .now in
+    let rs = s .args .records .now in
+    let h : l .i < length rs = c .before .before .before .before .before .loop-test .taken in
+    let e : is-closing-number (getD rs (l .i) 0) ≡ true = sym (c .before .before .before .is-closing .ensures) ∙ c .before .before .if1 .taken in
+    sym (closings-fine ns rs (closed-last rs (closings-wanted ns) (l .i) (l .left) h (l .inv) e (c .before .if2 .taken) (c .if3 .taken)))
+
+-- src/lib.rt:381:35
+add-refuse : tie.Need-add-refuse Inv-loop μ-loop
+add-refuse c = search needs
+
+-- src/lib.rt:381:17
+refuse-requires : tie.Need-refuse-requires Inv-loop μ-loop
+refuse-requires c κs = search needs
+
+-- src/lib.rt:381:17
+returns-2 : tie.Need-returns-2 Inv-loop μ-loop
+returns-2 c =
+    let s = c .before .before .before .before .before .before .before .before .before .before .before in
+    let l = c .before .before .before .before .before .before .before .loop in
+    let ns = s .args .nodes .now in
+    let rs = s .args .records .now in
+    let h : l .i < length rs = c .before .before .before .before .before .before .loop-test .taken in
+    let e : is-closing-number (getD rs (l .i) 0) ≡ true = sym (c .before .before .before .before .is-closing .ensures) ∙ c .before .before .before .if1 .taken in
+    let one = c .before .before .if2 .taken in
+    c .refuse .ensures ∙ sym (closings-refused ns rs (l .i + 1) (closed-early rs (closings-wanted ns) (l .i) (l .left) h (l .inv) e one (c .before .if3 .left)) (place-early rs (closings-wanted ns) (l .i) (l .left) h (l .inv) e one))
+
+-- src/lib.rt:383:13
+sub-left : tie.Need-sub-left Inv-loop μ-loop
+sub-left c = search needs
+
+-- src/lib.rt:385:9
+add-i : tie.Need-add-i Inv-loop μ-loop
+add-i c = search needs
+
+-- src/lib.rt:375:5
+loop-less : tie.Need-loop-less Inv-loop μ-loop
+loop-less c = search needs
+
+-- src/lib.rt:375:5
+loop-again : tie.Need-loop-again Inv-loop μ-loop
+loop-again c =
+    let s = c .before .before .before .before .before .before .before .before in
+    let l = c .before .before .before .before .loop in
+    let ns = s .args .nodes .now in
+    let rs = s .args .records .now in
+    let h : l .i < length rs = c .before .before .before .loop-test .taken in
+    let e = sym (c .before .is-closing .ensures) in
+    ⊎-elim
+    (λ w. rw (w .2) (passed-closing rs (closings-wanted ns) (l .i) (l .left) h (l .inv) (e ∙ w .0 .taken) (w .1 .left)))
+    (λ w. rw (w .1) (passed-event rs (closings-wanted ns) (l .i) (l .left) h (l .inv) (e ∙ w .0 .left)))
+    (c .if1 .came)
+
+-- src/lib.rt:387:5
+refuse-requires-2 : tie.Need-refuse-requires-2 Inv-loop μ-loop
+refuse-requires-2 c κs = search needs
+
+-- src/lib.rt:368:1
+returns-3 : tie.Need-returns-3 Inv-loop μ-loop
+returns-3 c =
+    let s = c .before .before .before .before .before .before in
+    let l = c .before .before .loop in
+    let ns = s .args .nodes .now in
+    let rs = s .args .records .now in
+    let h : length rs ≤ l .i = c .before .loop-test .left in
+    c .refuse2 .ensures
+    ∙ sym (closings-refused ns rs (l .i) (closed-late rs (closings-wanted ns) (l .i) (l .left) h (l .inv)) (place-late rs (closings-wanted ns) (l .i) (l .left) h (l .inv)))
+
+pub check-closings-spec : {M : Type 1} → statement M
+check-closings-spec =
+    tie.close
+    (tie.spec
+    Inv-loop
+    μ-loop
+    closings-wanted-requires
+    loop-holds
+    mul-is-closing
+    shared-slice-read-is-closing
+    is-closing-requires
+    add-if3
+    returns
+    add-refuse
+    refuse-requires
+    returns-2
+    sub-left
+    add-i
+    loop-less
+    loop-again
+    refuse-requires-2
+    returns-3)

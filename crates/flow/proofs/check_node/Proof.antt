@@ -1,0 +1,143 @@
+use mathlib.Core.Path.{_≡_, sym, _∙_}
+use mathlib.Core.Bool.{true, false}
+use Rattle.flow.specs.Refusals.{unknown-kind, wrong-field, not-lower, wrong-sort, child-taken, first, node-grounds, answer, or-else-check}
+use borrow.Author.Needs.{needs}
+use Rattle.flow.proofs.check_node.Statement.{statement}
+use Rattle.flow.proofs.check_node.Tie as tie
+use Rattle.flow.proofs.check_node.Reads as reads
+use Rattle.flow.proofs.check_node.Lts as lts
+use Rattle.flow.proofs.child_taken.Reads as child-taken-reads
+use Rattle.flow.proofs.not_lower.Reads as not-lower-reads
+use Rattle.flow.proofs.refuse.Reads as refuse-reads
+use Rattle.flow.proofs.unknown_kind.Reads as unknown-kind-reads
+use Rattle.flow.proofs.wrong_field.Reads as wrong-field-reads
+use Rattle.flow.proofs.wrong_sort.Reads as wrong-sort-reads
+
+-- src/lib.rt:248:8
+unknown-kind-requires : tie.Need-unknown-kind-requires
+unknown-kind-requires c κs = search needs
+
+-- src/lib.rt:249:9
+refuse-requires : tie.Need-refuse-requires
+refuse-requires c κs = search needs
+
+-- src/lib.rt:249:9
+returns : tie.Need-returns
+unfolding first node-grounds answer or-else-check
+returns c =
+    let s = c .before .before .before .before in
+    let e4 : unknown-kind (s .args .nodes .now) (s .args .i) ≡ true = sym (c .before .before .unknown-kind .ensures) ∙ c .before .if1 .taken in
+    rw (c .refuse .ensures, e4)
+
+-- src/lib.rt:251:8
+wrong-field-requires : tie.Need-wrong-field-requires
+wrong-field-requires c κs = search needs
+
+-- src/lib.rt:252:9
+refuse-requires-2 : tie.Need-refuse-requires-2
+refuse-requires-2 c κs = search needs
+
+-- src/lib.rt:252:9
+returns-2 : tie.Need-returns-2
+unfolding first node-grounds answer or-else-check
+returns-2 c =
+    let s = c .before .before .before .before .before .before in
+    let e4 : unknown-kind (s .args .nodes .now) (s .args .i) ≡ false = sym (c .before .before .before .before .unknown-kind .ensures) ∙ c .before .before .before .if1 .left in
+    let e5 : wrong-field (s .args .nodes .now) (s .args .i) ≡ true = sym (c .before .before .wrong-field .ensures) ∙ c .before .if2 .taken in
+    rw (c .refuse2 .ensures, e4, e5)
+
+-- src/lib.rt:254:8
+not-lower-requires : tie.Need-not-lower-requires
+not-lower-requires c κs = search needs
+
+-- src/lib.rt:255:9
+refuse-requires-3 : tie.Need-refuse-requires-3
+refuse-requires-3 c κs = search needs
+
+-- src/lib.rt:255:9
+returns-3 : tie.Need-returns-3
+unfolding first node-grounds answer or-else-check
+returns-3 c =
+    let s = c .before .before .before .before .before .before .before .before in
+    let e4 : unknown-kind (s .args .nodes .now) (s .args .i) ≡ false = sym (c .before .before .before .before .before .before .unknown-kind .ensures) ∙ c .before .before .before .before .before .if1 .left in
+    let e5 : wrong-field (s .args .nodes .now) (s .args .i) ≡ false = sym (c .before .before .before .before .wrong-field .ensures) ∙ c .before .before .before .if2 .left in
+    let e6 : not-lower (s .args .nodes .now) (s .args .i) ≡ true = sym (c .before .before .not-lower .ensures) ∙ c .before .if3 .taken in
+    rw (c .refuse3 .ensures, e4, e5, e6)
+
+-- src/lib.rt:257:8
+wrong-sort-requires : tie.Need-wrong-sort-requires
+wrong-sort-requires c κs =
+    let s = c .before .before .before .before .before .before .before in
+    let e6 : not-lower (s .args .nodes .now) (s .args .i) ≡ false = sym (c .before .not-lower .ensures) ∙ c .if3 .left in
+    (s .pre .0, e6)
+
+-- src/lib.rt:258:9
+refuse-requires-4 : tie.Need-refuse-requires-4
+refuse-requires-4 c κs = search needs
+
+-- src/lib.rt:258:9
+returns-4 : tie.Need-returns-4
+unfolding first node-grounds answer or-else-check
+returns-4 c =
+    let s = c .before .before .before .before .before .before .before .before .before .before in
+    let e4 : unknown-kind (s .args .nodes .now) (s .args .i) ≡ false = sym (c .before .before .before .before .before .before .before .before .unknown-kind .ensures) ∙ c .before .before .before .before .before .before .before .if1 .left in
+    let e5 : wrong-field (s .args .nodes .now) (s .args .i) ≡ false = sym (c .before .before .before .before .before .before .wrong-field .ensures) ∙ c .before .before .before .before .before .if2 .left in
+    let e6 : not-lower (s .args .nodes .now) (s .args .i) ≡ false = sym (c .before .before .before .before .not-lower .ensures) ∙ c .before .before .before .if3 .left in
+    let e7 : wrong-sort (s .args .nodes .now) (s .args .i) ≡ true = sym (c .before .before .wrong-sort .ensures) ∙ c .before .if4 .taken in
+    rw (c .refuse4 .ensures, e4, e5, e6, e7)
+
+-- src/lib.rt:260:8
+child-taken-requires : tie.Need-child-taken-requires
+child-taken-requires c κs =
+    let s = c .before .before .before .before .before .before .before .before .before in
+    let e6 : not-lower (s .args .nodes .now) (s .args .i) ≡ false = sym (c .before .before .before .not-lower .ensures) ∙ c .before .before .if3 .left in
+    (s .pre .0, (s .pre .1 .0, (e6, s .pre .1 .1)))
+
+-- src/lib.rt:261:9
+refuse-requires-5 : tie.Need-refuse-requires-5
+refuse-requires-5 c κs = search needs
+
+-- src/lib.rt:261:9
+returns-5 : tie.Need-returns-5
+unfolding first node-grounds answer or-else-check
+returns-5 c =
+    let s = c .before .before .before .before .before .before .before .before .before .before .before .before in
+    let e4 : unknown-kind (s .args .nodes .now) (s .args .i) ≡ false = sym (c .before .before .before .before .before .before .before .before .before .before .unknown-kind .ensures) ∙ c .before .before .before .before .before .before .before .before .before .if1 .left in
+    let e5 : wrong-field (s .args .nodes .now) (s .args .i) ≡ false = sym (c .before .before .before .before .before .before .before .before .wrong-field .ensures) ∙ c .before .before .before .before .before .before .before .if2 .left in
+    let e6 : not-lower (s .args .nodes .now) (s .args .i) ≡ false = sym (c .before .before .before .before .before .before .not-lower .ensures) ∙ c .before .before .before .before .before .if3 .left in
+    let e7 : wrong-sort (s .args .nodes .now) (s .args .i) ≡ false = sym (c .before .before .before .before .wrong-sort .ensures) ∙ c .before .before .before .if4 .left in
+    let e8 : child-taken (s .args .nodes .now) (s .args .i) ≡ true = sym (c .before .before .child-taken .ensures) ∙ c .before .if5 .taken in
+    rw (c .refuse5 .ensures, e4, e5, e6, e7, e8)
+
+-- src/lib.rt:242:1
+returns-6 : tie.Need-returns-6
+unfolding first node-grounds answer or-else-check
+returns-6 c =
+    let s = c .before .before .before .before .before .before .before .before .before .before .before in
+    let e4 : unknown-kind (s .args .nodes .now) (s .args .i) ≡ false = sym (c .before .before .before .before .before .before .before .before .before .unknown-kind .ensures) ∙ c .before .before .before .before .before .before .before .before .if1 .left in
+    let e5 : wrong-field (s .args .nodes .now) (s .args .i) ≡ false = sym (c .before .before .before .before .before .before .before .wrong-field .ensures) ∙ c .before .before .before .before .before .before .if2 .left in
+    let e6 : not-lower (s .args .nodes .now) (s .args .i) ≡ false = sym (c .before .before .before .before .before .not-lower .ensures) ∙ c .before .before .before .before .if3 .left in
+    let e7 : wrong-sort (s .args .nodes .now) (s .args .i) ≡ false = sym (c .before .before .before .wrong-sort .ensures) ∙ c .before .before .if4 .left in
+    let e8 : child-taken (s .args .nodes .now) (s .args .i) ≡ false = sym (c .before .child-taken .ensures) ∙ c .if5 .left in
+    rw (e4, e5, e6, e7, e8)
+
+pub check-node-spec : {M : Type 1} → statement M
+check-node-spec =
+    tie.close
+    (tie.spec
+    unknown-kind-requires
+    refuse-requires
+    returns
+    wrong-field-requires
+    refuse-requires-2
+    returns-2
+    not-lower-requires
+    refuse-requires-3
+    returns-3
+    wrong-sort-requires
+    refuse-requires-4
+    returns-4
+    child-taken-requires
+    refuse-requires-5
+    returns-5
+    returns-6)

@@ -1,0 +1,121 @@
+use mathlib.Core.Path.{ap, subst}
+use Rattle.flow.specs.declared.Check.{Check}
+use Rattle.flow.specs.declared.Check.the-variants.{Fine}
+use Rattle.flow.specs.FirstRefusal.{fine-exactly}
+use Rattle.flow.specs.Children.{marks-none, fine-node}
+use Prim.Native.Nat.{_≤_, _<_, _-_}
+use mathlib.Core.Path.{_≡_, refl, sym, _∙_}
+use borrow.Author.Needs.{needs}
+use native.Mathlib.Omega.{arith}
+use lib.ListN.{length, getD}
+use Rattle.flow.specs.Forms.{Marks}
+use Rattle.flow.specs.Refusals.{count, or-else-check, first, each, node-grounds, child-grounds, nodes-grounds, nodes-check}
+use Rattle.flow.specs.FirstRefusal.{each-start, each-held, each-passed, each-over, first-append}
+use Rattle.flow.proofs.check_nodes.Statement.{statement}
+use Rattle.flow.proofs.check_nodes.Tie as tie
+use Rattle.flow.proofs.check_nodes.Reads as reads
+use Rattle.flow.proofs.check_nodes.Lts as lts
+use Rattle.flow.proofs.check_children.Reads as check-children-reads
+use Rattle.flow.proofs.check_node.Reads as check-node-reads
+use Rattle.flow.proofs.mark_children.Reads as mark-children-reads
+
+abbrev Inv-loop : tie.InvT-loop
+Inv-loop nodes n marks₀ i₀ marks i =
+    (i ≤ count nodes)
+    × (Marks nodes i marks
+    × (or-else-check (first (each (node-grounds nodes) i (count nodes - i))) (first (each (child-grounds nodes) 0 (count nodes - 1))) ≡ nodes-check nodes))
+
+abbrev μ-loop : tie.MeasureT-loop
+μ-loop nodes n marks₀ i₀ marks i = count nodes - i
+
+-- src/lib.rt:316:5
+loop-holds : tie.Need-loop-holds Inv-loop μ-loop
+unfolding nodes-check nodes-grounds
+loop-holds c =
+    let ns = c .before .args .nodes .now in
+    let start : or-else-check (first (each (node-grounds ns) 0 (count ns - 0))) (first (each (child-grounds ns) 0 (count ns - 1))) ≡ nodes-check ns
+        = ap (λ (x : Check). or-else-check x (first (each (child-grounds ns) 0 (count ns - 1)))) (each-start (node-grounds ns) (count ns)) ∙ sym (first-append _ _) in
+    (omega arith, (marks-none ns, start))
+
+-- src/lib.rt:317:13
+check-node-requires : tie.Need-check-node-requires Inv-loop μ-loop
+check-node-requires c κs = (omega arith, (omega arith, c .before .before .loop .inv .1 .0))
+
+-- src/lib.rt:318:31
+enum-known-found : tie.Need-enum-known-found Inv-loop μ-loop
+enum-known-found c = search needs
+
+-- src/lib.rt:319:13
+returns : tie.Need-returns Inv-loop μ-loop
+unfolding or-else-check
+returns c =
+    let ns = c .before .before .before .before .before .before .before .before .args .nodes .now in
+    let l = c .before .before .before .before .before .before .loop in
+    let h : l .i < count ns = c .before .before .before .before .before .loop-test .taken in
+    let e = sym (c .before .before .before .check-node .ensures) ∙ c .before .found .given .1 in
+    sym (ap (λ (x : Check). or-else-check x (first (each (child-grounds ns) 0 (count ns - 1)))) (each-held (node-grounds ns) (l .i) (count ns) h _ e)) ∙ l .inv .1 .1
+
+enum-told : tie.Need-enum-told Inv-loop μ-loop
+enum-told c = search needs
+
+-- src/lib.rt:321:9
+mark-children-requires : tie.Need-mark-children-requires Inv-loop μ-loop
+mark-children-requires c κs =
+    let ns = c .before .before .before .before .before .before .before .before .args .nodes .now in
+    let l = c .before .before .before .before .before .before .loop in
+    let h : l .i < count ns = c .before .before .before .before .before .loop-test .taken in
+    let e : first (node-grounds ns (l .i)) ≡ Fine = sym (c .before .before .before .check-node .ensures) ∙ c .before .enum-told .given .1 in
+    (omega arith, (omega arith, (fine-node ns (l .i) (fine-exactly (node-grounds ns (l .i)) .0 e) .lower, l .inv .1 .0)))
+
+-- src/lib.rt:322:9
+add-i : tie.Need-add-i Inv-loop μ-loop
+add-i c = search needs
+
+-- src/lib.rt:316:5
+loop-less : tie.Need-loop-less Inv-loop μ-loop
+loop-less c = search needs
+
+-- src/lib.rt:316:5
+loop-again : tie.Need-loop-again Inv-loop μ-loop
+loop-again c =
+    let ns = c .before .before .before .before .before .before .before .before .before .args .nodes .now in
+    let l = c .before .before .before .before .before .before .before .loop in
+    let h : l .i < count ns = c .before .before .before .before .before .before .loop-test .taken in
+    let e : first (node-grounds ns (l .i)) ≡ Fine = sym (c .before .before .before .before .check-node .ensures) ∙ c .before .before .enum-told .given .1 in
+    (omega arith, (c .mark-children .ensures, sym (ap (λ (x : Check). or-else-check x (first (each (child-grounds ns) 0 (count ns - 1)))) (each-passed (node-grounds ns) (l .i) (count ns) h e)) ∙ l .inv .1 .1))
+
+-- src/lib.rt:324:5
+check-children-requires : tie.Need-check-children-requires Inv-loop μ-loop
+check-children-requires c κs =
+    let ns = c .before .before .before .before .args .nodes .now in
+    let l = c .before .before .loop in
+    let e : l .i ≡ count ns = omega arith in
+    (c .before .before .before .before .pre, rw e at (l .inv .1 .0))
+
+-- src/lib.rt:309:1
+returns-2 : tie.Need-returns-2 Inv-loop μ-loop
+unfolding or-else-check
+returns-2 c =
+    let ns = c .before .before .before .before .before .args .nodes .now in
+    let l = c .before .before .before .loop in
+    c .check-children .ensures
+    ∙ sym (ap (λ (x : Check). or-else-check x (first (each (child-grounds ns) 0 (count ns - 1)))) (each-over (node-grounds ns) (l .i) (count ns) (c .before .before .loop-test .left)))
+    ∙ l .inv .1 .1
+
+pub check-nodes-spec : {M : Type 1} → statement M
+check-nodes-spec =
+    tie.close
+    (tie.spec
+    Inv-loop
+    μ-loop
+    loop-holds
+    check-node-requires
+    enum-known-found
+    returns
+    enum-told
+    mark-children-requires
+    add-i
+    loop-less
+    loop-again
+    check-children-requires
+    returns-2)

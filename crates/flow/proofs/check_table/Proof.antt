@@ -1,0 +1,58 @@
+use borrow.Author.Tests.{eq-eqb, ne-eqb, lt-ltb, le-ltb}
+use Rattle.flow.specs.Refusals.{table-check, table-grounds, first, answer, or-else-check, no-nodes, not-whole, too-many-nodes, nodes-check}
+use borrow.Author.Needs.{needs}
+use Rattle.flow.proofs.check_table.Statement.{statement}
+use Rattle.flow.proofs.check_table.Tie as tie
+use Rattle.flow.proofs.check_table.Reads as reads
+use Rattle.flow.proofs.check_table.Lts as lts
+use Rattle.flow.proofs.check_nodes.Reads as check-nodes-reads
+use Rattle.flow.proofs.refuse.Reads as refuse-reads
+
+-- src/lib.rt:339:9
+refuse-requires : tie.Need-refuse-requires
+refuse-requires c κs = search needs
+
+-- src/lib.rt:339:9
+returns : tie.Need-returns
+unfolding table-check table-grounds first answer or-else-check no-nodes not-whole too-many-nodes
+returns c = rw (c .refuse .ensures, eq-eqb _ _ (c .before .if1 .taken))
+
+-- src/lib.rt:342:9
+refuse-requires-2 : tie.Need-refuse-requires-2
+refuse-requires-2 c κs = search needs
+
+-- src/lib.rt:342:9
+returns-2 : tie.Need-returns-2
+unfolding table-check table-grounds first answer or-else-check no-nodes not-whole too-many-nodes
+returns-2 c = rw (c .refuse2 .ensures, ne-eqb _ _ (c .before .before .if1 .left), ne-eqb _ _ (c .before .if2 .taken))
+
+-- src/lib.rt:345:9
+refuse-requires-3 : tie.Need-refuse-requires-3
+refuse-requires-3 c κs = search needs
+
+-- src/lib.rt:345:9
+returns-3 : tie.Need-returns-3
+unfolding table-check table-grounds first answer or-else-check no-nodes not-whole too-many-nodes
+returns-3 c = rw (c .refuse3 .ensures, ne-eqb _ _ (c .before .before .before .if1 .left), eq-eqb _ _ (c .before .before .if2 .left), lt-ltb _ _ (c .before .if3 .taken))
+
+-- src/lib.rt:347:5
+check-nodes-requires : tie.Need-check-nodes-requires
+check-nodes-requires c κs = search needs
+
+-- src/lib.rt:335:1
+returns-4 : tie.Need-returns-4
+unfolding table-check table-grounds first answer or-else-check no-nodes not-whole too-many-nodes nodes-check
+returns-4 c = rw (c .check-nodes .ensures, ne-eqb _ _ (c .before .before .before .if1 .left), eq-eqb _ _ (c .before .before .if2 .left), le-ltb _ _ (c .before .if3 .left))
+
+pub check-table-spec : {M : Type 1} → statement M
+check-table-spec =
+    tie.close
+    (tie.spec
+    refuse-requires
+    returns
+    refuse-requires-2
+    returns-2
+    refuse-requires-3
+    returns-3
+    check-nodes-requires
+    returns-4)

@@ -1,0 +1,109 @@
+-- What the conditions 6 to 8 say of each child where they do not hold, and how marks of taken children grow. Assumes nothing.
+use Prim.Native.Nat.{ℕ, suc, _+_, _<_}
+use mathlib.Core.Path.{_≡_, refl, sym, ap, ap₂, _∙_, subst}
+use mathlib.Core.Bool.{Bool, true, false, not, xor, _&&_, _||_, cond, or-true, or-false, or-assoc}
+use mathlib.Core.List.{List}
+use native.Mathlib.Omega.{arith}
+use native.Mathlib.Numerals.{add-one}
+use lib.Dec.{T, eqb, leb}
+use lib.ListN.{length, getD, set, length-set, replicate, getD-replicate}
+use lib.Seq.{getD-set-same, getD-set-other}
+use borrow.Author.Tests.{leb-false, eqb-true, eqb-false}
+use Rattle.flow.specs.Tests.{is-false, neither-one, neither-two, then-false, same-of-xor}
+use Rattle.flow.specs.Kinds.{kind, one-of, two-of, is-standard, of-standard}
+use Rattle.flow.specs.Refusals.{has-one, has-two, not-lower, wrong-sort, child-taken, taken, is-child, count, refused, first, unknown-kind, wrong-field, node-grounds, nobodys-child, child-grounds}
+use Rattle.flow.specs.declared.Check.the-variants.{Fine}
+use Rattle.flow.specs.FirstRefusal.{None, none, more, single-held, single-passed}
+use Rattle.flow.specs.Forms.{Marks}
+
+module _ (ns : List ℕ) (i : ℕ) where
+  pub lower-one : not-lower ns i ≡ false → T (has-one ns i) → one-of ns i < i
+  unfolding not-lower
+  lower-one e t = leb-false i (one-of ns i) (then-false (has-one ns i) (leb i (one-of ns i)) (neither-one _ (has-two ns i && leb i (two-of ns i)) e) t)
+
+  pub lower-two : not-lower ns i ≡ false → T (has-two ns i) → two-of ns i < i
+  unfolding not-lower
+  lower-two e t = leb-false i (two-of ns i) (then-false (has-two ns i) (leb i (two-of ns i)) (neither-two (has-one ns i && leb i (one-of ns i)) _ e) t)
+
+-- a mark is set, or was there
+mark-at : (m : List Bool) (h : Bool) (x c : ℕ) → (T h → x < length m) → getD (cond h (set m x true) m) c false ≡ (getD m c false || (h && eqb x c))
+mark-at m true x c small = by (eqb x c) refl
+  where
+    by : (t : Bool) → eqb x c ≡ t → getD (set m x true) c false ≡ (getD m c false || t)
+    by true e = ap (λ (k : ℕ). getD (set m x true) k false) (sym (eqb-true x c e)) ∙ getD-set-same m x true false (small tt) ∙ sym (or-true (getD m c false))
+    by false e = getD-set-other m x c true false (λ q. eqb-false x c e (sym q)) ∙ sym (or-false (getD m c false))
+mark-at m false x c small = sym (or-false (getD m c false))
+
+mark-length : (m : List Bool) (h : Bool) (x : ℕ) → length (cond h (set m x true) m) ≡ length m
+mark-length m true x = length-set m x true
+mark-length m false x = refl
+
+module _ (ns : List ℕ) (i : ℕ) (m : List Bool) where
+  -- the marks, with those of node i's children
+  pub marks-more : Marks ns i m → i < 64 → not-lower ns i ≡ false → (m₁ m₂ : List Bool)
+    → m₁ ≡ cond (has-one ns i) (set m (one-of ns i) true) m
+    → m₂ ≡ cond (has-two ns i) (set m₁ (two-of ns i) true) m₁
+    → Marks ns (i + 1) m₂
+  unfolding taken is-child
+  marks-more marks small low m₁ m₂ e₁ e₂ =
+      let l₁ : length m₁ ≡ 64 = ap length e₁ ∙ mark-length m (has-one ns i) (one-of ns i) ∙ marks .size in
+      let l₂ : length m₂ ≡ 64 = ap length e₂ ∙ mark-length m₁ (has-two ns i) (two-of ns i) ∙ l₁ in
+      let at : (c : ℕ) → c < 64 → getD m₂ c false ≡ taken ns (suc i) c
+          = λ c h.
+            ap (λ (x : List Bool). getD x c false) e₂
+            ∙ mark-at m₁ (has-two ns i) (two-of ns i) c (λ t. omega (arith, lower-two ns i low t))
+            ∙ ap (λ (b : Bool). b || (has-two ns i && eqb (two-of ns i) c))
+              (ap (λ (x : List Bool). getD x c false) e₁
+              ∙ mark-at m (has-one ns i) (one-of ns i) c (λ t. omega (arith, lower-one ns i low t, marks .size))
+              ∙ ap (λ (b : Bool). b || (has-one ns i && eqb (one-of ns i) c)) (marks .each c h))
+            ∙ or-assoc (taken ns i c) _ _ in
+      record { size = l₂; each = rw add-one at }
+
+  marked-is : Marks ns i m → (h : Bool) (x : ℕ) → (T h → x < 64) → (h && getD m x false) ≡ (h && taken ns i x)
+  marked-is marks true x small = marks .each x (small tt)
+  marked-is marks false x small = refl
+
+  -- 8, read off the marks
+  pub taken-by-marks : Marks ns i m → i < 64 → not-lower ns i ≡ false
+    → ((has-one ns i && getD m (one-of ns i) false) || ((has-two ns i && getD m (two-of ns i) false) || (has-two ns i && eqb (one-of ns i) (two-of ns i)))) ≡ child-taken ns i
+  unfolding child-taken
+  taken-by-marks marks small low =
+      let one = marked-is marks (has-one ns i) (one-of ns i) (λ t. omega (arith, lower-one ns i low t)) in
+      let two = marked-is marks (has-two ns i) (two-of ns i) (λ t. omega (arith, lower-two ns i low t)) in
+      ap₂ (λ (a b : Bool). a || (b || (has-two ns i && eqb (one-of ns i) (two-of ns i)))) one two
+
+-- 9, read off the marks of all nodes
+module _ (ns : List ℕ) (m : List Bool) (marks : Marks ns (count ns) m) (i : ℕ) (small : i < 64) where
+  nobody-is : (b : Bool) → b ≡ getD m i false → nobodys-child ns i ≡ not b
+  unfolding nobodys-child
+  nobody-is b e = ap not (sym (e ∙ marks .each i small))
+
+  pub nobody-held : (b : Bool) → b ≡ getD m i false → not b ≡ true → first (child-grounds ns i) ≡ refused 9 i
+  unfolding child-grounds
+  nobody-held b e t = single-held 9 i (nobodys-child ns i) (nobody-is b e ∙ t)
+
+  pub nobody-passed : (b : Bool) → b ≡ getD m i false → not b ≡ false → first (child-grounds ns i) ≡ Fine
+  unfolding child-grounds
+  nobody-passed b e t = single-passed 9 i (nobodys-child ns i) (nobody-is b e ∙ t)
+
+pub marks-none : (ns : List ℕ) → Marks ns 0 (replicate 64 false)
+unfolding taken
+marks-none ns = record { size = refl; each = λ c h. getD-replicate 64 c false false h }
+
+-- none of 4 to 8
+pub record FineNode (ns : List ℕ) (i : ℕ) : Type 0 where
+  pub known : unknown-kind ns i ≡ false
+  pub fields : wrong-field ns i ≡ false
+  pub lower : not-lower ns i ≡ false
+  pub sorts : wrong-sort ns i ≡ false
+  pub free : child-taken ns i ≡ false
+
+pub fine-node : (ns : List ℕ) (i : ℕ) → None (node-grounds ns i) → FineNode ns i
+unfolding node-grounds
+fine-node ns i (more a (more b (more c (more d (more e n))))) = record {
+  known = is-false (unknown-kind ns i) a;
+  fields = is-false (wrong-field ns i) b;
+  lower = is-false (not-lower ns i) c;
+  sorts = is-false (wrong-sort ns i) d;
+  free = is-false (child-taken ns i) e
+}

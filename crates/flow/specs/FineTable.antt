@@ -1,0 +1,196 @@
+-- What is known of a table that is not refused: how many nodes it has, that children are lower and of the right sort, that each
+-- node but the last is a child exactly once; so the table is a tree. Assumes nothing.
+use Prim.Native.Nat.{ℕ, zero, suc, _+_, _-_, _*_, _/_, _%_, _<_, _≤_}
+use mathlib.Core.Path.{_≡_, refl, sym, ap, _∙_, subst}
+use mathlib.Core.Bool.{Bool, true, false, not, xor, _&&_, _||_}
+use mathlib.Core.List.{List, [], _∷_, _++_}
+use mathlib.Core.Logic.{_≢_}
+use native.Mathlib.Omega.{arith}
+use lib.Dec.{T, eqb, ltb, eqb→eq, eqb-refl}
+use lib.ListN.{length, getD, List·getD-eq-default}
+use borrow.Author.Tests.{eqb-true, eqb-false, ltb-true, ltb-false, not-true, not-false, eq-eqb, ne-eqb}
+use Rattle.flow.specs.declared.Check.the-variants.{Fine}
+use Rattle.flow.specs.Nodes.{Kid, kid1, kid2, Tree}
+use Rattle.flow.specs.Kinds.{Kind, Unknown, kindOf, kids, kind, one-of, two-of, shape, is-standard, of-standard}
+use Rattle.flow.specs.Refusals.{count, root, has-one, has-two, no-nodes, not-whole, too-many-nodes, wrong-sort, child-taken, nobodys-child, is-child, taken, table-check, table-grounds, nodes-grounds, node-grounds, child-grounds, each}
+use Rattle.flow.specs.Tests.{is-true, is-false, not-both, neither-one, neither-two, then-false, same-of-xor}
+use Rattle.flow.specs.FirstRefusal.{None, none, more, fine-exactly, none-append, none-each}
+use Rattle.flow.specs.Children.{FineNode, fine-node, lower-one, lower-two}
+
+-- none of 1 to 9
+pub record FineTable (ns : List ℕ) : Type 0 where
+  pub some : 1 ≤ count ns
+  pub few : count ns ≤ 64
+  pub whole : length ns ≡ 3 * count ns
+  pub node : (i : ℕ) → i < count ns → FineNode ns i
+  pub child : (i : ℕ) → i + 1 < count ns → nobodys-child ns i ≡ false
+
+module _ (ns : List ℕ) where
+  fine-child : (i : ℕ) → None (child-grounds ns i) → nobodys-child ns i ≡ false
+  unfolding child-grounds
+  fine-child i (more t n) = is-false (nobodys-child ns i) t
+
+  parts-fine : None (table-grounds ns) → FineTable ns
+  unfolding table-grounds nodes-grounds no-nodes not-whole too-many-nodes
+  parts-fine (more a (more b (more c n))) =
+      let m = none-append (each (node-grounds ns) 0 (count ns)) (each (child-grounds ns) 0 (count ns - 1)) n in
+      let na = eqb-false (length ns) 0 (is-false (no-nodes ns) a) in
+      let nb = eqb-true (length ns % 3) 0 (not-false (eqb (length ns % 3) 0) (is-false (not-whole ns) b)) in
+      let nc = ltb-false 64 (count ns) (is-false (too-many-nodes ns) c) in
+      record {
+        some = omega (arith, na, nb);
+        few = nc;
+        whole = omega (arith, nb);
+        node = λ i h. fine-node ns i (none-each (node-grounds ns) 0 (count ns) i (m .0) (omega arith) (omega arith));
+        child = λ i h. fine-child i (none-each (child-grounds ns) 0 (count ns - 1) i (m .1) (omega arith) (omega arith))
+      }
+
+  pub fine-table : table-check ns ≡ Fine → FineTable ns
+  unfolding table-check
+  fine-table e = parts-fine (fine-exactly (table-grounds ns) .0 e)
+
+---- Children ----
+
+or-one : (a b : Bool) → T a → T (a || b)
+or-one true b t = tt
+or-one false b t = absurd t
+
+or-two : (a b : Bool) → T b → T (a || b)
+or-two true b t = tt
+or-two false b t = t
+
+and-both : (a b : Bool) → T a → T b → T (a && b)
+and-both true b t u = u
+and-both false b t u = absurd t
+
+one-of-both : (a b : Bool) → T (a && b) → T a
+one-of-both true b t = tt
+one-of-both false b t = t
+
+two-of-both : (a b : Bool) → T (a && b) → T b
+two-of-both true b t = t
+two-of-both false b t = absurd t
+
+module _ (ns : List ℕ) where
+  kid-child : (j c : ℕ) → Kid (shape ns) j c → T (is-child ns j c)
+  unfolding is-child
+  kid-child j c (kid1 t e) =
+      or-one (has-one ns j && eqb (one-of ns j) c) (has-two ns j && eqb (two-of ns j) c)
+      (and-both (has-one ns j) (eqb (one-of ns j) c) t (subst (λ (x : ℕ). T (eqb (one-of ns j) x)) (sym e) (eqb-refl (one-of ns j))))
+  kid-child j c (kid2 t e) =
+      or-two (has-one ns j && eqb (one-of ns j) c) (has-two ns j && eqb (two-of ns j) c)
+      (and-both (has-two ns j) (eqb (two-of ns j) c) t (subst (λ (x : ℕ). T (eqb (two-of ns j) x)) (sym e) (eqb-refl (two-of ns j))))
+
+  -- a child of a node below n is taken
+  pub kid-taken : (n j c : ℕ) → j < n → Kid (shape ns) j c → T (taken ns n c)
+  unfolding taken
+  kid-taken zero j c h k = absurd (omega arith)
+  kid-taken (suc n) j c h k = by (eqb j n) refl (λ l. kid-taken n j c l k)
+    where
+      by : (b : Bool) → eqb j n ≡ b → (j < n → T (taken ns n c)) → T (taken ns n c || is-child ns n c)
+      by true e rec = or-two (taken ns n c) (is-child ns n c) (subst (λ (x : ℕ). T (is-child ns x c)) (eqb-true j n e) (kid-child j c k))
+      by false e rec = or-one (taken ns n c) (is-child ns n c) (rec (omega (arith, eqb-false j n e)))
+
+  child-kid : (j c : ℕ) → T (is-child ns j c) → Kid (shape ns) j c
+  unfolding is-child
+  child-kid j c t = by (has-one ns j) refl (eqb (one-of ns j) c) refl t
+    where
+      two : T (has-two ns j && eqb (two-of ns j) c) → Kid (shape ns) j c
+      two t = kid2 (one-of-both (has-two ns j) (eqb (two-of ns j) c) t) (sym (eqb→eq (two-of ns j) c (two-of-both (has-two ns j) (eqb (two-of ns j) c) t)))
+      by : (a : Bool) → has-one ns j ≡ a → (b : Bool) → eqb (one-of ns j) c ≡ b → T ((a && b) || (has-two ns j && eqb (two-of ns j) c)) → Kid (shape ns) j c
+      by true p true q t = kid1 (subst T (sym p) tt) (sym (eqb-true (one-of ns j) c q))
+      by true p false q t = two t
+      by false p b q t = two t
+
+  -- a taken node has a parent
+  pub taken-kid : (n c : ℕ) → T (taken ns n c) → (j : ℕ) × (j < n) × Kid (shape ns) j c
+  unfolding taken
+  taken-kid zero c t = absurd t
+  taken-kid (suc n) c t = by (taken ns n c) refl (taken-kid n c) t
+    where
+      by : (b : Bool) → taken ns n c ≡ b → (T (taken ns n c) → (j : ℕ) × (j < n) × Kid (shape ns) j c) → T (b || is-child ns n c) → (j : ℕ) × (j < suc n) × Kid (shape ns) j c
+      by true e rec t = let r = rec (subst T (sym e) tt) in (r .0, omega (arith, r .1), r .2)
+      by false e rec t = (n, omega arith, child-kid n c t)
+
+---- The tree ----
+
+module _ (ns : List ℕ) (fine : FineTable ns) where
+  -- behind the last node there is nothing
+  beyond : (i : ℕ) → count ns ≤ i → kind ns i ≡ Unknown
+  beyond i h = ap kindOf (List·getD-eq-default ns 0 (omega (arith, fine .whole)))
+
+  two-means-one : (i : ℕ) → T (has-two ns i) → T (has-one ns i)
+  two-means-one i t = subst (λ (n : ℕ). T (not (eqb n 0))) (sym (eqb→eq (kids (kind ns i)) 2 t)) tt
+
+  -- a node with a child is one of the table's
+  parent-within : (i : ℕ) → T (has-one ns i) → i < count ns
+  parent-within i t = by (ltb i (count ns)) refl
+    where
+      by : (b : Bool) → ltb i (count ns) ≡ b → i < count ns
+      by true e = ltb-true i (count ns) e
+      by false e = absurd (subst (λ (k : Kind). T (not (eqb (kids k) 0))) (beyond i (ltb-false i (count ns) e)) t)
+
+  pub kid-within : (i c : ℕ) → Kid (shape ns) i c → i < count ns
+  kid-within i c (kid1 t e) = parent-within i t
+  kid-within i c (kid2 t e) = parent-within i (two-means-one i t)
+
+  -- 6
+  pub kid-lower : (i c : ℕ) → Kid (shape ns) i c → c < i
+  kid-lower i c (kid1 t e) = omega (arith, e, lower-one ns i (fine .node i (parent-within i t) .lower) t)
+  kid-lower i c (kid2 t e) = omega (arith, e, lower-two ns i (fine .node i (parent-within i (two-means-one i t)) .lower) t)
+
+  -- 7
+  pub sort-one : (i : ℕ) → T (has-one ns i) → is-standard (kind ns (one-of ns i)) ≡ of-standard (kind ns i)
+  unfolding wrong-sort
+  sort-one i t =
+      let w : ℕ → Bool = λ c. xor (is-standard (kind ns c)) (of-standard (kind ns i)) in
+      same-of-xor _ _ (then-false (has-one ns i) (w (one-of ns i)) (neither-one _ (has-two ns i && w (two-of ns i)) (fine .node i (parent-within i t) .sorts)) t)
+
+  pub sort-two : (i : ℕ) → T (has-two ns i) → is-standard (kind ns (two-of ns i)) ≡ of-standard (kind ns i)
+  unfolding wrong-sort
+  sort-two i t =
+      let w : ℕ → Bool = λ c. xor (is-standard (kind ns c)) (of-standard (kind ns i)) in
+      same-of-xor _ _ (then-false (has-two ns i) (w (two-of ns i)) (neither-two (has-one ns i && w (one-of ns i)) _ (fine .node i (parent-within i (two-means-one i t)) .sorts)) t)
+
+  pub kid-sort : (i c : ℕ) → Kid (shape ns) i c → is-standard (kind ns c) ≡ of-standard (kind ns i)
+  kid-sort i c (kid1 t e) = ap (λ (x : ℕ). is-standard (kind ns x)) e ∙ sort-one i t
+  kid-sort i c (kid2 t e) = ap (λ (x : ℕ). is-standard (kind ns x)) e ∙ sort-two i t
+
+  -- 8: not taken before
+  kid-free : (i c : ℕ) → Kid (shape ns) i c → taken ns i c ≡ false
+  unfolding child-taken
+  kid-free i c (kid1 t e) =
+      let f = fine .node i (parent-within i t) .free in
+      ap (taken ns i) e ∙ then-false (has-one ns i) (taken ns i (one-of ns i)) (neither-one _ ((has-two ns i && taken ns i (two-of ns i)) || (has-two ns i && eqb (one-of ns i) (two-of ns i))) f) t
+  kid-free i c (kid2 t e) =
+      let f = fine .node i (parent-within i (two-means-one i t)) .free in
+      let g = neither-two (has-one ns i && taken ns i (one-of ns i)) ((has-two ns i && taken ns i (two-of ns i)) || (has-two ns i && eqb (one-of ns i) (two-of ns i))) f in
+      ap (taken ns i) e ∙ then-false (has-two ns i) (taken ns i (two-of ns i)) (neither-one _ (has-two ns i && eqb (one-of ns i) (two-of ns i)) g) t
+
+  not-again : (i j c : ℕ) → i < j → Kid (shape ns) i c → Kid (shape ns) j c → ⊥
+  not-again i j c h k l = not-both (kid-free j c l) (kid-taken ns j i c h k)
+
+  kid-once : (i j c : ℕ) → Kid (shape ns) i c → Kid (shape ns) j c → i ≡ j
+  kid-once i j c k l = by (ltb i j) refl (ltb j i) refl
+    where
+      by : (a : Bool) → ltb i j ≡ a → (b : Bool) → ltb j i ≡ b → i ≡ j
+      by true p b q = absurd (not-again i j c (ltb-true i j p) k l)
+      by false p true q = absurd (not-again j i c (ltb-true j i q) l k)
+      by false p false q = omega (arith, ltb-false i j p, ltb-false j i q)
+
+  -- 8: not twice
+  kids-apart : (i : ℕ) → T (has-one ns i) → T (has-two ns i) → one-of ns i ≢ two-of ns i
+  unfolding child-taken
+  kids-apart i t u =
+      let f = fine .node i (parent-within i t) .free in
+      let g = neither-two (has-one ns i && taken ns i (one-of ns i)) ((has-two ns i && taken ns i (two-of ns i)) || (has-two ns i && eqb (one-of ns i) (two-of ns i))) f in
+      eqb-false (one-of ns i) (two-of ns i) (then-false (has-two ns i) (eqb (one-of ns i) (two-of ns i)) (neither-two (has-two ns i && taken ns i (two-of ns i)) _ g) u)
+
+  -- a table that is not refused is a tree
+  pub fine-tree : Tree (shape ns)
+  fine-tree = record { lower = kid-lower; once = kid-once; apart = kids-apart }
+
+  -- 9: "each node but the last is a child"
+  pub fine-parent : (c : ℕ) → c + 1 < count ns → (i : ℕ) × (i < count ns) × Kid (shape ns) i c
+  unfolding nobodys-child
+  fine-parent c h = taken-kid ns (count ns) c (subst T (sym (not-false (taken ns (count ns) c) (fine .child c h))) tt)

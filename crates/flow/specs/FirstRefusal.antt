@@ -1,0 +1,170 @@
+-- "Given exactly when": a check answers a refusal exactly if its ground holds and no ground listed before it does, and nothing is
+-- refused exactly if no ground holds. Said once, of any list of grounds. Assumes nothing.
+use Prim.Native.Nat.{ℕ, zero, suc, _+_, _-_, _<_, _≤_}
+use mathlib.Core.Path.{_≡_, refl, sym, ap, _∙_, subst}
+use mathlib.Core.Bool.{Bool, true, false, not, cond}
+use mathlib.Core.List.{List, [], _∷_, _++_}
+use native.Mathlib.Omega.{arith}
+use native.Mathlib.Numerals.{add-one}
+use native.Mathlib.Nat.{eq-or-lt-of-le}
+use mathlib.Core.Logic.{⊎-elim, _↔_}
+use lib.Dec.{T}
+use Rattle.flow.specs.Tests.{is-true, is-false}
+use Rattle.flow.specs.declared.Refusal.{Refusal}
+use Rattle.flow.specs.declared.Check.{Check}
+use Rattle.flow.specs.declared.Check.the-variants.{Fine, Refused}
+use Rattle.flow.specs.Refusals.{Ground, ground, refused, or-else-check, answer, first, each, no-nodes, not-whole, too-many-nodes, no-records, too-many-records, table-check, table-grounds, nodes-check, records-check, records-grounds, values-check, values-grounds, closings-check, closing-grounds}
+
+-- r is the first refusal: its ground holds, and none before it does
+pub data First (r : Refusal) : List Ground → Type 0 where
+  here : {g : Ground} {gs : List Ground} → r ≡ g .refusal → T (g .holds) → First r (g ∷ gs)
+  later : {g : Ground} {gs : List Ground} → T (not (g .holds)) → First r gs → First r (g ∷ gs)
+
+-- no ground holds
+pub data None : List Ground → Type 0 where
+  none : None []
+  more : {g : Ground} {gs : List Ground} → T (not (g .holds)) → None gs → None (g ∷ gs)
+
+abbrev is-fine : Check → Type 0
+is-fine Fine = Unit {0}
+is-fine (Refused r) = ⊥
+
+abbrev refusal-or : Refusal → Check → Refusal
+refusal-or q Fine = q
+refusal-or q (Refused r) = r
+
+T-not : {b : Bool} → b ≡ false → T (not b)
+T-not e = subst (λ (x : Bool). T (not x)) (sym e) tt
+
+T-is : {b : Bool} → b ≡ true → T b
+T-is e = subst T (sym e) tt
+
+-- the check of one ground more, by what the ground says
+module _ (g : Ground) (gs : List Ground) where
+  pub first-held : g .holds ≡ true → first (g ∷ gs) ≡ Refused (g .refusal)
+  unfolding first answer or-else-check
+  first-held e = rw e
+
+  pub first-passed : g .holds ≡ false → first (g ∷ gs) ≡ first gs
+  unfolding first answer or-else-check
+  first-passed e = rw e
+
+module _ (r : Refusal) where
+  answers : (gs : List Ground) → first gs ≡ Refused r → First r gs
+  unfolding first
+  answers [] e = absurd (subst is-fine e tt)
+  answers (g ∷ gs) e = by (g .holds) refl (answers gs)
+    where
+      by : (b : Bool) → g .holds ≡ b → (first gs ≡ Refused r → First r gs) → First r (g ∷ gs)
+      by true h next = here (ap (refusal-or r) (sym e ∙ first-held g gs h)) (T-is h)
+      by false h next = later (T-not h) (next (sym (first-passed g gs h) ∙ e))
+
+  answered : (gs : List Ground) → First r gs → first gs ≡ Refused r
+  answered gs (here {g} {gs = hs} e t) = first-held g hs (is-true (g .holds) t) ∙ ap Refused (sym e)
+  answered gs (later {g} {gs = hs} t f) = first-passed g hs (is-false (g .holds) t) ∙ answered hs f
+
+passes : (gs : List Ground) → first gs ≡ Fine → None gs
+passes [] e = none
+passes (g ∷ gs) e = by (g .holds) refl (passes gs)
+  where
+    by : (b : Bool) → g .holds ≡ b → (first gs ≡ Fine → None gs) → None (g ∷ gs)
+    by true h next = absurd (subst is-fine (sym e ∙ first-held g gs h) tt)
+    by false h next = more (T-not h) (next (sym (first-passed g gs h) ∙ e))
+
+passed : (gs : List Ground) → None gs → first gs ≡ Fine
+unfolding first
+passed gs none = refl
+passed gs (more {g} {gs = hs} t n) = first-passed g hs (is-false (g .holds) t) ∙ passed hs n
+
+---- Exactly when ----
+
+pub refused-exactly : (gs : List Ground) (r : Refusal) → (first gs ≡ Refused r) ↔ First r gs
+refused-exactly gs r = (answers r gs, answered r gs)
+
+pub fine-exactly : (gs : List Ground) → (first gs ≡ Fine) ↔ None gs
+fine-exactly gs = (passes gs, passed gs)
+
+-- 1 to 9: the refusal table's numbers on a node table, in its order
+pub table-refused : (ns : List ℕ) (r : Refusal) → (table-check ns ≡ Refused r) ↔ First r (table-grounds ns)
+unfolding table-check
+table-refused ns r = refused-exactly (table-grounds ns) r
+
+-- 10 to 13: those on a record list
+pub records-refused : (ns rs : List ℕ) (r : Refusal) → (records-check ns rs ≡ Refused r) ↔ First r (records-grounds ns rs)
+unfolding records-check
+records-refused ns rs r = refused-exactly (records-grounds ns rs) r
+
+---- Parts of a list of grounds ----
+
+or-else-after : (a b c : Check) → or-else-check (or-else-check a b) c ≡ or-else-check a (or-else-check b c)
+unfolding or-else-check
+or-else-after Fine b c = refl
+or-else-after (Refused r) b c = refl
+
+pub first-append : (gs hs : List Ground) → first (gs ++ hs) ≡ or-else-check (first gs) (first hs)
+unfolding first or-else-check
+first-append [] hs = refl
+first-append (g ∷ gs) hs = ap (or-else-check (answer g)) (first-append gs hs) ∙ sym (or-else-after (answer g) (first gs) (first hs))
+
+pub none-append : (gs hs : List Ground) → None (gs ++ hs) → None gs × None hs
+none-append [] hs n = (none, n)
+none-append (g ∷ gs) hs (more t n) = let m = none-append gs hs n in (more t (m .0), m .1)
+
+-- one place more
+pub each-next : (f : ℕ → List Ground) (i n : ℕ) → i < n → each f i (n - i) ≡ f i ++ each f (i + 1) (n - (i + 1))
+unfolding each
+each-next f i n h =
+    let e : n - i ≡ suc (n - (i + 1)) = omega arith in
+    rw (e, add-one)
+
+pub none-each : (f : ℕ → List Ground) (i k j : ℕ) → None (each f i k) → i ≤ j → j < i + k → None (f j)
+unfolding each
+none-each f i zero j n lo hi = absurd (omega arith)
+none-each f i (suc k) j n lo hi =
+    let m = none-append (f i) (each f (suc i) k) n in
+    ⊎-elim (λ e. subst (λ (x : ℕ). None (f x)) e (m .0)) (λ l. none-each f (suc i) k j (m .1) l (omega arith)) (eq-or-lt-of-le lo)
+
+-- the check of places i to n: by the one at i, or by the others
+module _ (f : ℕ → List Ground) (i n : ℕ) where
+  each-first : i < n → first (each f i (n - i)) ≡ or-else-check (first (f i)) (first (each f (i + 1) (n - (i + 1))))
+  each-first h = ap first (each-next f i n h) ∙ first-append (f i) (each f (i + 1) (n - (i + 1)))
+
+  pub each-held : i < n → (r : Refusal) → first (f i) ≡ Refused r → first (each f i (n - i)) ≡ Refused r
+  unfolding or-else-check
+  each-held h r e = each-first h ∙ ap (λ (c : Check). or-else-check c (first (each f (i + 1) (n - (i + 1))))) e
+
+  pub each-passed : i < n → first (f i) ≡ Fine → first (each f i (n - i)) ≡ first (each f (i + 1) (n - (i + 1)))
+  unfolding or-else-check
+  each-passed h e = each-first h ∙ ap (λ (c : Check). or-else-check c (first (each f (i + 1) (n - (i + 1))))) e
+
+  pub each-over : n ≤ i → first (each f i (n - i)) ≡ Fine
+  unfolding each first
+  each-over h = let e : n - i ≡ zero = omega arith in rw e
+
+pub each-start : (f : ℕ → List Ground) (n : ℕ) → first (each f 0 (n - 0)) ≡ first (each f 0 n)
+each-start f n = let e : n - 0 ≡ n = omega arith in rw e
+
+-- a check of one ground
+module _ (number place : ℕ) (b : Bool) where
+  pub single-held : b ≡ true → first (ground number place b ∷ []) ≡ refused number place
+  single-held e = first-held (ground number place b) [] e
+
+  pub single-passed : b ≡ false → first (ground number place b ∷ []) ≡ Fine
+  unfolding first
+  single-passed e = first-passed (ground number place b) [] e
+
+---- The checks in parts ----
+
+pub table-parts : (ns : List ℕ) → no-nodes ns ≡ false → not-whole ns ≡ false → too-many-nodes ns ≡ false → table-check ns ≡ nodes-check ns
+unfolding table-check table-grounds nodes-check
+table-parts ns a b c =
+    first-passed (ground 1 0 (no-nodes ns)) _ a
+    ∙ first-passed (ground 2 0 (not-whole ns)) _ b
+    ∙ first-passed (ground 3 0 (too-many-nodes ns)) _ c
+
+pub records-parts : (ns rs : List ℕ) → no-records rs ≡ false → too-many-records rs ≡ false → records-check ns rs ≡ or-else-check (values-check rs) (closings-check ns rs)
+unfolding records-check records-grounds values-check closings-check
+records-parts ns rs a b =
+    first-passed (ground 10 0 (no-records rs)) _ a
+    ∙ first-passed (ground 11 0 (too-many-records rs)) _ b
+    ∙ first-append (values-grounds rs) (closing-grounds ns rs)
