@@ -3,6 +3,7 @@
 use Prim.Native.Nat.{ℕ, zero, suc, _+_, _*_, _≤_}
 use mathlib.Core.Bool.{cond}
 use mathlib.Core.List.{List, [], _∷_}
+use mathlib.Core.Path.{_≡_}
 use lib.Dec.{ltb}
 use lib.ListN.{length, getD, take, drop}
 use Rattle.flow.specs.declared.Refusal.{Refusal}
@@ -12,7 +13,7 @@ use Rattle.flowfile.specs.declared.Reading.{Reading}
 use Rattle.flowfile.specs.declared.Reading.the-variants.{Read, Refused}
 use Rattle.flowfile.specs.Format.{Entry, File}
 use Rattle.flowfile.specs.Plan.{Ran, got, bad}
-use Rattle.flowfile.specs.Reading.{counts}
+use Rattle.flowfile.specs.Reading.{counts, reading, over}
 
 ---- Answers ----
 
@@ -68,3 +69,11 @@ module _ (s : List ℕ) where
   pub record Behind (k at : ℕ) : Type 0 where
     pub start : entries-end k 2 ≤ at
     pub whole : entry-end at ≤ length s
+
+---- The reader ----
+
+-- the answer and the two tables are those of `reading`
+pub record ReadAs (s nodes records nodes′ records′ : List ℕ) (r : Reading) : Type 0 where
+  pub answer : r ≡ reading s (length nodes) (length records) .answer
+  pub nodes-after : nodes′ ≡ over (reading s (length nodes) (length records) .nodes) nodes
+  pub records-after : records′ ≡ over (reading s (length nodes) (length records) .records) records

@@ -10,7 +10,7 @@ use Rattle.flow.specs.declared.Refusal.{Refusal}
 use Rattle.flow.specs.declared.Check.{Check}
 use Rattle.flow.specs.declared.Check.the-variants as check
 use Rattle.flow.specs.Kinds.{one-of}
-use Rattle.flow.specs.Refusals.{Ground, ground, first, each, count, nodes-grounds, value-grounds, closing-grounds}
+use Rattle.flow.specs.Refusals.{Ground, ground, first, each, count, nodes-grounds, values-grounds, closing-grounds}
 use Rattle.flowfile.specs.declared.Reading.{Reading}
 use Rattle.flowfile.specs.declared.Reading.the-variants.{Read, Refused}
 use Rattle.flowfile.specs.Format.{Entry, File}
@@ -110,27 +110,37 @@ layout = do
 ---- What the numbers mean ----
 
 -- 19: "a node's event above the number of names (lowest node)"
-unfoldable pub leaf-grounds : ℕ → List ℕ → List Ground
-unfolding each
-leaf-grounds names ns = each (λ i. ground 19 i (eqb (getD ns (3 * i) 0) 1 && ltb names (one-of ns i)) ∷ []) 0 (count ns)
+unfoldable pub unnamed-leaf : ℕ → List ℕ → ℕ → Bool
+unnamed-leaf names ns i = eqb (getD ns (3 * i) 0) 1 && ltb names (one-of ns i)
 
--- 20: "and 20, a record's (lowest record)"
-unfoldable pub event-grounds : ℕ → List ℕ → List Ground
-unfolding each
-event-grounds names rs = each (λ i. ground 20 i (leb (getD rs i 0) 256 && ltb names (getD rs i 0)) ∷ []) 0 (length rs)
+abbrev pub leaf-grounds : ℕ → List ℕ → ℕ → List Ground
+leaf-grounds names ns i = ground 19 i (unnamed-leaf names ns i) ∷ []
+
+unfoldable pub leaves-grounds : ℕ → List ℕ → List Ground
+unfolding each unnamed-leaf
+leaves-grounds names ns = each (leaf-grounds names ns) 0 (count ns)
+
+-- "and 20, a record's (lowest record)"
+unfoldable pub unnamed-event : ℕ → ℕ → Bool
+unnamed-event names r = leb r 256 && ltb names r
+
+abbrev pub event-grounds : ℕ → List ℕ → ℕ → List Ground
+event-grounds names rs i = ground 20 i (unnamed-event names (getD rs i 0)) ∷ []
+
+unfoldable pub events-grounds : ℕ → List ℕ → List Ground
+unfolding each unnamed-event
+events-grounds names rs = each (event-grounds names rs) 0 (length rs)
 
 -- "Then 4 to 9, 12, 13; then 19 .., and 20"
-unfoldable pub content-grounds : File → List Ground
-unfolding nodes-grounds value-grounds closing-grounds leaf-grounds event-grounds
-content-grounds f =
-    nodes-grounds (f .nodes)
-    ++ (value-grounds (f .records)
-    ++ (closing-grounds (f .nodes) (f .records)
-    ++ (leaf-grounds (length (f .names)) (f .nodes)
-    ++ event-grounds (length (f .names)) (f .records))))
+unfoldable pub grounds-of : ℕ → List ℕ → List ℕ → List Ground
+unfolding nodes-grounds values-grounds closing-grounds leaves-grounds events-grounds
+grounds-of names ns rs =
+    nodes-grounds ns ++ (values-grounds rs ++ (closing-grounds ns rs ++ (leaves-grounds names ns ++ events-grounds names rs)))
 
-unfoldable pub content-check : File → Check
-unfolding first content-grounds
+abbrev pub content-grounds : File → List Ground
+content-grounds f = grounds-of (length (f .names)) (f .nodes) (f .records)
+
+abbrev pub content-check : File → Check
 content-check f = first (content-grounds f)
 
 ---- The answer ----
@@ -154,7 +164,7 @@ checked f (check.Refused r) = refused r
 
 -- 21: "bytes after the last record", at "the first byte too many"
 unfoldable pub laid : List ℕ → Ran File → Outcome
-unfolding checked content-check
+unfolding checked first grounds-of
 laid s (bad n p) = refused (record { number = n; place = p })
 laid s (got f at) = cond (ltb at (length s)) (refused (record { number = 21; place = at })) (checked f (content-check f))
 

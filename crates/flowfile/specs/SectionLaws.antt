@@ -1,18 +1,19 @@
 -- What the plans of counts, numbers, entries and the three sections come to, by the runs of their parts. Assumes nothing.
 use Prim.Native.Nat.{ℕ, zero, suc, _+_, _*_, _-_, _≤_, _<_}
 use mathlib.Core.Bool.{Bool, true, false, _&&_, cond}
-use mathlib.Core.List.{List, [], _∷_, _++_}
+use mathlib.Core.List.{List, [], _∷_, _++_, append-assoc}
 use mathlib.Core.Logic.{_⊎_, inl, inr}
 use mathlib.Core.Path.{_≡_, refl, ap, ap₂, sym, _∙_, subst}
 use native.Mathlib.Numerals.{add-one}
 use native.Mathlib.Omega.{arith}
 use borrow.Author.Tests.{leb-true, leb-false, le-leb, lt-leb, lt-ltb, le-ltb, eq-eqb, ne-eqb, ltb-true, ltb-false, eqb-false}
 use lib.Dec.{ltb, eqb}
-use lib.ListN.{length, getD}
+use lib.ListN.{length, getD, drop, set, length-append, length-drop}
+use lib.Seq.{drop-cons, set-at}
 use Rattle.flowfile.specs.Format.{Entry, File}
 use Rattle.flowfile.specs.Plan.{Plan, done, refuse, place, item, _>>=_, Ran, got, bad, run}
 use Rattle.flowfile.specs.Plans.{run-bind, bind-bad, bind-got}
-use Rattle.flowfile.specs.Reading.{number, entry, met, new-entry, entries, name-count, names, some-count, numbers, layout}
+use Rattle.flowfile.specs.Reading.{number, entry, met, new-entry, entries, name-count, names, some-count, numbers, layout, over}
 use Rattle.flowfile.specs.Items.{number-at, values, entry-at, entry-end, entries-at, entries-end}
 use Rattle.flowfile.specs.ItemLaws.{le-or-lt, got-value, got-next, number-cut, number-got, entry-there, EntryThere}
 
@@ -164,6 +165,33 @@ module _ (s : List ℕ) where
   unfolding values
   values-length zero at = refl
   values-length (suc k) at = ap suc (values-length k (at + 2))
+
+  pub values-more : (k at : ℕ) → values s (suc k) at ≡ values s k at ++ (number-at s (at + 2 * k) ∷ [])
+  unfolding values
+  values-more zero at = ap (λ (n : ℕ). number-at s n ∷ []) (omega arith)
+  values-more (suc k) at =
+      ap (λ (ns : List ℕ). number-at s at ∷ ns)
+      (values-more k (at + 2) ∙ ap (λ (n : ℕ). values s k (at + 2) ++ (number-at s n ∷ [])) (omega arith))
+
+  -- one number more at the front of a table
+  pub over-more : (i at : ℕ) (table : List ℕ) → i < length table
+      → set (over (values s i at) table) i (number-at s (at + 2 * i)) ≡ over (values s (i + 1) at) table
+  over-more i at table h =
+      let v = number-at s (at + 2 * i) in
+      let ns = values s i at in
+      let n : length ns ≡ i = values-length i at in
+      let n′ : length (values s (i + 1) at) ≡ suc i = values-length (i + 1) at ∙ add-one i in
+      let there : over ns table ≡ ns ++ (getD table i 0 ∷ drop (suc i) table) =
+            ap (λ (k : ℕ). ns ++ drop k table) n ∙ ap (λ (xs : List ℕ). ns ++ xs) (drop-cons table i 0 h) in
+      let more : values s (i + 1) at ≡ ns ++ (v ∷ []) = ap (λ (k : ℕ). values s k at) (add-one i) ∙ values-more i at in
+      ap (λ (xs : List ℕ). set xs i v) there ∙ set-at ns (getD table i 0) (drop (suc i) table) v i n
+      ∙ sym (ap₂ (λ (xs : List ℕ) (k : ℕ). xs ++ drop k table) more n′ ∙ append-assoc ns (v ∷ []) (drop (suc i) table))
+
+  pub over-length : (k at : ℕ) (table : List ℕ) → k ≤ length table → length (over (values s k at) table) ≡ length table
+  over-length k at table h =
+      length-append (values s k at) (drop (length (values s k at)) table)
+      ∙ ap₂ (λ (a b : ℕ). a + b) (values-length k at) (length-drop (length (values s k at)) table ∙ ap (λ (n : ℕ). length table - n) (values-length k at))
+      ∙ omega arith
 
 ---- Entries ----
 

@@ -12,8 +12,8 @@ ghost use lib.ListN.{length, getD, take, drop};
 ghost use Rattle.flow.specs.Refusals.{first};
 ghost use Rattle.flowfile.specs.Format.{Entry};
 ghost use Rattle.flowfile.specs.Plan.{run};
-ghost use Rattle.flowfile.specs.Reading.{number, name, entry, new-entry, names, name-count, some-count, numbers, layout, same, same-entry, met, leaf-grounds, event-grounds, reading, over};
-ghost use Rattle.flowfile.specs.Items.{refusal-of, answered, laid-out, number-at, values, name-at, name-end, entry-at, entry-end, entries-at, entries-end, Behind};
+ghost use Rattle.flowfile.specs.Reading.{number, name, entry, new-entry, names, name-count, some-count, numbers, layout, same, same-entry, met, unnamed-leaf, unnamed-event, leaves-grounds, events-grounds, grounds-of, over};
+ghost use Rattle.flowfile.specs.Items.{refusal-of, answered, laid-out, number-at, values, name-at, name-end, entry-at, entry-end, entries-at, entries-end, Behind, ReadAs};
 
 // The refusals of the reader's own, by document 01's numbers.
 const NO_NODES: u16 = 1;
@@ -28,6 +28,10 @@ const SAME_ENTRY: u16 = 18;
 const NO_NAME_FOR_NODE: u16 = 19;
 const NO_NAME_FOR_RECORD: u16 = 20;
 const TOO_LONG: u16 = 21;
+
+// What the two tables must hold: three numbers for each of 64 nodes, and 256 records.
+const NODE_ROOM: usize = 192;
+const RECORD_ROOM: usize = 256;
 
 // A place in the file, in bytes.
 pub struct Cursor {
@@ -350,14 +354,32 @@ fn fill(file: &[u8], at: usize, count: usize, table: &mut [u16])
     }
 }
 
-// 19: the lowest event leaf above the number of names.
+// Whether node i is an event above the number of names.
+fn unnamed_leaf(nodes: &[u16], i: usize, names: u16) -> bool
+    requires { ⌜ 3 * i + 2 < length (now nodes) ⌝ }
+    ensures { λ r. ⌜ r ≡ unnamed-leaf names (now (nodes .entry)) i ⌝ }
+{
+    let kind = flow::kind_at(nodes, i);
+    let event = flow::first_at(nodes, i);
+    (kind == 1) & (names < event)
+}
+
+// Whether a record is an event above the number of names.
+fn unnamed_event(number: u16, names: u16) -> bool
+    ensures { λ r. ⌜ r ≡ unnamed-event names number ⌝ }
+{
+    (number <= 256) & (names < number)
+}
+
+// 19: the lowest event leaf above the number of names, of at most 64 whole nodes.
 fn check_leaves(nodes: &[u16], names: u16) -> Check
     requires { ⌜ length (now nodes) ≤ 192 ⌝ }
-    ensures { λ r. ⌜ r ≡ first (leaf-grounds names (now (nodes .entry))) ⌝ }
+    ensures { λ r. ⌜ r ≡ first (leaves-grounds names (now (nodes .entry))) ⌝ }
 {
+    let n = nodes.len() / 3;
     let mut i: usize = 0;
-    while 3 * i + 2 < nodes.len() {
-        if nodes[3 * i] == 1 && names < nodes[3 * i + 1] {
+    while i < n {
+        if unnamed_leaf(nodes, i, names) {
             return Check::Refused(refusal(NO_NAME_FOR_NODE, i));
         }
         i += 1;
@@ -365,17 +387,74 @@ fn check_leaves(nodes: &[u16], names: u16) -> Check
     Check::Fine
 }
 
-// 20: the lowest event record above the number of names.
+// 20: the lowest event record above the number of names, of at most 256 records.
 fn check_events(records: &[u16], names: u16) -> Check
     requires { ⌜ length (now records) ≤ 256 ⌝ }
-    ensures { λ r. ⌜ r ≡ first (event-grounds names (now (records .entry))) ⌝ }
+    ensures { λ r. ⌜ r ≡ first (events-grounds names (now (records .entry))) ⌝ }
 {
     let mut i: usize = 0;
     while i < records.len() {
-        if records[i] <= 256 && names < records[i] {
+        if unnamed_event(records[i], names) {
             return Check::Refused(refusal(NO_NAME_FOR_RECORD, i));
         }
         i += 1;
     }
     Check::Fine
+}
+
+// 4 to 9, 12, 13, 19 and 20, of what stands in a file.
+fn check_contents(nodes: &[u16], records: &[u16], names: u16) -> Check
+    requires { ⌜ (3 ≤ length (now nodes)) × (length (now nodes) ≤ 192) × (length (now records) ≤ 256) ⌝ }
+    ensures { λ r. ⌜ r ≡ first (grounds-of names (now (nodes .entry)) (now (records .entry))) ⌝ }
+{
+    let table = flow::check_nodes(nodes);
+    let Check::Fine = table else {
+        return table;
+    };
+    let values = flow::check_values(records);
+    let Check::Fine = values else {
+        return values;
+    };
+    let closings = flow::check_closings(nodes, records);
+    let Check::Fine = closings else {
+        return closings;
+    };
+    let leaves = check_leaves(nodes, names);
+    let Check::Fine = leaves else {
+        return leaves;
+    };
+    check_events(records, names)
+}
+
+// A flow file's bytes: the counts of names, nodes and records, with the numbers of the nodes and the records at the front of the
+// two tables, whose rest stays; or a refusal, and both tables stay. All checks are made on copies of the numbers first.
+pub fn read(file: &[u8], nodes: &mut [u16], records: &mut [u16]) -> Reading
+    ensures { λ r. ⌜ ReadAs (now (file .entry)) (now (nodes .entry)) (now (records .entry)) (now (nodes .exit)) (now (records .exit)) r ⌝ }
+{
+    if nodes.len() < NODE_ROOM {
+        return Reading::Refused(refusal(NO_ROOM, 0));
+    }
+    if records.len() < RECORD_ROOM {
+        return Reading::Refused(refusal(NO_ROOM, 0));
+    }
+    let reading = lay_out(file);
+    let Reading::Read(counts) = reading else {
+        return reading;
+    };
+    let n = 3 * counts.nodes as usize;
+    let k = counts.records as usize;
+    let records_at = file.len() - 2 * k;
+    let nodes_at = records_at - 2 - 2 * n;
+    let mut ns = [0u16; 192];
+    let mut rs = [0u16; 256];
+    fill(file, nodes_at, n, &mut ns);
+    fill(file, records_at, k, &mut rs);
+    match check_contents(&ns[..n], &rs[..k], counts.names) {
+        Check::Fine => {
+            fill(file, nodes_at, n, nodes);
+            fill(file, records_at, k, records);
+            reading
+        }
+        Check::Refused(r) => Reading::Refused(r),
+    }
 }
