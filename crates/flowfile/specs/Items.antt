@@ -7,6 +7,7 @@ use mathlib.Core.Path.{_≡_}
 use lib.Dec.{ltb}
 use lib.ListN.{length, getD, take, drop}
 use Rattle.flow.specs.declared.Refusal.{Refusal}
+use Rattle.flowfile.specs.declared.Counts.{Counts}
 use Rattle.flowfile.specs.declared.Item.{Item}
 use Rattle.flowfile.specs.declared.Item.the-variants.{Has, Bad}
 use Rattle.flowfile.specs.declared.Reading.{Reading}
@@ -71,6 +72,14 @@ module _ (s : List ℕ) where
     pub whole : entry-end at ≤ length s
 
 ---- The reader ----
+
+-- the numbers of so many nodes and records stand at two offsets
+pub record Placed (s : List ℕ) (c : Counts) (nodes-at records-at : ℕ) : Type 0 where
+  pub some-nodes : 1 ≤ c .nodes
+  pub few-nodes : c .nodes ≤ 64
+  pub few-records : c .records ≤ 256
+  pub nodes-inside : nodes-at + 2 * (3 * c .nodes) ≤ length s
+  pub records-inside : records-at + 2 * c .records ≤ length s
 
 -- the answer and the two tables are those of `reading`
 pub record ReadAs (s nodes records nodes′ records′ : List ℕ) (r : Reading) : Type 0 where

@@ -8,3 +8,5 @@ pub mod ItemLaws
 pub mod SectionLaws
 pub mod NameLaws
 pub mod LayoutLaws
+pub mod ContentLaws
+pub mod ReaderLaws

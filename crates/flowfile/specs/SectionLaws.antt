@@ -8,8 +8,8 @@ use native.Mathlib.Numerals.{add-one}
 use native.Mathlib.Omega.{arith}
 use borrow.Author.Tests.{leb-true, leb-false, le-leb, lt-leb, lt-ltb, le-ltb, eq-eqb, ne-eqb, ltb-true, ltb-false, eqb-false}
 use lib.Dec.{ltb, eqb}
-use lib.ListN.{length, getD, drop, set, length-append, length-drop}
-use lib.Seq.{drop-cons, set-at}
+use lib.ListN.{length, getD, take, drop, set, length-append, length-drop}
+use lib.Seq.{drop-cons, set-at, take-at}
 use Rattle.flowfile.specs.Format.{Entry, File}
 use Rattle.flowfile.specs.Plan.{Plan, done, refuse, place, item, _>>=_, Ran, got, bad, run}
 use Rattle.flowfile.specs.Plans.{run-bind, bind-bad, bind-got}
@@ -340,3 +340,10 @@ module _ (s : List ℕ) where
         let z : n - i ≡ 0 = omega arith in
         let e : i ≡ n = omega (arith, h .some) in
         h .goes-on ∙ ap₂ (λ (k j : ℕ). run s at (entries k (entries-at s j 2))) z e
+
+module _ (s : List ℕ) where
+  pub over-front : (k at : ℕ) (table : List ℕ) {table′ : List ℕ} → table′ ≡ over (values s k at) table → take k table′ ≡ values s k at
+  over-front k at table e = ap (take k) e ∙ take-at (values s k at) (drop (length (values s k at)) table) k (values-length s k at)
+
+  pub front-length : (k at : ℕ) (table : List ℕ) {table′ : List ℕ} → table′ ≡ over (values s k at) table → length (take k table′) ≡ k
+  front-length k at table e = ap length (over-front k at table e) ∙ values-length s k at

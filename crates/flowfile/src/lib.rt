@@ -13,7 +13,7 @@ ghost use Rattle.flow.specs.Refusals.{first};
 ghost use Rattle.flowfile.specs.Format.{Entry};
 ghost use Rattle.flowfile.specs.Plan.{run};
 ghost use Rattle.flowfile.specs.Reading.{number, name, entry, new-entry, names, name-count, some-count, numbers, layout, same, same-entry, met, unnamed-leaf, unnamed-event, leaves-grounds, events-grounds, grounds-of, over};
-ghost use Rattle.flowfile.specs.Items.{refusal-of, answered, laid-out, number-at, values, name-at, name-end, entry-at, entry-end, entries-at, entries-end, Behind, ReadAs};
+ghost use Rattle.flowfile.specs.Items.{refusal-of, answered, laid-out, number-at, values, name-at, name-end, entry-at, entry-end, entries-at, entries-end, Behind, Placed, ReadAs};
 
 // The refusals of the reader's own, by document 01's numbers.
 const NO_NODES: u16 = 1;
@@ -426,8 +426,22 @@ fn check_contents(nodes: &[u16], records: &[u16], names: u16) -> Check
     check_events(records, names)
 }
 
+// 4 to 9, 12, 13, 19 and 20, of the nodes' numbers at one offset of a file and the records' at another: they are checked on copies.
+fn check_numbers(file: &[u8], counts: Counts, from: usize, to: usize) -> Check
+    requires { ⌜ Placed (now file) counts from to ⌝ }
+    ensures { λ r. ⌜ r ≡ first (grounds-of (counts .names) (values (now (file .entry)) (3 * counts .nodes) from) (values (now (file .entry)) (counts .records) to)) ⌝ }
+{
+    let n = 3 * counts.nodes as usize;
+    let k = counts.records as usize;
+    let mut nodes = [0u16; 192];
+    let mut records = [0u16; 256];
+    fill(file, from, n, &mut nodes);
+    fill(file, to, k, &mut records);
+    check_contents(&nodes[..n], &records[..k], counts.names)
+}
+
 // A flow file's bytes: the counts of names, nodes and records, with the numbers of the nodes and the records at the front of the
-// two tables, whose rest stays; or a refusal, and both tables stay. All checks are made on copies of the numbers first.
+// two tables, whose rest stays; or a refusal, and both tables stay.
 pub fn read(file: &[u8], nodes: &mut [u16], records: &mut [u16]) -> Reading
     ensures { λ r. ⌜ ReadAs (now (file .entry)) (now (nodes .entry)) (now (records .entry)) (now (nodes .exit)) (now (records .exit)) r ⌝ }
 {
@@ -445,11 +459,7 @@ pub fn read(file: &[u8], nodes: &mut [u16], records: &mut [u16]) -> Reading
     let k = counts.records as usize;
     let records_at = file.len() - 2 * k;
     let nodes_at = records_at - 2 - 2 * n;
-    let mut ns = [0u16; 192];
-    let mut rs = [0u16; 256];
-    fill(file, nodes_at, n, &mut ns);
-    fill(file, records_at, k, &mut rs);
-    match check_contents(&ns[..n], &rs[..k], counts.names) {
+    match check_numbers(file, counts, nodes_at, records_at) {
         Check::Fine => {
             fill(file, nodes_at, n, nodes);
             fill(file, records_at, k, records);
