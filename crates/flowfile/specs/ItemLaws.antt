@@ -168,6 +168,12 @@ module _ (s : List ℕ) (at least : ℕ) {n : List ℕ} {next : ℕ} where
 
 ---- An entry ----
 
+-- the two names of an entry that was read
+pub record EntryRuns (s : List ℕ) (at : ℕ) (e : Entry) (next : ℕ) : Type 0 where
+  pub mid : ℕ
+  pub step-run : run s at (name 1) ≡ got (e .step) mid
+  pub machine-run : run s mid (name 0) ≡ got (e .machine) next
+
 -- what an entry that was read is, and where it ends
 pub record EntryThere (s : List ℕ) (at : ℕ) (e : Entry) (next : ℕ) : Type 0 where
   pub is : e ≡ entry-at s at
@@ -192,25 +198,35 @@ module _ (s : List ℕ) (at : ℕ) where
     unfolding entry with-step run
     entry-got h = bind-got s at (name 1) with-step e ∙ bind-got s mid (name 0) _ h
 
-  pub entry-there : {e : Entry} {next : ℕ} → run s at entry ≡ got e next → EntryThere s at e next
-  entry-there {e} {next} h = by-step (run s at (name 1)) refl
+  pub entry-runs : {e : Entry} {next : ℕ} → run s at entry ≡ got e next → EntryRuns s at e next
+  entry-runs {e} {next} h = by-step (run s at (name 1)) refl
     where
-      not-bad : {k p : ℕ} → run s at entry ≡ bad k p → EntryThere s at e next
+      not-bad : {k p : ℕ} → run s at entry ≡ bad k p → EntryRuns s at e next
       not-bad b = let z : _≡_ {A = ℕ} 0 1 = cc in absurd (omega arith)
-      by-machine : {st : List ℕ} {mid : ℕ} → run s at (name 1) ≡ got st mid → (x : Ran (List ℕ)) → run s mid (name 0) ≡ x → EntryThere s at e next
+      by-machine : {st : List ℕ} {mid : ℕ} → run s at (name 1) ≡ got st mid → (x : Ran (List ℕ)) → run s mid (name 0) ≡ x → EntryRuns s at e next
       by-machine {st} {mid} a (got m last) b =
-          let g = sym h ∙ entry-got a b in
-          let u = name-there s at 1 a in
-          let v = name-there s mid 0 b in
-          let d : mid ≡ name-end s at = u .ends in
-          let d′ : name-end s mid ≡ entry-end s at = ap (name-end s) d in
+          let g : got e next ≡ got (record { step = st; machine = m }) last = sym h ∙ entry-got a b in
+          let q = got-value g in
           record
-            { is = got-value g ∙ ap₂ (λ (x y : List ℕ). record { step = x; machine = y }) (u .bytes) (v .bytes ∙ ap (name-at s) d)
-            ; ends = got-next g ∙ v .ends ∙ d′
-            ; inside = subst (λ (x : ℕ). x ≤ length s) d′ (v .inside)
-            ; short = omega (arith, d′, v .high, u .high, ap (λ (x : ℕ). getD s x 0) d)
+            { mid = mid
+            ; step-run = a ∙ ap (λ (e′ : Entry). got (e′ .step) mid) (sym q)
+            ; machine-run = b ∙ ap₂ (λ (e′ : Entry) (n : ℕ). got (e′ .machine) n) (sym q) (sym (got-next g))
             }
       by-machine a (bad k p) b = not-bad (entry-machine-bad a b)
-      by-step : (x : Ran (List ℕ)) → run s at (name 1) ≡ x → EntryThere s at e next
+      by-step : (x : Ran (List ℕ)) → run s at (name 1) ≡ x → EntryRuns s at e next
       by-step (got st mid) a = by-machine a (run s mid (name 0)) refl
       by-step (bad k p) a = not-bad (entry-step-bad a)
+
+  pub entry-there : {e : Entry} {next : ℕ} → run s at entry ≡ got e next → EntryThere s at e next
+  entry-there {e} {next} h =
+      let r = entry-runs h in
+      let u = name-there s at 1 (r .step-run) in
+      let v = name-there s (r .mid) 0 (r .machine-run) in
+      let d : r .mid ≡ name-end s at = u .ends in
+      let d′ : name-end s (r .mid) ≡ entry-end s at = ap (name-end s) d in
+      record
+        { is = ap₂ (λ (x y : List ℕ). record { step = x; machine = y }) (u .bytes) (v .bytes ∙ ap (name-at s) d)
+        ; ends = v .ends ∙ d′
+        ; inside = subst (λ (x : ℕ). x ≤ length s) d′ (v .inside)
+        ; short = omega (arith, d′, v .high, u .high, ap (λ (x : ℕ). getD s x 0) d)
+        }

@@ -1,12 +1,17 @@
 -- Definitions, in the order a reader needs them.
 pub mod Format
 pub mod Plan
-pub mod Plans
 pub mod Reading
+pub mod Limits
 pub mod Items
+-- Theorems on the way to the code.
+pub mod Plans
 pub mod ItemLaws
 pub mod SectionLaws
 pub mod NameLaws
 pub mod LayoutLaws
 pub mod ContentLaws
 pub mod ReaderLaws
+-- Theorems on the format.
+pub mod StandsLaws
+
