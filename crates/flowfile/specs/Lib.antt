@@ -14,4 +14,5 @@ pub mod ContentLaws
 pub mod ReaderLaws
 -- Theorems on the format.
 pub mod StandsLaws
+pub mod Exact
 

@@ -64,6 +64,9 @@ module _ (s : List ℕ) where
         ; inside = omega (arith, k .inside, length-append xs ys)
         }
 
+  pub stands-move : {at to : ℕ} (xs : List ℕ) → at ≡ to → Stands s at xs → Stands s to xs
+  stands-move xs e h = subst (λ (n : ℕ). Stands s n xs) e h
+
   -- the bytes themselves
   pub stands-take : (at : ℕ) (xs : List ℕ) → Stands s at xs → take (length xs) (drop at s) ≡ xs
   stands-take at xs h = ap (take (length xs)) (h .begins) ∙ take-at xs _ (length xs) refl
