@@ -15,4 +15,7 @@ pub mod ReaderLaws
 -- Theorems on the format.
 pub mod StandsLaws
 pub mod Exact
+pub mod Collide
+pub mod Reader
+pub mod Cuts
 

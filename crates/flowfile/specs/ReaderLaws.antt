@@ -153,20 +153,21 @@ module _ (s : List ℕ) where
   unfolding laid
   laid-checked x {f} e = ap (laid s) e ∙ rw (le-ltb (length s) (length s) (omega arith))
 
-  module _ (nodes records : List ℕ) where
-    pub reading-short : (length nodes < 192) ⊎ (length records < 256) → reading s (length nodes) (length records) ≡ refused (refusal-of 14 0)
+  module _ (nr rr : ℕ) where
+    pub reading-short : (nr < 192) ⊎ (rr < 256) → reading s nr rr ≡ refused (refusal-of 14 0)
     unfolding reading
-    reading-short (inl h) = rw (lt-ltb (length nodes) 192 h)
-    reading-short (inr h) = by (ltb (length nodes) 192)
+    reading-short (inl h) = rw (lt-ltb nr 192 h)
+    reading-short (inr h) = by (ltb nr 192)
       where
-        by : (t : Bool) → cond (t || ltb (length records) 256) (refused (refusal-of 14 0)) (laid s (run s 0 layout)) ≡ refused (refusal-of 14 0)
+        by : (t : Bool) → cond (t || ltb rr 256) (refused (refusal-of 14 0)) (laid s (run s 0 layout)) ≡ refused (refusal-of 14 0)
         by true = refl
-        by false = rw (lt-ltb (length records) 256 h)
+        by false = rw (lt-ltb rr 256 h)
 
-    pub reading-laid : 192 ≤ length nodes → 256 ≤ length records → reading s (length nodes) (length records) ≡ laid s (run s 0 layout)
+    pub reading-laid : 192 ≤ nr → 256 ≤ rr → reading s nr rr ≡ laid s (run s 0 layout)
     unfolding reading
-    reading-laid h l = rw (le-ltb (length nodes) 192 h, le-ltb (length records) 256 l)
+    reading-laid h l = rw (le-ltb nr 192 h, le-ltb rr 256 l)
 
+  module _ (nodes records : List ℕ) where
     -- an answer and two tables after, by what `reading` comes to
     pub read-as : {o : Outcome} {r : Reading} {nodes′ records′ : List ℕ} → reading s (length nodes) (length records) ≡ o
         → r ≡ o .answer → nodes′ ≡ over (o .nodes) nodes → records′ ≡ over (o .records) records → ReadAs s nodes records nodes′ records′ r
@@ -240,7 +241,7 @@ module _ (s : List ℕ) (c : Counts) where
   module _ (t : CountsThere) (nodes records : List ℕ) (h : 192 ≤ length nodes) (l : 256 ≤ length records) where
     laid-contents : reading s (length nodes) (length records) ≡ checked (t .file) (first (grounds-of (c .names) node-numbers record-numbers))
     laid-contents =
-        reading-laid s nodes records h l ∙ laid-checked s (run s 0 layout) (t .is)
+        reading-laid s (length nodes) (length records) h l ∙ laid-checked s (run s 0 layout) (t .is)
         ∙ (λ i. checked (t .file) (first (grounds-of (sym (t .names-are) i) (t .nodes-are i) (t .records-are i))))
 
     pub read-faulty : {k : Check} {r : Refusal} → k ≡ first (grounds-of (c .names) node-numbers record-numbers) → k ≡ check.Refused r

@@ -1,3 +1,4 @@
+use lib.ListN.{length}
 use Rattle.flowfile.specs.declared.Reading.the-variants.{Refused}
 use Rattle.flowfile.specs.ReaderLaws.{counts-there, reading-short, reading-laid, laid-refused, read-as, read-refused, read-faulty, read-fine}
 use mathlib.Core.Logic.{inl, inr}
@@ -26,7 +27,7 @@ returns c =
     let s = now (c .before .before .before .before .before .args .file) in
     let ns = now (c .before .before .before .before .before .args .nodes) in
     let rs = now (c .before .before .before .before .before .args .records) in
-    read-as s ns rs (reading-short s ns rs (inl (omega arith))) (ap Refused (c .refusal .ensures)) refl refl
+    read-as s ns rs (reading-short s (length ns) (length rs) (inl (omega arith))) (ap Refused (c .refusal .ensures)) refl refl
 
 -- src/lib.rt:452:33
 refusal-requires-2 : tie.Need-refusal-requires-2
@@ -38,7 +39,7 @@ returns-2 c =
     let s = now (c .before .before .before .before .before .before .args .file) in
     let ns = now (c .before .before .before .before .before .before .args .nodes) in
     let rs = now (c .before .before .before .before .before .before .args .records) in
-    read-as s ns rs (reading-short s ns rs (inr (omega arith))) (ap Refused (c .refusal2 .ensures)) refl refl
+    read-as s ns rs (reading-short s (length ns) (length rs) (inr (omega arith))) (ap Refused (c .refusal2 .ensures)) refl refl
 
 -- src/lib.rt:454:9
 lay-out-requires : tie.Need-lay-out-requires
@@ -59,7 +60,7 @@ returns-3 c =
     let ns = now (c .before .before .before .before .before .before .before .before .args .nodes) in
     let rs = now (c .before .before .before .before .before .before .before .before .args .records) in
     read-as s ns rs
-    (reading-laid s ns rs (omega arith) (omega arith) ∙ laid-refused s _ (sym (c .before .before .lay-out .ensures) ∙ c .enum-told .given .1))
+    (reading-laid s (length ns) (length rs) (omega arith) (omega arith) ∙ laid-refused s _ (sym (c .before .before .lay-out .ensures) ∙ c .enum-told .given .1))
     (c .enum-told .given .1) refl refl
 
 -- src/lib.rt:458:17
