@@ -161,10 +161,24 @@ module _ (s : List ℕ) where
   unfolding word
   word-length n = refl
 
-  -- a file that stands in s is read
-  pub layout-reads : (f : File) → Within f → Stands s 0 (encode f) → run s 0 layout ≡ got f (length (encode f))
+  -- the parts of a file that stands in s, each read
+  pub record Parts (f : File) : Type 0 where
+    pub from : ℕ
+    pub mid : ℕ
+    pub n : ℕ
+    pub whole : length (f .nodes) ≡ 3 * n
+    pub names-at : Stands s 0 (names-section (f .names))
+    pub names-run : run s 0 names ≡ got (f .names) from
+    pub node-count-run : run s from (some-count 1 3 64) ≡ got n (from + 2)
+    pub nodes-at : Stands s (from + 2) (words (f .nodes))
+    pub nodes-run : run s (from + 2) (numbers (length (f .nodes))) ≡ got (f .nodes) mid
+    pub record-count-run : run s mid (some-count 10 11 256) ≡ got (length (f .records)) (mid + 2)
+    pub records-at : Stands s (mid + 2) (words (f .records))
+    pub records-run : run s (mid + 2) (numbers (length (f .records))) ≡ got (f .records) (length (encode f))
+
+  pub layout-parts : (f : File) → Within f → Stands s 0 (encode f) → Parts f
   unfolding encode nodes-section records-section
-  layout-reads f w h =
+  layout-parts f w h =
       let es = f .names in
       let ns = f .nodes in
       let rs = f .records in
@@ -183,19 +197,34 @@ module _ (s : List ℕ) where
       let e2 : (0 + from) + length (word n) ≡ from + 2 = omega arith in
       let e3 : (0 + from) + length (word n ++ words ns) ≡ mid = omega arith in
       let e4 : ((0 + from) + length (word n ++ words ns)) + length (word r) ≡ mid + 2 = omega arith in
-      let n3 : length ns ≡ 3 * n = omega (arith, w .whole-nodes) in
-      let few : n ≤ 64 = omega (arith, w .whole-nodes, w .few-nodes) in
-      let some : 1 ≤ n = omega (arith, w .whole-nodes, w .some-nodes) in
-      let p1 = names-read (w .names-good) (w .few-names) a in
-      let p2 = count-reads from 1 3 64 n (stands-move s (word n) e1 (stands-left s (0 + from) (word n) (words ns) c)) some few in
-      let p3 = numbers-read (from + 2) ns (stands-move s (words ns) e2 (stands-right s (0 + from) (word n) (words ns) c)) in
-      let p3′ : run s (from + 2) (numbers (3 * n)) ≡ got ns mid = ap (λ (k : ℕ). run s (from + 2) (numbers k)) (sym n3) ∙ p3 in
-      let p4 = count-reads mid 10 11 256 r (stands-move s (word r) e3 (stands-left s _ (word r) (words rs) d)) (w .some-records) (w .few-records) in
-      let p5 = numbers-read (mid + 2) rs (stands-move s (words rs) e4 (stands-right s _ (word r) (words rs) d)) in
+      let nodes = stands-move s (words ns) e2 (stands-right s (0 + from) (word n) (words ns) c) in
+      let records = stands-move s (words rs) e4 (stands-right s _ (word r) (words rs) d) in
       let q1 = length-append (names-section es) ((word n ++ words ns) ++ (word r ++ words rs)) in
       let q2 = length-append (word n ++ words ns) (word r ++ words rs) in
       let q3 = length-append (word r) (words rs) in
-      layout-got s p1 p2 p3′ p4 p5 ∙ ap (got f) (omega arith)
+      record
+        { from = from
+        ; mid = mid
+        ; n = n
+        ; whole = omega (arith, w .whole-nodes)
+        ; names-at = a
+        ; names-run = names-read (w .names-good) (w .few-names) a
+        ; node-count-run =
+            count-reads from 1 3 64 n (stands-move s (word n) e1 (stands-left s (0 + from) (word n) (words ns) c))
+            (omega (arith, w .whole-nodes, w .some-nodes)) (omega (arith, w .whole-nodes, w .few-nodes))
+        ; nodes-at = nodes
+        ; nodes-run = numbers-read (from + 2) ns nodes
+        ; record-count-run = count-reads mid 10 11 256 r (stands-move s (word r) e3 (stands-left s _ (word r) (words rs) d)) (w .some-records) (w .few-records)
+        ; records-at = records
+        ; records-run = numbers-read (mid + 2) rs records ∙ ap (got rs) (omega arith)
+        }
+
+  -- a file that stands in s is read
+  pub layout-reads : (f : File) → Within f → Stands s 0 (encode f) → run s 0 layout ≡ got f (length (encode f))
+  layout-reads f w h =
+      let p = layout-parts f w h in
+      layout-got s (p .names-run) (p .node-count-run) (ap (λ (k : ℕ). run s (p .from + 2) (numbers k)) (sym (p .whole)) ∙ p .nodes-run)
+      (p .record-count-run) (p .records-run)
 
   pub record FileStands (f : File) (end : ℕ) : Type 0 where
     pub within : Within f

@@ -91,26 +91,26 @@ module _ (s : List ℕ) where
 
 ---- The sections ----
 
+unfoldable pub file-of : List Entry → List ℕ → List ℕ → Plan File
+file-of es ns rs = done (record { names = es; nodes = ns; records = rs })
+
+unfoldable pub with-records : List Entry → List ℕ → ℕ → Plan File
+unfolding file-of
+with-records es ns r = numbers r >>= file-of es ns
+
+unfoldable pub with-nodes : List Entry → List ℕ → Plan File
+unfolding with-records
+with-nodes es ns = some-count 10 11 256 >>= with-records es ns
+
+unfoldable pub with-count : List Entry → ℕ → Plan File
+unfolding with-nodes
+with-count es n = numbers (3 * n) >>= with-nodes es
+
+unfoldable pub with-names : List Entry → Plan File
+unfolding with-count
+with-names es = some-count 1 3 64 >>= with-count es
+
 module _ (s : List ℕ) where
-  file-of : List Entry → List ℕ → List ℕ → Plan File
-  file-of es ns rs = done (record { names = es; nodes = ns; records = rs })
-
-  with-records : List Entry → List ℕ → ℕ → Plan File
-  unfolding file-of
-  with-records es ns r = numbers r >>= file-of es ns
-
-  with-nodes : List Entry → List ℕ → Plan File
-  unfolding with-records
-  with-nodes es ns = some-count 10 11 256 >>= with-records es ns
-
-  with-count : List Entry → ℕ → Plan File
-  unfolding with-nodes
-  with-count es n = numbers (3 * n) >>= with-nodes es
-
-  with-names : List Entry → Plan File
-  unfolding with-count
-  with-names es = some-count 1 3 64 >>= with-count es
-
   pub layout-names-bad : {k p : ℕ} → run s 0 names ≡ bad k p → run s 0 layout ≡ bad k p
   unfolding layout file-of with-records with-nodes with-count with-names
   layout-names-bad e = bind-bad s 0 names with-names e
