@@ -9,7 +9,7 @@ use lib.ListN.{length, length-append}
 use Rattle.flowfile.specs.Format.{word, words, Entry, entry-bytes, entries-bytes, names-section, nodes-section, records-section, File, encode}
 use Rattle.flowfile.specs.Plan.{Ran, got, bad, run}
 use Rattle.flowfile.specs.Reading.{number, entry, met, new-entry, entries, name-count, names, some-count, numbers, layout}
-use Rattle.flowfile.specs.Limits.{GoodEntry, Follow, none, more, Within, Bytes, Stands}
+use Rattle.flowfile.specs.Limits.{GoodEntry, Follow, none, more, Within, Bytes, Stands, NamesStand, FileStands}
 use Rattle.flowfile.specs.Items.{values, number-at}
 use Rattle.flowfile.specs.ItemLaws.{got-value, got-next, number-got}
 use Rattle.flowfile.specs.SectionLaws.{NumberThere, name-count-got, name-count-there, names-bad, names-from, some-count-got, some-count-there, numbers-got, values-length, new-entry-got, new-entry-there, entries-bad, entries-more}
@@ -21,18 +21,31 @@ use Rattle.flowfile.specs.StandsLaws.{stands-nil, stands-move, stands-le
 module _ (s : List ℕ) where
 ---- Entries ----
 
-  pub entries-read : (at : ℕ) {earlier es : List Entry} → Follow earlier es → Stands s at (entries-bytes es)
-      → run s at (entries (length es) earlier) ≡ got (earlier ++ es) (at + length (entries-bytes es))
-  unfolding entries run entries-bytes
-  entries-read at {earlier} none h = let e : at ≡ at + 0 = omega arith in ap₂ got (sym (append-nil earlier)) e
-  entries-read at (more {earlier} {e} {es} g n f) h =
+  -- entries that stand in s are passed, whatever is to come behind them
+  pub entries-pass : (at k : ℕ) {earlier es : List Entry} → Follow earlier es → Stands s at (entries-bytes es)
+      → run s at (entries (length es + k) earlier) ≡ run s (at + length (entries-bytes es)) (entries k (earlier ++ es))
+  unfolding entries entries-bytes
+  entries-pass at k {earlier} none h =
+      let e : at ≡ at + 0 = omega arith in
+      let z : 0 + k ≡ k = omega arith in
+      ap (λ (n : ℕ). run s at (entries n earlier)) z ∙ ap₂ (λ (n : ℕ) (gs : List Entry). run s n (entries k gs)) e (sym (append-nil earlier))
+  entries-pass at k (more {earlier} {e} {es} g n f) h =
       let a = entry-reads s at e g (stands-left s at (entry-bytes e) (entries-bytes es) h) in
       let b = stands-right s at (entry-bytes e) (entries-bytes es) h in
       let l : (at + length (entry-bytes e)) + length (entries-bytes es) ≡ at + length (entry-bytes e ++ entries-bytes es) =
             omega (arith, length-append (entry-bytes e) (entries-bytes es)) in
-      entries-more s at earlier (length es) (new-entry-got s at earlier a (not-among e earlier n))
-      ∙ entries-read (at + length (entry-bytes e)) f b
-      ∙ ap₂ got (append-assoc earlier (e ∷ []) es) l
+      let c : suc (length es) + k ≡ suc (length es + k) = omega arith in
+      ap (λ (m : ℕ). run s at (entries m earlier)) c
+      ∙ entries-more s at earlier (length es + k) (new-entry-got s at earlier a (not-among e earlier n))
+      ∙ entries-pass (at + length (entry-bytes e)) k f b
+      ∙ ap₂ (λ (m : ℕ) (gs : List Entry). run s m (entries k gs)) l (append-assoc earlier (e ∷ []) es)
+
+  pub entries-read : (at : ℕ) {earlier es : List Entry} → Follow earlier es → Stands s at (entries-bytes es)
+      → run s at (entries (length es) earlier) ≡ got (earlier ++ es) (at + length (entries-bytes es))
+  unfolding entries run
+  entries-read at {earlier} {es} f h =
+      let z : length es ≡ length es + 0 = omega arith in
+      ap (λ (n : ℕ). run s at (entries n earlier)) z ∙ entries-pass at 0 f h
 
   pub record EntriesStand (k : ℕ) (earlier : List Entry) (at : ℕ) (es : List Entry) (next : ℕ) : Type 0 where
     pub later : List Entry
@@ -127,17 +140,11 @@ module _ (s : List ℕ) where
       names-from s (name-count-got s 0 (number-reads s 0 (length es) a) l) ∙ entries-read 2 f b
       ∙ ap (got es) (sym (length-append (word (length es)) (entries-bytes es)))
 
-  pub record NamesStand (es : List Entry) (next : ℕ) : Type 0 where
-    pub few : length es ≤ 256
-    pub follow : Follow [] es
-    pub stands : Stands s 0 (names-section es)
-    pub ends : next ≡ length (names-section es)
-
-  pub names-stand : Bytes s → {es : List Entry} {next : ℕ} → run s 0 names ≡ got es next → NamesStand es next
+  pub names-stand : Bytes s → {es : List Entry} {next : ℕ} → run s 0 names ≡ got es next → NamesStand s es next
   unfolding names-section word
   names-stand b {es} {next} e = by (run s 0 name-count) refl
     where
-      by : (x : Ran ℕ) → run s 0 name-count ≡ x → NamesStand es next
+      by : (x : Ran ℕ) → run s 0 name-count ≡ x → NamesStand s es next
       by (got v m) q =
           let t = name-count-there s 0 q in
           let w = t .there in
@@ -226,13 +233,8 @@ module _ (s : List ℕ) where
       layout-got s (p .names-run) (p .node-count-run) (ap (λ (k : ℕ). run s (p .from + 2) (numbers k)) (sym (p .whole)) ∙ p .nodes-run)
       (p .record-count-run) (p .records-run)
 
-  pub record FileStands (f : File) (end : ℕ) : Type 0 where
-    pub within : Within f
-    pub stands : Stands s 0 (encode f)
-    pub ends : end ≡ length (encode f)
-
   -- a file that is read stands in s
-  pub layout-stands : Bytes s → {f : File} {end : ℕ} → run s 0 layout ≡ got f end → FileStands f end
+  pub layout-stands : Bytes s → {f : File} {end : ℕ} → run s 0 layout ≡ got f end → FileStands s f end
   unfolding encode nodes-section records-section
   layout-stands b {f} {end} e =
       let l = layout-runs s e in

@@ -4,6 +4,7 @@ pub mod Plan
 pub mod Reading
 pub mod Limits
 pub mod Items
+pub mod Faults
 -- Theorems on the way to the code.
 pub mod Plans
 pub mod ItemLaws

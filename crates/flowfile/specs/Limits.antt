@@ -4,7 +4,7 @@ use Prim.Native.Nat.{ℕ, _+_, _*_, _≤_, _<_}
 use mathlib.Core.List.{List, [], _∷_, _++_, List·Memᴰ}
 use mathlib.Core.Path.{_≡_}
 use lib.ListN.{length, getD, drop}
-use Rattle.flowfile.specs.Format.{Entry, File}
+use Rattle.flowfile.specs.Format.{Entry, names-section, nodes-section, File, encode}
 
 -- "a step name (a length byte 1 to 40, then the bytes) and a machine name (0 to 40)"
 pub record GoodEntry (e : Entry) : Type 0 where
@@ -35,3 +35,27 @@ Bytes s = (i : ℕ) → getD s i 0 < 256
 pub record Stands (s : List ℕ) (at : ℕ) (xs : List ℕ) : Type 0 where
   pub begins : drop at s ≡ xs ++ drop (at + length xs) s
   pub inside : at + length xs ≤ length s
+
+-- the names section stands at the start of s, and ends at an offset
+pub record NamesStand (s : List ℕ) (es : List Entry) (next : ℕ) : Type 0 where
+  pub few : length es ≤ 256
+  pub follow : Follow [] es
+  pub stands : Stands s 0 (names-section es)
+  pub ends : next ≡ length (names-section es)
+
+-- names and nodes stand at the start of s, and end at an offset
+pub record NodesStand (s : List ℕ) (es : List Entry) (ns : List ℕ) (next : ℕ) : Type 0 where
+  pub from : ℕ
+  pub names : NamesStand s es from
+  pub n : ℕ
+  pub whole : length ns ≡ 3 * n
+  pub some : 1 ≤ n
+  pub few : n ≤ 64
+  pub stands : Stands s from (nodes-section ns)
+  pub ends : next ≡ from + length (nodes-section ns)
+
+-- a file of the format within the limits stands at the start of s, and ends at an offset
+pub record FileStands (s : List ℕ) (f : File) (end : ℕ) : Type 0 where
+  pub within : Within f
+  pub stands : Stands s 0 (encode f)
+  pub ends : end ≡ length (encode f)

@@ -26,7 +26,7 @@ use Rattle.flowfile.specs.Items.{refusal-of, ReadAs}
 use Rattle.flowfile.specs.ItemLaws.{le-or-lt, got-value}
 use Rattle.flowfile.specs.ReaderLaws.{laid-checked, reading-short, reading-laid}
 use Rattle.flowfile.specs.StandsLaws.{stands-all}
-use Rattle.flowfile.specs.Exact.{layout-reads, FileStands, layout-stands}
+use Rattle.flowfile.specs.Exact.{layout-reads, layout-stands}
 
 -- bytes that stand at the start and are as many as the file are the file
 pub stands-whole : (s xs : List ℕ) → Stands s 0 xs → length s ≤ length xs → s ≡ xs
