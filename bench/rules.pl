@@ -17,13 +17,13 @@ end(skip, done).
 end(throw, failed).
 end(yield, done).
 end(yield, withdrawn).
-end(seq(P, _), W) :- W \== done, end(P, W).
+end(seq(P, _), W) :- end(P, W), W \== done.
 end(seq(P, Q), W) :- ends(P, done), end(Q, W).
-end(hnd(P, _), W) :- W \== failed, end(P, W).
+end(hnd(P, _), W) :- end(P, W), W \== failed.
 end(hnd(P, Q), W) :- ends(P, failed), end(Q, W).
 end(alt(P, _), W) :- end(P, W).
 end(alt(_, Q), W) :- end(Q, W).
-end(par(P, Q), U) :- closing(W), join(W, V, U), closing(V), ends(P, W), ends(Q, V).
+end(par(P, Q), U) :- end(P, W), end(Q, V), join(W, V, U).
 end(blk(PP), done) :- \+ \+ cend(PP, done, _).
 end(blk(PP), W) :- cend(PP, failed, K), end(K, W).
 
