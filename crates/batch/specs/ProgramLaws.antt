@@ -49,16 +49,16 @@ module _ {s nodes records nodes′ records′ : List ℕ} {r : Reading}
       let o = readable-read s (length nodes) (length records) f (w .1) in
       let k : c ≡ record { names = length (f .names); nodes = length (f .nodes) / 3; records = length (f .records) } = read-counts (w .2) in
       let ns = over-front (f .nodes) nodes nodes′ (3 * c .nodes) (h .nodes-after ∙ ap (λ (p : Outcome). over (p .nodes) nodes) o)
-                 (omega (arith, ap (λ (d : Counts). d .nodes) k, w .1 .within .whole-nodes)) in
+      (omega (arith, ap (λ (d : Counts). d .nodes) k, w .1 .within .whole-nodes)) in
       let rs = over-front (f .records) records records′ (c .records) (h .records-after ∙ ap (λ (p : Outcome). over (p .records) records) o)
-                 (sym (ap (λ (d : Counts). d .records) k)) in
-      record
-        { nodes-inside = ns .0
-        ; records-inside = rs .0
-        ; answer =
+      (sym (ap (λ (d : Counts). d .records) k)) in
+      record {
+        nodes-inside = ns .0;
+        records-inside = rs .0;
+        answer =
             (λ i. judged (ns .1 i) (rs .1 i) 32896 1000000)
-            ∙ sym (ap (λ (p : Outcome). answered (p .answer) (p .nodes) (p .records)) (sym told-so ∙ o))
-        }
+            ∙ sym (ap (λ (p : Outcome). answered (p .answer) (p .nodes) (p .records)) (sym told-so ∙ o));
+      }
     where
       read-counts : {c d : Counts} → read.Read c ≡ read.Read d → c ≡ d
       read-counts q = cc

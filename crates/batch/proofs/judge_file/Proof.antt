@@ -61,7 +61,7 @@ enum-known-r : tie.Need-enum-known-r
 enum-known-r c = search needs
 
 returns : tie.Need-returns
-returns c = 
+returns c =
     let r = c .before .before .before .before .before .before .before .before .before .before .read in
     c .judge-tables .ensures
     ∙ ap₂ (λ (n k : ℕ). judged (take (3 * n) (r .last .1 .0)) (take k (r .last .1 .1 .0)) 32896 1000000) (c .before .before .before .before .wide .ensures) (c .before .before .before .wide2 .ensures)

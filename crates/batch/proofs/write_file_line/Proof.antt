@@ -16,7 +16,7 @@ write-line-requires c κs = search needs
 
 returns : tie.Need-returns
 unfolding printed
-returns c = 
+returns c =
     let e = c .before .before .line-for .ensures ∙ ap line-for (c .before .before .before .judge-file .ensures) in
     (rw e at (c .write-line .ensures .0), c .write-line .ensures .1 .0)
 

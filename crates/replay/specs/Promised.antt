@@ -1,0 +1,35 @@
+-- When the work bytes of a case count as clean. They are all 165 before the call. 01, "What comes back": "After any verdict but a
+-- refusal the first 2 × nodes × (records + 1) are zero and the others unchanged. After a refusal all are unchanged."
+-- Definitions only: PromisedLaws has the list that is promised. Assumes nothing.
+use Prim.Native.Nat.{ℕ, _+_, _-_, _*_, _/_}
+use mathlib.Core.Bool.{Bool, true, false, _&&_}
+use mathlib.Core.List.{List, [], _∷_, _++_}
+use lib.Dec.{eqb, leb}
+use lib.ListN.{length, take, drop, replicate}
+use Rattle.judge.specs.declared.Answer.{Answer}
+use Rattle.judge.specs.declared.Answer.the-variants.{Accepted, Rejected, Undecided, Refused}
+
+-- so many node numbers and records want so many work bytes
+unfoldable pub work-wanted : ℕ → ℕ → ℕ
+work-wanted numbers records = 2 * (numbers / 3) * (records + 1)
+
+-- how many bytes are promised to be zero
+unfoldable pub zeros-after : Answer → ℕ → ℕ → ℕ
+zeros-after (Accepted v) numbers records = work-wanted numbers records
+zeros-after (Rejected v) numbers records = work-wanted numbers records
+zeros-after (Undecided v) numbers records = work-wanted numbers records
+zeros-after (Refused r) numbers records = 0
+
+-- the promised bytes, of so many in all
+abbrev pub promised : ℕ → ℕ → List ℕ
+promised zeros length = replicate zeros 0 ++ replicate (length - zeros) 165
+
+-- whether every byte is b
+unfoldable pub all-are : ℕ → List ℕ → Bool
+all-are b [] = true
+all-are b (x ∷ xs) = eqb x b && all-are b xs
+
+-- whether so many bytes are zero and the others 165
+unfoldable pub is-clean : ℕ → List ℕ → Bool
+unfolding all-are
+is-clean zeros work = leb zeros (length work) && (all-are 0 (take zeros work) && all-are 165 (drop zeros work))
