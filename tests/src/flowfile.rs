@@ -1,6 +1,8 @@
 //! Flow files as they are put together for the tests: three sections and the items they consist of.
 //! What is refused is decided in reader.rs; nothing here is checked, so that any damage can be written.
 
+use crate::term::DONE;
+
 /// A step name and a machine name.
 pub type Entry = (Vec<u8>, Vec<u8>);
 
@@ -58,5 +60,14 @@ impl FlowFile {
         put(RecordCount, &(self.records.len() as u16).to_le_bytes());
         self.records.iter().for_each(|r| put(RecordNumber, &r.to_le_bytes()));
         all
+    }
+}
+
+/// The file that document 01 works through: 65 bytes, for which the program prints `accepted 0 3 4`.
+pub fn worked() -> FlowFile {
+    FlowFile {
+        names: vec![entry("wash", "W1,2"), entry("drain", "")],
+        nodes: vec![1, 1, 0, 1, 2, 0, 10, 0, 1, 15, 0, 0, 11, 2, 3, 9, 4, 0],
+        records: vec![1, 2, DONE],
     }
 }

@@ -9,6 +9,9 @@
 //! - `selfcheck`: `judge` against `traces`, `guided` against `rules`, the laws against `judge`.
 //! - `drawing`, `random`, `flowfile`, `rng`: flows, records and files, by hand and at random.
 
+pub mod by_hand;
+pub mod cases;
+pub mod compare;
 pub mod drawing;
 pub mod flowfile;
 pub mod guided;
@@ -19,6 +22,7 @@ pub mod reader;
 pub mod refusals;
 pub mod rng;
 pub mod rules;
+pub mod samples;
 pub mod selfcheck;
 pub mod term;
 pub mod traces;

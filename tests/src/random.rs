@@ -79,21 +79,21 @@ pub fn drawing(rng: &mut Rng, taste: &Taste, sort: Sort, room: usize, events: us
     drawing::node(wanted, vec![first, second])
 }
 
-/// A random flow with exactly `size` nodes: one that is too small is followed or joined by leaves.
+/// A random flow with exactly `size` nodes: one that came out smaller is joined with leaves. No compensable
+/// flow has two nodes.
 pub fn drawing_of_size(rng: &mut Rng, taste: &Taste, sort: Sort, size: usize, events: usize) -> Drawing {
+    assert!(size > 2 || sort == Sort::Standard);
     let mut whole = drawing(rng, taste, sort, size, events);
-    let missing = size - whole.size();
-    if missing % 2 == 1 {
-        // A leaf becomes a block around a leaf, or the whole stands in a block.
-        let leaves = whole.paths();
-        let is_standard_leaf =
-            |p: &&Vec<usize>| whole.at(p).parts.is_empty() && whole.at(p).sort() == Sort::Standard;
-        match leaves.iter().find(is_standard_leaf) {
-            Some(path) => whole = whole.replaced(path, &drawing::block(drawing::leaf(kind::THROWW))),
-            None => return drawing_of_size(rng, taste, sort, size, events),
-        }
+    while (size - whole.size()) % 2 == 1 {
+        // A standard leaf becomes a block around a leaf: one node more.
+        let mut leaves = whole.paths();
+        leaves.retain(|path| whole.at(path).parts.is_empty() && whole.at(path).sort() == Sort::Standard);
+        whole = match leaves.first() {
+            Some(path) => whole.replaced(path, &drawing::block(drawing::throww())),
+            None => drawing(rng, taste, sort, size, events),
+        };
     }
-    for _ in 0..missing / 2 {
+    while whole.size() < size {
         let small = drawing(rng, taste, sort, 1, events);
         let join = *rng.pick(&[drawing::seq, drawing::choice, drawing::parallel]);
         whole = if rng.once_in(2) { join(whole, small) } else { join(small, whole) };

@@ -40,7 +40,7 @@ pub fn judge_checks(nodes: &[u16], records: &[u16], work_len: usize) -> Check {
 fn node_count(nodes: &[u16]) -> Check {
     if nodes.is_empty() {
         refuse(1, 0)
-    } else if nodes.len() % 3 != 0 {
+    } else if !nodes.len().is_multiple_of(3) {
         refuse(2, 0)
     } else if nodes.len() / 3 > MOST_NODES {
         refuse(3, 0)

@@ -6,10 +6,10 @@ impl Rng {
     pub fn new(seed: u64) -> Rng {
         // One turn at the start, so that neighbouring seeds have nothing in common.
         let mut first = Rng(seed);
-        Rng(first.next())
+        Rng(first.turn())
     }
 
-    pub fn next(&mut self) -> u64 {
+    pub fn turn(&mut self) -> u64 {
         self.0 = self.0.wrapping_add(0x9E37_79B9_7F4A_7C15);
         let z = self.0;
         let z = (z ^ (z >> 30)).wrapping_mul(0xBF58_476D_1CE4_E5B9);
@@ -19,7 +19,7 @@ impl Rng {
 
     /// One of 0 to n - 1.
     pub fn below(&mut self, n: usize) -> usize {
-        (self.next() % n as u64) as usize
+        (self.turn() % n as u64) as usize
     }
 
     /// One of low to high, both included.
@@ -37,10 +37,10 @@ impl Rng {
     }
 
     pub fn byte(&mut self) -> u8 {
-        self.next() as u8
+        self.turn() as u8
     }
 
     pub fn number(&mut self) -> u16 {
-        self.next() as u16
+        self.turn() as u16
     }
 }

@@ -41,9 +41,11 @@ impl Closing {
     }
 }
 
+pub const MOST_EVENT: u16 = 256;
+
 /// "A record is an event 1 to 256 or a closing."
 pub fn is_event(number: u16) -> bool {
-    (1..=256).contains(&number)
+    (1..=MOST_EVENT).contains(&number)
 }
 
 /// The sixteen kinds by their names.

@@ -1,52 +1,26 @@
 //! "Judged by hand": all seventeen lines, by both searches and by the trace sets, and the limits.
 
+use oracle::by_hand::{self, A, B, C, D, MILLION};
 use oracle::drawing::*;
 use oracle::judge::{judge, judge_by_lists, with_deep_stack};
 use oracle::refusals::work_wanted;
 use oracle::term::{DONE, FAILED, WITHDRAWN};
 use oracle::traces::meaning;
 
-const A: u16 = 1;
-const B: u16 = 2;
-const C: u16 = 3;
-const D: u16 = 4;
-const MILLION: u32 = 1_000_000;
-
 #[test]
 fn judged_by_hand() {
-    let a_b = || pair(event(A), event(B));
-    let c_d = || pair(event(C), event(D));
-    let undone = || block(seq(a_b(), throww()));
-    let throw_beside_yield = || parallel(throw(), seq(yields(), event(A)));
-    let undone_in_turn = || block(seq(seq(a_b(), c_d()), throww()));
-    let a_beside_a = || parallel(event(A), event(A));
-    let table: [(Drawing, &[u16], u32, &str); 17] = [
-        (skip(), &[DONE], MILLION, "accepted 0 1 2"),
-        (seq(event(A), event(B)), &[A, B, DONE], MILLION, "accepted 0 3 4"),
-        (choice(event(A), event(A)), &[A, FAILED], MILLION, "rejected 0 1 3"),
-        (undone(), &[A, B, DONE], MILLION, "accepted 0 3 4"),
-        (undone(), &[A, DONE], MILLION, "rejected 0 1 2"),
-        (block(yieldd()), &[WITHDRAWN], MILLION, "rejected 0 0 1"),
-        (block(yieldd()), &[DONE], MILLION, "accepted 0 1 2"),
-        (throw_beside_yield(), &[WITHDRAWN], MILLION, "rejected 0 0 1"),
-        (throw_beside_yield(), &[A, FAILED], MILLION, "accepted 0 2 3"),
-        (seq(seq(yields(), event(A)), throw()), &[WITHDRAWN], MILLION, "accepted 0 1 2"),
-        (undone_in_turn(), &[A, C, D, B, DONE], MILLION, "accepted 0 5 6"),
-        (undone_in_turn(), &[A, C, B, D, DONE], MILLION, "rejected 0 2 3"),
-        (block(seq(parallel(a_b(), c_d()), throww())), &[A, C, D, B, DONE], MILLION, "accepted 0 5 6"),
-        (a_beside_a(), &[A, A, FAILED], 5, "rejected 0 2 5"),
-        (a_beside_a(), &[A, A, FAILED], 4, "undecided 0 0 4"),
-        (a_b(), &[A, DONE, B, DONE], MILLION, "accepted 0 4 5"),
-        (throww(), &[FAILED, DONE], MILLION, "accepted 0 2 3"),
-    ];
-    for (flow, records, allowance, line) in table {
-        let nodes = flow.table();
+    for case in by_hand::table() {
+        let (nodes, records) = (case.flow.table(), &case.records);
         let work_len = work_wanted(&nodes, records);
-        let shown = flow.show();
-        assert_eq!(judge(&nodes, records, work_len, allowance).to_string(), line, "{shown}");
-        assert_eq!(judge_by_lists(&nodes, records, work_len, allowance).to_string(), line, "{shown}");
+        let shown = case.flow.show();
+        assert_eq!(judge(&nodes, records, work_len, case.allowance).to_string(), case.line, "{shown}");
+        assert_eq!(
+            judge_by_lists(&nodes, records, work_len, case.allowance).to_string(),
+            case.line,
+            "{shown}"
+        );
         let is_trace = meaning(&nodes, u64::MAX).unwrap().has(records);
-        assert_eq!(is_trace, line.starts_with("accepted"), "{shown}");
+        assert_eq!(is_trace, case.line.starts_with("accepted"), "{shown}");
     }
 }
 
