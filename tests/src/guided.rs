@@ -172,7 +172,7 @@ impl Prospect {
         self.left[by as usize]
     }
 
-    /// Whether it steps is given; `forward` is how it can end; ✓ leaves `undo`, the others SKIP.
+    /// A pair: it steps and ends as its forward part does; ✓ leaves `undo`, the other closings leave SKIP.
     fn of_pair(forward: Outlook, undo: Outlook) -> Prospect {
         let leave = |by: Closing, r: Outlook| {
             if forward.ends[by as usize] {
@@ -189,6 +189,7 @@ impl Prospect {
     }
 }
 
+/// Q;R: the second part's compensation and then the first part's.
 fn undone_after(q: Outlook, r: Outlook) -> Outlook {
     q.then(Done, r)
 }

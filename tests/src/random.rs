@@ -34,10 +34,10 @@ const BUSY: Taste = Taste {
 };
 /// Many pairs and failures: long undoing.
 const UNDOING: Taste = Taste {
-    standard_leaves: &[1, 1, 1, 1, 1, 3, 3, 4],
-    standard_nodes: &[5, 7, 8, 9, 9, 9, 9],
-    compensable_leaves: &[15, 15, 15, 14, 16],
-    compensable_nodes: &[10, 10, 10, 11, 11, 11, 13],
+    standard_leaves: &[1, 1, 1, 1, 1, 1, 2, 3, 4],
+    standard_nodes: &[5, 6, 6, 7, 8, 9, 9, 9],
+    compensable_leaves: &[15, 15, 14, 16],
+    compensable_nodes: &[10, 10, 10, 10, 11, 11, 11, 12, 13],
     stops_once_in: 60,
 };
 /// Many ways to end: long lists of compensations.
@@ -99,6 +99,17 @@ pub fn drawing_of_size(rng: &mut Rng, taste: &Taste, sort: Sort, size: usize, ev
         whole = if rng.once_in(2) { join(whole, small) } else { join(small, whole) };
     }
     whole
+}
+
+/// A random flow that fails in a block after its first part or beside it, so that much is undone.
+pub fn undone_drawing(rng: &mut Rng, taste: &Taste, room: usize, events: usize) -> Drawing {
+    let pp = drawing(rng, taste, Sort::Compensable, room.saturating_sub(3).max(1), events);
+    let fail = drawing::throww();
+    drawing::block(match rng.below(4) {
+        0 => drawing::parallel(pp, fail),
+        1 => drawing::parallel(fail, pp),
+        _ => drawing::seq(pp, fail),
+    })
 }
 
 pub fn sort(rng: &mut Rng) -> Sort {

@@ -3,11 +3,11 @@
 //! which gives the same lists one by one, on any. The tests compare the two.
 
 use crate::term::*;
+use std::rc::Rc;
 use Closing::*;
 
 /// The steps of a standard term by an event, in order.
 pub fn steps(p: &Std, event: u16) -> Vec<Std> {
-    use std::rc::Rc;
     match &**p {
         // "an event steps to SKIP"
         Standard::Event(e) if *e == event => vec![skip()],
@@ -79,7 +79,6 @@ pub fn ends(p: &Std, by: Closing) -> bool {
 
 /// The steps of a compensable term by an event, in order.
 pub fn comp_steps(pp: &Comp, event: u16) -> Vec<Comp> {
-    use std::rc::Rc;
     match &**pp {
         // "P÷Q steps by P"
         Compensable::Pair(p, q) => {
@@ -114,7 +113,6 @@ pub fn comp_steps(pp: &Comp, event: u16) -> Vec<Comp> {
 
 /// The compensations with which a compensable term can end so, in order, equal ones again and again.
 pub fn compensations(pp: &Comp, by: Closing) -> Vec<Std> {
-    use std::rc::Rc;
     let paired_with_skip = |p: Standard| compensations(&Rc::new(Compensable::Pair(Rc::new(p), skip())), by);
     match &**pp {
         // "P÷Q ends as P does"; it "that ends ✓ leaves Q; by ! or ? it leaves SKIP"

@@ -132,7 +132,7 @@ enum Damage {
     MissingByte,
 }
 
-const DAMAGES: [Damage; 18] = [
+const DAMAGES: [Damage; 19] = [
     Damage::Tables,
     Damage::Tables,
     Damage::Tables,
@@ -148,6 +148,7 @@ const DAMAGES: [Damage; 18] = [
     Damage::OutOfRange(ItemKind::NodeCount),
     Damage::OutOfRange(ItemKind::RecordCount),
     Damage::CountOffByOne,
+    Damage::MoreBytes,
     Damage::MoreBytes,
     Damage::ChangedBytes,
     Damage::MissingByte,
@@ -169,7 +170,7 @@ pub fn damaged_case(rng: &mut Rng) -> Case {
 fn damage_tables(rng: &mut Rng, damage: Damage, file: &mut FlowFile) {
     match damage {
         Damage::Tables => {
-            let number = *rng.pick(&[4, 5, 6, 7, 8, 9, 12, 13]);
+            let number = *rng.pick(&[4, 5, 6, 7, 7, 8, 8, 9, 12, 13]);
             spoil(rng, number, &mut file.nodes, &mut file.records);
         }
         Damage::EqualEntry if !file.names.is_empty() => {

@@ -6,7 +6,7 @@ use crate::by_hand::{self, A, B, C, MILLION};
 use crate::drawing::*;
 use crate::flowfile::{self, entry, Entry, FlowFile};
 use crate::refusals::work_wanted;
-use crate::term::{DONE, FAILED, WITHDRAWN};
+use crate::term::{is_event, DONE, FAILED, WITHDRAWN};
 
 pub fn cases() -> Vec<(&'static str, Case)> {
     let mut all = vec![];
@@ -17,6 +17,7 @@ pub fn cases() -> Vec<(&'static str, Case)> {
     add("fixed: wide", wide());
     add("fixed: worked file", worked_file());
     add("fixed: names", similar_names());
+    add("fixed: names", missing_names());
     add("fixed: long files", long_files());
     all
 }
@@ -101,8 +102,8 @@ fn wide() -> Vec<Case> {
         file(four_names(), &orders(9), &a_times(9, FAILED)),
         file(four_names(), &orders(10), &a_times(10, FAILED)),
         file(four_names(), &late, &a_times(8, DONE)),
-        judge(&orders(9), &a_times(9, FAILED), 986_409),
-        judge(&orders(9), &a_times(9, FAILED), 986_410),
+        judge(&orders(7), &a_times(7, FAILED), 13_699),
+        judge(&orders(7), &a_times(7, FAILED), 13_700),
         judge(&tower(16, &choice(event(A), event(A)), seq), &a_times(16, FAILED), MILLION),
         judge(&tower(31, &yieldd(), parallel), &[WITHDRAWN, FAILED], 50_000),
         judge(&tower(16, &choice(skipp(), skipp()), seq), &[DONE, FAILED], u32::MAX),
@@ -157,6 +158,24 @@ fn similar_names() -> Vec<Case> {
         let mut names = every_byte.clone();
         names[at] = names[equal_to].clone();
         all.push(file(names, &event(256), &[256, DONE]));
+    }
+    all
+}
+
+/// Events of nodes and of records just within the names and just beyond them; none at all is allowed too.
+fn missing_names() -> Vec<Case> {
+    let mut all = vec![];
+    for count in [0, 1, 2, 255, 256] {
+        let names: Vec<Entry> = (0..count).map(|i| (vec![i as u8], vec![])).collect();
+        let beyond = [1, 2, count as u16, count as u16 + 1];
+        for e in beyond.into_iter().filter(|e| is_event(*e)) {
+            all.push(file(names.clone(), &skip(), &[DONE]));
+            all.push(file(names.clone(), &skip(), &[e, DONE]));
+            all.push(file(names.clone(), &event(e), &[DONE]));
+            all.push(file(names.clone(), &seq(skip(), event(e)), &[DONE, e]));
+            all.push(file(names.clone(), &seq(skip(), event(e)), &[1, e, DONE]));
+            all.push(file(names.clone(), &pair(event(1), event(e)), &[1, DONE, e, DONE]));
+        }
     }
     all
 }

@@ -32,16 +32,11 @@ pub fn flow_and_records(rng: &mut Rng, most_event: usize) -> (Vec<u16>, Vec<u16>
 
 fn flow(rng: &mut Rng, events: usize) -> Drawing {
     let (taste, sort) = (*rng.pick(&TASTES), random::sort(rng));
+    let room = if rng.once_in(6) { rng.between(15, MOST_NODES) } else { rng.between(1, 14) };
     match rng.below(12) {
         0 => random::drawing_of_size(rng, taste, sort, MOST_NODES, events),
-        1 | 2 => {
-            let room = rng.between(15, MOST_NODES);
-            random::drawing(rng, taste, sort, room, events)
-        }
-        _ => {
-            let room = rng.between(1, 14);
-            random::drawing(rng, taste, sort, room, events)
-        }
+        1..=3 => random::undone_drawing(rng, taste, room, events),
+        _ => random::drawing(rng, taste, sort, room, events),
     }
 }
 
@@ -76,10 +71,10 @@ pub fn around_the_count(rng: &mut Rng, patience: u32, nodes: Vec<u16>, records: 
     let wanted = work_wanted(&nodes, &records);
     let allowance = match judge_within(patience, &nodes, &records, wanted, u32::MAX) {
         Some(Answer::Accepted { count, .. } | Answer::Rejected { count, .. }) => match rng.below(12) {
-            0..=2 => count - 1,
-            3..=5 => count,
-            6 | 7 => count + 1,
-            8 => 0,
+            0 | 1 => count - 1,
+            2..=5 => count,
+            6..=8 => count + 1,
+            9 if rng.once_in(2) => 0,
             9 => rng.below(count as usize) as u32,
             10 => u32::MAX,
             _ => 1_000_000,
@@ -91,7 +86,7 @@ pub fn around_the_count(rng: &mut Rng, patience: u32, nodes: Vec<u16>, records: 
 
 /// Mostly the length wanted, one less or one more; also none, half or all that `replay` has.
 fn near(rng: &mut Rng, wanted: usize) -> usize {
-    let length = match rng.below(24) {
+    let length = match rng.below(40) {
         0 | 1 => wanted - 1,
         2 => wanted / 2,
         3 => 0,

@@ -1,7 +1,8 @@
 //! Cases for the program `replay`, each with the line it has to print. This file says what a case is and
 //! what it looks like on the way; the other files here make cases:
 //! - `fixed`: the same few hundred in every stream: hand cases, limits, every cut of the worked file.
-//! - `judging`: flows and records for the judge; `wide`: families with many runs or many compensations.
+//! - `judging`: flows and records for the judge; `undoing`: small flows that are all about compensations;
+//!   `wide`: families with many runs or many compensations.
 //! - `spoiling`: one damage for each refusal number; `filing`: flow files, whole, cut and damaged.
 //! - `malformed`: what is no case at all.
 
@@ -10,6 +11,7 @@ pub mod fixed;
 pub mod judging;
 pub mod malformed;
 pub mod spoiling;
+pub mod undoing;
 pub mod wide;
 
 use crate::drawing::{self, show_event};
@@ -175,13 +177,14 @@ impl Stream {
     fn random(&mut self) -> (&'static str, Case) {
         let rng = &mut self.rng;
         match rng.below(100) {
-            0..=25 => ("judge", judging::case(rng)),
-            26..=35 => ("judge, wide flow", wide::case(rng)),
-            36..=55 => ("judge, damaged", spoiling::judge_case(rng)),
-            56..=59 => ("judge, at the limits", judging::case_at_limits(rng)),
-            60..=71 => ("file", filing::case(rng)),
-            72..=83 => ("file, cut", filing::cut_case(rng)),
-            84..=97 => ("file, damaged", filing::damaged_case(rng)),
+            0..=24 => ("judge", judging::case(rng)),
+            25..=44 => ("judge, undoing", undoing::case(rng)),
+            45..=54 => ("judge, wide flow", wide::case(rng)),
+            55..=68 => ("judge, damaged", spoiling::judge_case(rng)),
+            69..=71 => ("judge, at the limits", judging::case_at_limits(rng)),
+            72..=79 => ("file", filing::case(rng)),
+            80..=86 => ("file, cut", filing::cut_case(rng)),
+            87..=98 => ("file, damaged", filing::damaged_case(rng)),
             _ => ("file, at the limits", filing::case_at_limits(rng)),
         }
     }
