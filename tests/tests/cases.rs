@@ -12,7 +12,7 @@ use std::sync::OnceLock;
 /// The first cases of one seed, made once for all tests.
 fn cases() -> &'static [Made] {
     static CASES: OnceLock<Vec<Made>> = OnceLock::new();
-    CASES.get_or_init(|| with_deep_stack(|| Stream::new(1).take(4_000).collect()))
+    CASES.get_or_init(|| with_deep_stack(|| Stream::new(1).take(6_000).collect()))
 }
 
 #[test]

@@ -13,6 +13,8 @@ pub fn cases() -> Vec<(&'static str, Case)> {
     let mut add = |family: &'static str, cases: Vec<Case>| all.extend(cases.into_iter().map(|c| (family, c)));
     add("fixed: by hand", judged_by_hand());
     add("fixed: limits", limits());
+    add("fixed: every node", every_node());
+    add("fixed: every record list", every_record_list());
     add("fixed: boundaries", boundaries());
     add("fixed: wide", wide());
     add("fixed: worked file", worked_file());
@@ -68,6 +70,38 @@ fn limits() -> Vec<Case> {
         }
     }
     all
+}
+
+/// Every kind and some that are none with many fields, alone and above every pair of leaves.
+fn every_node() -> Vec<Case> {
+    let mut all = vec![];
+    let below: [&[u16]; 4] = [&[], &[2, 0, 0, 2, 0, 0], &[14, 0, 0, 14, 0, 0], &[2, 0, 0, 14, 0, 0]];
+    for leaves in below {
+        let fields: &[u16] = if leaves.is_empty() { &[0, 1, 256, 257] } else { &[0, 1, 2] };
+        for kind in 0..=18 {
+            for first in fields {
+                for second in fields {
+                    let nodes = [leaves, &[kind, *first, *second]].concat();
+                    let records = if (10..=16).contains(&kind) { vec![DONE, DONE] } else { vec![DONE] };
+                    all.push(Case::Judge { allowance: 9, work_len: 18, nodes, records });
+                }
+            }
+        }
+    }
+    all
+}
+
+/// Every list of one to four of event, closings and 0, for both sorts of root.
+fn every_record_list() -> Vec<Case> {
+    let mut lists: Vec<Vec<u16>> = vec![vec![]];
+    let mut longest = lists.clone();
+    for _ in 0..4 {
+        let longer = |list: &Vec<u16>| [A, DONE, WITHDRAWN, 0].map(|r| [&list[..], &[r]].concat());
+        longest = longest.iter().flat_map(longer).collect();
+        lists.extend(longest.clone());
+    }
+    let roots = [choice(event(A), yields()), pair(choice(event(A), yields()), event(A))];
+    roots.iter().flat_map(|root| lists.iter().map(|records| judge(root, records, 9))).collect()
 }
 
 /// Allowances and work lengths on both sides of what is needed, in one small flow.

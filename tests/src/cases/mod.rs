@@ -1,6 +1,7 @@
 //! Cases for the program `replay`, each with the line it has to print. This file says what a case is and
 //! what it looks like on the way; the other files here make cases:
-//! - `fixed`: the same few hundred in every stream: hand cases, limits, every cut of the worked file.
+//! - `fixed`: the same two thousand in every stream: hand cases, limits, every kind of node, every cut of the
+//!   worked file.
 //! - `judging`: flows and records for the judge; `undoing`: small flows that are all about compensations;
 //!   `wide`: families with many runs or many compensations.
 //! - `spoiling`: one damage for each refusal number; `filing`: flow files, whole, cut and damaged.
