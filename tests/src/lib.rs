@@ -1,5 +1,5 @@
-//! Document 01 a second time, in plain Rust and written from the document alone, to test the proved judge
-//! and reader against. It shares no code with them.
+//! Document 01 a second time, in plain Rust, to test the proved judge and reader against. It is written from
+//! the document and the decisions on its open points, and shares no code with them.
 //!
 //! What is here, from the bottom up:
 //! - `term`: terms, closings, states; `refusals`: the checks 1 to 14.
