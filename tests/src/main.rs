@@ -3,7 +3,7 @@
 use oracle::cases::malformed::malformed;
 use oracle::cases::{Stream, Totals};
 use oracle::compare::compare;
-use oracle::judge::with_deep_stack;
+use oracle::judge::{with_deep_stack, Answer};
 use oracle::laws::laws;
 use oracle::samples;
 use oracle::selfcheck::*;
@@ -15,6 +15,7 @@ const USAGE: &str = "usage:
   oracle selfcheck N SEED                    the oracle against trace sets and laws, N flows each
   oracle samples DIR                         write the sample files and expected.txt
   oracle line FILE                           the line that the program prints for a flow file
+  oracle bench FILE                          states entered in a second on a flow file
 ";
 
 fn main() -> ExitCode {
@@ -42,8 +43,28 @@ fn run(arguments: &[String]) -> Result<String, String> {
             let bytes = std::fs::read(file).map_err(|e| format!("{file}: {e}\n"))?;
             Ok(format!("{}\n", oracle::reader::program(&bytes)))
         }
+        ["bench", file] => bench(file),
         _ => Err(USAGE.into()),
     }
+}
+
+/// The best of five searches of one flow file, with twenty million states allowed.
+fn bench(file: &str) -> Result<String, String> {
+    let bytes = std::fs::read(file).map_err(|e| format!("{file}: {e}\n"))?;
+    let flow = oracle::reader::read(&bytes).map_err(|r| format!("{file}: refused {}\n", r.number))?;
+    let room = 2 * (flow.nodes.len() / 3) * (flow.records.len() + 1);
+    let (mut best, mut count) = (f64::MAX, 0);
+    for _ in 0..5 {
+        let start = std::time::Instant::now();
+        let answer = oracle::judge::judge(&flow.nodes, &flow.records, room, 20_000_000);
+        best = best.min(start.elapsed().as_secs_f64());
+        count = match answer {
+            Answer::Accepted { count, .. } | Answer::Rejected { count, .. } => count,
+            Answer::Undecided { allowance } => allowance,
+            Answer::Refused(_) => 0,
+        };
+    }
+    Ok(format!("{file}: {count} states, {:.3}M states/s\n", count as f64 / best / 1e6))
 }
 
 fn number(word: &str) -> Result<u64, String> {
