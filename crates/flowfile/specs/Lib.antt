@@ -19,4 +19,6 @@ pub mod Exact
 pub mod Collide
 pub mod Reader
 pub mod Cuts
+pub mod Refused
+pub mod Worked
 

@@ -1,0 +1,243 @@
+-- The functions of the search over their locals: what a visit needs and gives (`visit`), the successor's stretch and what comes
+-- back of it (`follow`), and what stays as it was between two successors (`visit_each`). Assumes nothing.
+use Prim.Native.Nat.{ℕ, zero, suc, _+_, _-_, _*_, _/_, _≤_, _<_}
+use mathlib.Core.Path.{_≡_, refl, sym, ap, _∙_, subst}
+use mathlib.Core.Bool.{false}
+use mathlib.Core.Logic.{_≢_}
+use mathlib.Core.List.{List, [], _∷_, _++_, List·Memᴰ, List·Memᴰ·head, List·Memᴰ·tail}
+use native.Mathlib.Omega.{arith}
+use lib.ListN.{length, take, drop, getD, length-append, length-drop}
+use lib.Seq.{paste, getD-drop, drop-at, take-all}
+use borrow.Rule.Slice.PartMut.{putMid, midOf, same-len-mid}
+use Rattle.calculus.specs.Records.{Record, State, Closed, ClosedTwice, Fits}
+use Rattle.calculus.specs.Search.{next}
+use Rattle.calculus.specs.Found.{next-moves, fits-moves}
+use Rattle.calculus.specs.Budget.{Out as Found, spent, visitB}
+use Rattle.flow.specs.Records.{record-of, records}
+use Rattle.flow.specs.Refusals.{count, root, no-record}
+use Rattle.tallies.specs.Capped.{cap}
+use Rattle.tallies.specs.Places.{At}
+use Rattle.states.specs.Contracts.{Spot}
+use Rattle.judge.specs.declared.Role.{Role}
+use Rattle.judge.specs.declared.Role.the-variants.{Standard, Running, Left}
+use Rattle.judge.specs.declared.Out.{Out}
+use Rattle.judge.specs.declared.Out.the-variants.{Spent}
+use Rattle.judge.specs.Visits.{state, role-next, out-of, onward, stretches, Known, Ready, Used, Visited, Tried, Followed, Inner, RightCounts, successor-count, Applied}
+use Rattle.judge.proofs.Numbers.{first-inner}
+use Rattle.judge.proofs.Stretches.{copy-same, copy-length, tail-is, back-is, front-length, stretches-next, stretches-some, used-same, used-deeper, kept-from, state-same, right-same, used-modes}
+
+-- Visits ------------------------------------------------------------------------------------------------------------------
+
+none-fits : (ns t : List ℕ) (role : Role) → Fits (state ns role t) [] → ⊥
+unfolding state
+none-fits ns t Standard f = elim f [ ]
+none-fits ns t Running f = elim f [ ]
+none-fits ns t Left f = elim f [ ]
+
+pub ready-some : {ns rs t : List ℕ} {role : Role} → Ready ns rs t role → 1 ≤ length rs
+ready-some {ns} {rs} {t} {role} ready = by rs (ready .fits)
+  where
+    by : (rs : List ℕ) → Fits (state ns role t) (records rs) → 1 ≤ length rs
+    by [] f = absurd (none-fits ns t role f)
+    by (r ∷ rs) f = omega arith
+
+pub first-rest : (rs : List ℕ) → 1 ≤ length rs → rs ≡ getD rs 0 0 ∷ drop 1 rs
+first-rest [] h = absurd (omega arith)
+first-rest (r ∷ rs) h = refl
+
+pub only-one : (rs : List ℕ) → length rs ≡ 1 → rs ≡ getD rs 0 0 ∷ []
+only-one [] h = absurd (omega arith)
+only-one (r ∷ []) h = refl
+only-one (r ∷ q ∷ rs) h = absurd (omega arith)
+
+-- the root's place
+pub ready-spot : {ns rs t : List ℕ} {role : Role} → Ready ns rs t role → Spot ns t (root ns)
+ready-spot {ns} {rs} {t} {role} ready =
+    let o = stretches-some (count ns) (length rs) (ready-some ready) in
+    let l = ready .room in
+    let s = ready .some in
+    record { node = record { sound = ready .sound; inside = omega arith }; room = omega arith }
+
+visit-none : (rs : List Record) (s : State) → visitB rs s 0 ≡ spent
+unfolding visitB
+visit-none [] s = refl
+visit-none (r ∷ rs) s = refl
+
+visit-some : (s : State) (r : ℕ) (rs : List ℕ) (n : ℕ) → visitB (records (r ∷ rs)) s (suc n) ≡ onward s r rs n
+unfolding visitB onward
+visit-some s r rs n = refl
+
+module _ (ns rs t : List ℕ) (role : Role) (left : ℕ) where
+  pub visited-spent : left ≡ 0 → Visited ns rs t role left t Spent
+  unfolding out-of
+  visited-spent z = record { out = sym (ap (visitB (records rs) (state ns role t)) z ∙ visit-none (records rs) (state ns role t)); used = used-same (count ns) (length rs) t }
+
+  module _ (some : left ≢ 0) where
+    visit-on : (r : ℕ) (rs′ : List ℕ) → rs ≡ r ∷ rs′ → onward (state ns role t) r rs′ (left - 1) ≡ visitB (records rs) (state ns role t) left
+    visit-on r rs′ e =
+        let q : suc (left - 1) ≡ left = omega (arith, some) in
+        sym (visit-some (state ns role t) r rs′ (left - 1)) ∙ ap (λ l. visitB (records l) (state ns role t) (suc (left - 1))) (sym e) ∙ ap (visitB (records rs) (state ns role t)) q
+
+    pub visited-last : (o : Out) → length rs ≡ 1 → out-of o ≡ onward (state ns role t) (getD rs 0 0) [] (left - 1) → Visited ns rs t role left t o
+    visited-last o h e = record { out = e ∙ visit-on (getD rs 0 0) [] (only-one rs h); used = used-same (count ns) (length rs) t }
+
+    pub visited-tried : (o : Out) (t′ : List ℕ) → 1 ≤ length rs → Tried ns rs t role (left - 1) t′ o → Visited ns rs t role left t′ o
+    visited-tried o t′ h e = record { out = e .out ∙ visit-on (getD rs 0 0) (drop 1 rs) (first-rest rs h); used = e .used }
+
+pub last-fits : {ns rs t : List ℕ} {role : Role} → Ready ns rs t role → length rs ≡ 1 → Fits (state ns role t) (records (getD rs 0 0 ∷ []))
+last-fits {ns} {rs} {t} {role} ready h = subst (λ l. Fits (state ns role t) (records l)) (only-one rs h) (ready .fits)
+
+-- Between two successors ----------------------------------------------------------------------------------------------------
+
+module _ {ns rs t : List ℕ} {role : Role} (ready : Ready ns rs t role) (t′ : List ℕ) (used : Used (count ns) (length rs) t t′) where
+  pub same-state : state ns role t ≡ state ns role t′
+  same-state = state-same ns (ready .sound) (ready .some) t t′ (used-modes ns (ready .sound) (ready .some) (length rs) t t′ used) role
+
+  pub ready-still : length t′ ≡ length t → Ready ns rs t′ role
+  ready-still l =
+      let q = ready .room in
+      record { sound = ready .sound; some = ready .some; known = ready .known; fits = subst (λ s. Fits s (records rs)) same-state (ready .fits); room = omega arith }
+
+  pub right-still : (a : ℕ) (c : List ℕ) → RightCounts ns role a t c → RightCounts ns role a t′ c
+  right-still a c r = right-same ns (ready .sound) (ready .some) t t′ (used-modes ns (ready .sound) (ready .some) (length rs) t t′ used) role a c r
+
+  pub count-still : (k a n : ℕ) → k < n → n ≡ successor-count ns role a t → k < successor-count ns role a t′
+  count-still k a n h e = subst (λ s. k < cap (length (next s (record-of a)))) same-state (subst (λ m. k < m) e h)
+
+  pub goes-still : (a k : ℕ) {into : State} → At (next (state ns role t′) (record-of a)) k into → At (next (state ns role t) (record-of a)) k into
+  goes-still a k {into} g = subst (λ s. At (next s (record-of a)) k into) (sym same-state) g
+
+-- the records after the first, as a part of the slice
+pub rest-is : (rs : List ℕ) → take (length rs - 1) (drop 1 rs) ≡ drop 1 rs
+rest-is rs = take-all (length rs - 1) (drop 1 rs) (rw (length-drop 1 rs) (omega arith))
+
+pub rest-length : (rs : List ℕ) → length (take (length rs - 1) (drop 1 rs)) ≡ length rs - 1
+rest-length rs = ap length (rest-is rs) ∙ length-drop 1 rs
+
+-- The successor's stretch ---------------------------------------------------------------------------------------------------
+
+at-member : {l : List State} {k : ℕ} {x : State} → At l k x → List·Memᴰ x l
+at-member At.here = List·Memᴰ·head refl
+at-member (At.past h) = List·Memᴰ·tail (at-member h)
+
+known-rest : (rs : List ℕ) → 1 ≤ length rs → Known rs → Known (drop 1 rs)
+known-rest rs h k =
+    let l = length-drop 1 rs in
+    let q = k .few in
+    record { few = omega arith; each = λ i b. subst (λ x. no-record x ≡ false) (sym (getD-drop 1 rs i 0)) (k .each (1 + i) (omega arith)) }
+
+pub two-stretches : {ns rs t : List ℕ} {role : Role} → Ready ns rs t role → 2 ≤ length rs → 2 * count ns + 2 * count ns ≤ length t
+two-stretches {ns} {rs} {t} {role} ready two =
+    let e : suc (length rs - 1) ≡ length rs = omega arith in
+    let q = ap (stretches (count ns)) (sym e) ∙ stretches-next (count ns) (length rs - 1) in
+    let o = stretches-some (count ns) (length rs - 1) (omega arith) in
+    omega (arith, ready .room)
+
+-- x has the copy, p is the part that is lent
+module _ {ns rs d : List ℕ} {role : Role} (ready : Ready ns rs d role) (two : 2 ≤ length rs) (x : List ℕ) (e : x ≡ paste d (2 * count ns) d (count ns)) where
+  fits-copy : 2 * count ns + count ns ≤ length d
+  fits-copy = omega (arith, two-stretches ready two)
+
+  pub copied-room : 2 * count ns ≤ length x
+  copied-room = omega (arith, two-stretches ready two, copy-length d x (2 * count ns) (count ns) e fits-copy)
+
+  abbrev part : List ℕ
+  part = midOf (2 * count ns) (length x - 2 * count ns) x
+
+  part-is : part ≡ drop (2 * count ns) x
+  part-is = tail-is (2 * count ns) x copied-room
+
+  part-same : (j : ℕ) → j < count ns → getD d j 0 ≡ getD part j 0
+  part-same j h = sym (copy-same d x (2 * count ns) (count ns) e fits-copy j h) ∙ ap (λ l. getD l j 0) (sym part-is)
+
+  part-state : state ns role d ≡ state ns role part
+  part-state = state-same ns (ready .sound) (ready .some) d part part-same role
+
+  part-length : length part ≡ length d - 2 * count ns
+  part-length = ap length part-is ∙ length-drop (2 * count ns) x ∙ ap (λ n. n - 2 * count ns) (copy-length d x (2 * count ns) (count ns) e fits-copy)
+
+  pub apply-asked : (c : List ℕ) (k : ℕ) → RightCounts ns role (getD rs 0 0) d c → k < successor-count ns role (getD rs 0 0) d
+      → Spot ns part (root ns) × (((3 ≤ length ns) × Inner role (getD rs 0 0)) × (RightCounts ns role (getD rs 0 0) part c × (k < successor-count ns role (getD rs 0 0) part)))
+  apply-asked c k r h =
+      let s = ready .some in
+      let l = part-length in
+      let w = two-stretches ready two in
+      let spot : Spot ns part (root ns) = record { node = record { sound = ready .sound; inside = omega arith }; room = omega arith } in (
+        spot,
+        (
+          (ready .some, first-inner ns d role rs (ready .known) two (ready .fits)),
+          (
+            right-same ns (ready .sound) (ready .some) d part part-same role (getD rs 0 0) c r,
+            subst (λ s. k < cap (length (next s (record-of (getD rs 0 0))))) part-state h,
+          ),
+        ),
+      )
+
+  -- p is the part as the successor's, y has it back
+  module _ (k : ℕ) (p : List ℕ) (same : length p ≡ length part) (app : Applied ns role (getD rs 0 0) part k p) where
+    goes : At (next (state ns role d) (record-of (getD rs 0 0))) k (state ns (role-next role (getD rs 0 0)) p)
+    goes = subst (λ s. At (next s (record-of (getD rs 0 0))) k (state ns (role-next role (getD rs 0 0)) p)) (sym part-state) (app .goes)
+
+    abbrev y : List ℕ
+    y = putMid (2 * count ns) (length x - 2 * count ns) x p
+
+    y-is : y ≡ take (2 * count ns) x ++ p
+    y-is = back-is (2 * count ns) x copied-room p
+
+    y-length : length y ≡ length d
+    y-length =
+        let f = front-length (2 * count ns) x copied-room in
+        let l = length-append (take (2 * count ns) x) p in
+        let m = part-length in
+        let o = two-stretches ready two in
+        ap length y-is ∙ omega arith
+
+    pub back-room : 2 * count ns ≤ length y
+    back-room = omega (arith, y-length, two-stretches ready two)
+
+    abbrev part′ : List ℕ
+    part′ = midOf (2 * count ns) (length y - 2 * count ns) y
+
+    pub back-length : (q : List ℕ) → length q ≡ length part′ → length (putMid (2 * count ns) (length y - 2 * count ns) y q) ≡ length d
+    back-length q l = same-len-mid (2 * count ns) (length y - 2 * count ns) y q l ∙ y-length
+
+    part′-is : part′ ≡ p
+    part′-is = tail-is (2 * count ns) y back-room ∙ ap (drop (2 * count ns)) y-is ∙ drop-at (take (2 * count ns) x) p (2 * count ns) (front-length (2 * count ns) x copied-room)
+
+    module _ (rs′ : List ℕ) (er : rs′ ≡ drop 1 rs) (role′ : Role) (eo : role′ ≡ role-next role (getD rs 0 0)) where
+      deeper : Ready ns (drop 1 rs) p (role-next role (getD rs 0 0))
+      deeper =
+          let l = length-drop 1 rs in
+          let j : suc (length (drop 1 rs)) ≡ length rs = omega arith in
+          let q = ap (stretches (count ns)) (sym j) ∙ stretches-next (count ns) (length (drop 1 rs)) in
+          let m = part-length in
+          record {
+            sound = ready .sound;
+            some = ready .some;
+            known = known-rest rs (omega arith) (ready .known);
+            fits = fits-moves (records (drop 1 rs)) (next-moves (state ns role d) (record-of (getD rs 0 0)) (state ns (role-next role (getD rs 0 0)) p) (at-member goes))
+                (subst (λ l. Fits (state ns role d) (records l)) (first-rest rs (omega arith)) (ready .fits));
+            room = omega (arith, ready .room);
+          }
+
+      pub visit-asked : Ready ns rs′ part′ role′
+      visit-asked = subst (λ l. Ready ns l part′ role′) (sym er) (subst (λ l. Ready ns (drop 1 rs) l role′) (sym part′-is) (subst (λ o. Ready ns (drop 1 rs) p o) (sym eo) deeper))
+
+      pub followed : (left : ℕ) (o : Out) (q : List ℕ) → Visited ns rs′ part′ role′ left q o
+          → Followed ns rs d role left (putMid (2 * count ns) (length y - 2 * count ns) y q) o k
+      followed left o q v =
+          let v′ : Visited ns (drop 1 rs) p (role-next role (getD rs 0 0)) left q o
+          = subst (λ l. Visited ns l p (role-next role (getD rs 0 0)) left q o) er (subst (λ l. Visited ns rs′ l (role-next role (getD rs 0 0)) left q o) part′-is (subst (λ z. Visited ns rs′ part′ z left q o) eo v)) in
+          let l = length-drop 1 rs in
+          let j : suc (length (drop 1 rs)) ≡ length rs = omega arith in
+          let z : List ℕ = putMid (2 * count ns) (length y - 2 * count ns) y q in
+          record {
+            into = state ns (role-next role (getD rs 0 0)) p;
+            goes = goes;
+            out = v′ .out;
+            used = subst (λ m. Used (count ns) m d z) j
+                (used-deeper (count ns) (length (drop 1 rs)) d x p y q z (omega arith) (subst (λ m. stretches (count ns) m ≤ length d) (sym j) (ready .room)) e
+                (same ∙ ap length part-is)
+                (λ i h. kept-from ns (ready .sound) (ready .some) part p (app .kept) i h ∙ ap (λ l. getD l i 0) part-is)
+                y-is (v′ .used) (back-is (2 * count ns) y back-room q));
+          }

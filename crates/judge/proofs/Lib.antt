@@ -1,0 +1,5 @@
+mod Turns
+mod Stretches
+mod Numbers
+mod OneRecord
+mod Deeper

@@ -1,0 +1,186 @@
+-- What the demands rest on: an answer told is a refusal or what the search decided (`refusal-told`, `decided-told`), the judge's
+-- check in its parts (`check-parts`), and flows redrawn want the same closings (`redrawn-closings`). Assumes nothing.
+use Prim.Native.Nat.{ℕ, _+_, _*_, _-_, _<_, _≤_}
+use mathlib.Core.Path.{_≡_, refl, sym, ap, _∙_, subst}
+use mathlib.Core.Bool.{Bool, true, false, not, cond}
+use mathlib.Core.List.{List, [], _∷_, _++_}
+use mathlib.Core.Logic.{_↔_}
+use native.Mathlib.Omega.{arith}
+use lib.Dec.{T, leb, ltb}
+use lib.ListN.{length, length-map}
+use borrow.Author.Tests.{le-ltb, leb-true, leb-false}
+use Rattle.calculus.specs.Term.{Std, Cmp}
+use Rattle.calculus.specs.Records.{Record, State, over, std, cmp}
+use Rattle.calculus.specs.Search.{Seen, visit, Verdict, settle}
+use Rattle.calculus.specs.Search as search
+use Rattle.calculus.specs.Laws.{Redrawn}
+use Rattle.calculus.specs.Redrawn.{Alike, both-accepted, both-rejected, first-undecided, second-undecided, redrawn-alike}
+use Rattle.flow.specs.declared.Refusal.{Refusal}
+use Rattle.flow.specs.declared.Check.{Check}
+use Rattle.flow.specs.declared.Check.the-variants.{Fine}
+use Rattle.flow.specs.declared.Check.the-variants as check
+use Rattle.flow.specs.Kinds.{kind, is-standard}
+use Rattle.flow.specs.Records.{record-of, records}
+use Rattle.flow.specs.Refusals.{root, first, or-else-check, table-check, records-check, table-grounds, records-grounds, closing-grounds, wrong-closings, closings-wanted}
+use Rattle.flow.specs.FirstRefusal.{first-append, single-passed}
+use Rattle.flow.specs.Draws.{flow-of}
+use Rattle.flow.specs.FineTable.{fine-table}
+use Rattle.flow.specs.OneFlow.{flow-standard, flow-compensable}
+use Rattle.judge.specs.declared.Answer.{Answer}
+use Rattle.judge.specs.Judged.{Word, Told, told, verdict, refusal, room-wanted, too-short, room-grounds, judge-grounds, judge-check, answer-of, unless-refused, judged, cleared, unless-refused-bytes, work-after}
+use Rattle.judge.specs.Given.{Given}
+use Rattle.judge.specs.Refused.{given-exactly}
+
+---- Words are different ----
+
+abbrev is-refused : Word → Type 0
+is-refused Word.accepted = ⊥
+is-refused Word.rejected = ⊥
+is-refused Word.undecided = ⊥
+is-refused Word.refused = Unit {0}
+
+abbrev is-undecided : Word → Type 0
+is-undecided Word.accepted = ⊥
+is-undecided Word.rejected = ⊥
+is-undecided Word.undecided = Unit {0}
+is-undecided Word.refused = ⊥
+
+abbrev is-accepted : Word → Type 0
+is-accepted Word.accepted = Unit {0}
+is-accepted Word.rejected = ⊥
+is-accepted Word.undecided = ⊥
+is-accepted Word.refused = ⊥
+
+pub not-refused-word : {w : Word} → (is-refused w → ⊥) → w ≡ Word.refused → ⊥
+not-refused-word n e = n (subst is-refused (sym e) tt)
+
+pub not-undecided-word : {w : Word} → (is-undecided w → ⊥) → w ≡ Word.undecided → ⊥
+not-undecided-word n e = n (subst is-undecided (sym e) tt)
+
+pub not-accepted-word : {w : Word} → (is-accepted w → ⊥) → w ≡ Word.accepted → ⊥
+not-accepted-word n e = n (subst is-accepted (sym e) tt)
+
+---- What the search decided ----
+
+-- the answer that is told for a flow, its records and an allowance, by what the search saw
+pub data Decided (s : State) (rs : List Record) (n : ℕ) : Told → Type 0 where
+  undecides : n < (visit rs s) .entered → Decided s rs n (verdict Word.undecided 0 n)
+  accepts : (visit rs s) .entered ≤ n → T ((visit rs s) .found) → Decided s rs n (verdict Word.accepted (length rs) ((visit rs s) .entered))
+  rejects : (visit rs s) .entered ≤ n → (T ((visit rs s) .found) → ⊥) → Decided s rs n (verdict Word.rejected ((visit rs s) .reached) ((visit rs s) .entered))
+
+pub decided : (s : State) (rs : List Record) (n : ℕ) → Decided s rs n (told (answer-of (search.judge s rs n)))
+unfolding search.judge settle told answer-of
+decided s rs n = by (leb ((visit rs s) .entered) n) refl ((visit rs s) .found) refl
+  where
+    by : (e : Bool) → leb ((visit rs s) .entered) n ≡ e → (f : Bool) → (visit rs s) .found ≡ f
+        → Decided s rs n (told (answer-of (settle e f (length rs) n (visit rs s))))
+    by false e f g = undecides (leb-false ((visit rs s) .entered) n e)
+    by true e true g = accepts (leb-true ((visit rs s) .entered) n e) (subst T (sym g) tt)
+    by true e false g = rejects (leb-true ((visit rs s) .entered) n e) (λ t. subst T g t)
+
+decided-not-refused : {s : State} {rs : List Record} {n : ℕ} {t : Told} → Decided s rs n t → t .word ≡ Word.refused → ⊥
+decided-not-refused (undecides h) = not-refused-word (λ x. x)
+decided-not-refused (accepts h f) = not-refused-word (λ x. x)
+decided-not-refused (rejects h f) = not-refused-word (λ x. x)
+
+---- An answer told ----
+
+module _ (ns rs : List ℕ) (room allowance : ℕ) where
+  pub refused-is : (r : Refusal) → judge-check ns rs room ≡ check.Refused r → told (judged ns rs room allowance) ≡ refusal (r .number) (r .place)
+  unfolding judged unless-refused told
+  refused-is r e = ap (λ (c : Check). told (unless-refused c (answer-of (search.judge (flow-of ns) (records rs) allowance)))) e
+
+  pub fine-is : judge-check ns rs room ≡ Fine → judged ns rs room allowance ≡ answer-of (search.judge (flow-of ns) (records rs) allowance)
+  unfolding judged unless-refused
+  fine-is e = ap (λ (c : Check). unless-refused c (answer-of (search.judge (flow-of ns) (records rs) allowance))) e
+
+  pub fine-decided : judge-check ns rs room ≡ Fine → Decided (flow-of ns) (records rs) allowance (told (judged ns rs room allowance))
+  fine-decided e =
+      subst (λ (a : Answer). Decided (flow-of ns) (records rs) allowance (told a)) (sym (fine-is e)) (decided (flow-of ns) (records rs) allowance)
+
+  pub not-refused-fine : (told (judged ns rs room allowance) .word ≡ Word.refused → ⊥) → judge-check ns rs room ≡ Fine
+  not-refused-fine n = by (judge-check ns rs room) refl
+    where
+      by : (c : Check) → judge-check ns rs room ≡ c → judge-check ns rs room ≡ Fine
+      by Fine e = e
+      by (check.Refused r) e = absurd (n (ap (λ (t : Told). t .word) (refused-is r e)))
+
+  -- what is not refused is what the search decided
+  pub decided-told : (told (judged ns rs room allowance) .word ≡ Word.refused → ⊥) → Decided (flow-of ns) (records rs) allowance (told (judged ns rs room allowance))
+  decided-told n = fine-decided (not-refused-fine n)
+
+  pub told-refused : (told (judged ns rs room allowance) .word ≡ Word.refused) → (r : Refusal) × (judge-check ns rs room ≡ check.Refused r)
+  told-refused w = by (judge-check ns rs room) refl
+    where
+      by : (c : Check) → judge-check ns rs room ≡ c → (r : Refusal) × (judge-check ns rs room ≡ check.Refused r)
+      by Fine e = absurd (decided-not-refused (fine-decided e) w)
+      by (check.Refused r) e = (r, e)
+
+  pub refusal-told : (number place : ℕ) → (told (judged ns rs room allowance) ≡ refusal number place) ↔ Given ns rs room number place
+  refusal-told number place = (λ e. given-exactly ns rs room number place .0 (there e), λ g. refused-is (record { number = number; place = place }) (given-exactly ns rs room number place .1 g))
+    where
+      there : told (judged ns rs room allowance) ≡ refusal number place → judge-check ns rs room ≡ check.Refused (record { number = number; place = place })
+      there e =
+          let q = told-refused (ap (λ (t : Told). t .word) e) in
+          q .1 ∙ ap (λ (t : Told). check.Refused (record { number = t .number; place = t .place })) (sym (refused-is (q .0) (q .1)) ∙ e)
+
+---- The work bytes ----
+
+module _ (ns rs work : List ℕ) where
+  pub refused-bytes : (r : Refusal) → judge-check ns rs (length work) ≡ check.Refused r → work-after ns rs work ≡ work
+  unfolding work-after unless-refused-bytes
+  refused-bytes r e = ap (λ (c : Check). unless-refused-bytes c (cleared (room-wanted ns rs) work) work) e
+
+  pub fine-bytes : judge-check ns rs (length work) ≡ Fine → work-after ns rs work ≡ cleared (room-wanted ns rs) work
+  unfolding work-after unless-refused-bytes
+  fine-bytes e = ap (λ (c : Check). unless-refused-bytes c (cleared (room-wanted ns rs) work) work) e
+
+---- The check in its parts ----
+
+module _ (ns rs : List ℕ) (room : ℕ) where
+  pub check-parts : judge-check ns rs room ≡ or-else-check (table-check ns) (or-else-check (records-check ns rs) (first (room-grounds ns rs room)))
+  unfolding judge-check judge-grounds table-check records-check
+  check-parts =
+      first-append (table-grounds ns) (records-grounds ns rs ++ room-grounds ns rs room)
+      ∙ ap (or-else-check (first (table-grounds ns))) (first-append (records-grounds ns rs) (room-grounds ns rs room))
+
+  pub roomy-fine : room-wanted ns rs ≤ room → first (room-grounds ns rs room) ≡ Fine
+  unfolding room-grounds too-short
+  roomy-fine h = single-passed 14 0 (too-short ns rs room) (le-ltb room (room-wanted ns rs) h)
+
+  -- a fine table with room enough is refused as its records are
+  pub records-decide : table-check ns ≡ Fine → room-wanted ns rs ≤ room → judge-check ns rs room ≡ records-check ns rs
+  unfolding or-else-check
+  records-decide t h =
+      check-parts
+      ∙ ap (λ (c : Check). or-else-check c (or-else-check (records-check ns rs) (first (room-grounds ns rs room)))) t
+      ∙ by (records-check ns rs) (first (room-grounds ns rs room)) (roomy-fine h)
+    where
+      by : (c d : Check) → d ≡ Fine → or-else-check Fine (or-else-check c d) ≡ c
+      by Fine d e = e
+      by (check.Refused r) d e = refl
+
+---- Flows redrawn ----
+
+-- none is of the other sort
+redrawn-mixed : {s t : State} {p : Std} {pp : Cmp} → Redrawn s t → s ≡ std p → t ≡ cmp pp → ⊥
+redrawn-mixed {t} {p} r e d = elim (subst (Redrawn (std p)) d (subst (λ (z : State). Redrawn z t) e r)) [ ]
+
+mixed-redrawn : {s t : State} {p : Std} {pp : Cmp} → Redrawn s t → s ≡ cmp pp → t ≡ std p → ⊥
+mixed-redrawn {t} {pp} r e d = elim (subst (Redrawn (cmp pp)) d (subst (λ (z : State). Redrawn z t) e r)) [ ]
+
+module _ (ns ns′ : List ℕ) (fine : table-check ns ≡ Fine) (fine′ : table-check ns′ ≡ Fine) (h : Redrawn (flow-of ns) (flow-of ns′)) where
+  -- they are of one sort
+  pub redrawn-closings : closings-wanted ns ≡ closings-wanted ns′
+  unfolding closings-wanted
+  redrawn-closings = ap (λ (b : Bool). cond b 1 2) (by (is-standard (kind ns (root ns))) refl (is-standard (kind ns′ (root ns′))) refl)
+    where
+      by : (a : Bool) → is-standard (kind ns (root ns)) ≡ a → (b : Bool) → is-standard (kind ns′ (root ns′)) ≡ b → is-standard (kind ns (root ns)) ≡ is-standard (kind ns′ (root ns′))
+      by true e true d = e ∙ sym d
+      by false e false d = e ∙ sym d
+      by true e false d = absurd (redrawn-mixed h (flow-standard ns (fine-table ns fine) e .1) (flow-compensable ns′ (fine-table ns′ fine′) d .1))
+      by false e true d = absurd (mixed-redrawn h (flow-compensable ns (fine-table ns fine) e .1) (flow-standard ns′ (fine-table ns′ fine′) d .1))
+
+  pub redrawn-records : (rs : List ℕ) → records-check ns rs ≡ records-check ns′ rs
+  unfolding records-check records-grounds closing-grounds wrong-closings
+  redrawn-records rs = rw redrawn-closings

@@ -1,0 +1,129 @@
+-- What the functions of the counted search promise: the state that a stretch of the work bytes holds in a role, what a search
+-- brings back, and for each function what it asks and what it leaves, as records that the contracts name. Definitions only; the
+-- search itself and its count are defined in the crate calculus (Search, Budget). Assumes nothing.
+use Prim.Native.Nat.{ℕ, _+_, _*_, _<_, _≤_}
+use mathlib.Core.Path.{_≡_}
+use mathlib.Core.Bool.{Bool, false, cond}
+use mathlib.Core.List.{List, [], _∷_}
+use lib.Dec.{T, eqb, ltb}
+use lib.ListN.{length, getD, take, drop}
+use Rattle.calculus.specs.Term.{Closing, done, withdrawn, failed}
+use Rattle.calculus.specs.Records.{State, std, cmp, Fits}
+use Rattle.calculus.specs.Search.{next}
+use Rattle.calculus.specs.Budget.{Out as Found, spent, back, triesB, visitB}
+use Rattle.flow.specs.Records.{done-number, withdrawn-number, failed-number, record-of, records}
+use Rattle.flow.specs.Refusals.{count, root, no-record}
+use Rattle.tallies.specs.Capped.{cap}
+use Rattle.tallies.specs.Places.{At}
+use Rattle.tallies.specs.declared.View.{View}
+use Rattle.states.specs.State.{part, modes, counts}
+use Rattle.states.specs.Stored.{stored}
+use Rattle.states.specs.Contracts.{Sound, Kept}
+use Rattle.judge.specs.declared.Role.{Role}
+use Rattle.judge.specs.declared.Role.the-variants.{Standard, Running, Left}
+use Rattle.judge.specs.declared.Trip.{Trip}
+use Rattle.judge.specs.declared.Out.{Out}
+use Rattle.judge.specs.declared.Out.the-variants.{Spent, Back}
+
+-- States ----------------------------------------------------------------------------------------------------------------
+
+-- what the stretch t holds, where the root has this role
+unfoldable pub state : List ℕ → Role → List ℕ → State
+state ns Standard t = std (part ns (modes t) (root ns) .std)
+state ns Running t = cmp (part ns (modes t) (root ns) .run)
+state ns Left t = std (part ns (modes t) (root ns) .left)
+
+-- the role after a record: a closing makes of a part that runs its compensation
+unfoldable pub role-next : Role → ℕ → Role
+role-next Standard r = Standard
+role-next Running r = cond (ltb r done-number) Running Left
+role-next Left r = Left
+
+unfoldable pub out-of : Out → Found
+out-of Spent = spent
+out-of (Back trip) = back (trip .found) (trip .far) (trip .left)
+
+-- the closing that a number above the events is
+abbrev pub closing-of : ℕ → Closing
+closing-of r = cond (eqb r done-number) done (cond (eqb r withdrawn-number) withdrawn failed)
+
+-- whether what is viewed can end so
+unfoldable pub ends-by : View → Closing → Bool
+ends-by v done = v .done
+ends-by v withdrawn = v .withdraws
+ends-by v failed = v .fails
+
+-- The search on from a state --------------------------------------------------------------------------------------------
+
+-- the search through the successors of s by the record r, with the records rs after it, and so much left of the allowance
+unfoldable pub onward : State → ℕ → List ℕ → ℕ → Found
+unfolding triesB visitB next record-of
+onward s r rs left = triesB (λ t m. visitB (records rs) t m) (next s (record-of r)) left
+
+-- 01: "each deeper state is kept in its own stretch of the work bytes": as many bytes as m of n nodes take
+unfoldable pub stretches : ℕ → ℕ → ℕ
+stretches n m = 2 * n * m
+
+-- the records after checks 11 and 12
+pub record Known (rs : List ℕ) : Type 0 where
+  pub few : length rs ≤ 256
+  pub each : (i : ℕ) → i < length rs → no-record (getD rs i 0) ≡ false
+
+-- what a visit asks: a table with a root, records whose closings are as the state needs, and a stretch for each record
+pub record Ready (ns rs t : List ℕ) (role : Role) : Type 0 where
+  pub sound : Sound ns
+  pub some : 3 ≤ length ns
+  pub known : Known rs
+  pub fits : Fits (state ns role t) (records rs)
+  pub room : stretches (count ns) (length rs) ≤ length t
+
+-- the state's own stretch is kept, and so is what lies behind the deeper ones
+pub record Used (n m : ℕ) (t t′ : List ℕ) : Type 0 where
+  pub own : take (2 * n) t′ ≡ take (2 * n) t
+  pub rest : drop (stretches n m) t′ ≡ drop (stretches n m) t
+
+module _ (ns rs t : List ℕ) (role : Role) (left : ℕ) (t′ : List ℕ) (o : Out) where
+  -- into the state and on
+  pub record Visited : Type 0 where
+    pub out : out-of o ≡ visitB (records rs) (state ns role t) left
+    pub used : Used (count ns) (length rs) t t′
+
+  -- on from the state
+  pub record Tried : Type 0 where
+    pub out : out-of o ≡ onward (state ns role t) (getD rs 0 0) (drop 1 rs) left
+    pub used : Used (count ns) (length rs) t t′
+
+  -- into the k-th successor and on
+  pub record Followed (k : ℕ) : Type 0 where
+    pub into : State
+    pub goes : At (next (state ns role t) (record-of (getD rs 0 0))) k into
+    pub out : out-of o ≡ visitB (records (drop 1 rs)) into left
+    pub used : Used (count ns) (length rs) t t′
+
+-- One record ------------------------------------------------------------------------------------------------------------
+
+-- a record that is not the last: an event, or for a part that runs a closing too
+abbrev pub Inner : Role → ℕ → Type 0
+Inner Standard r = r < done-number
+Inner Running r = r ≤ failed-number
+Inner Left r = r < done-number
+
+-- the counts of the root's role are right
+abbrev pub RightCounts : List ℕ → Role → ℕ → List ℕ → List ℕ → Type 0
+RightCounts ns Standard a t c = T (stored ns a (modes t) (counts c) (root ns) .std)
+RightCounts ns Running a t c = T (stored ns a (modes t) (counts c) (root ns) .run)
+RightCounts ns Left a t c = T (stored ns a (modes t) (counts c) (root ns) .left)
+
+-- how many successors, capped
+abbrev pub successor-count : List ℕ → Role → ℕ → List ℕ → ℕ
+successor-count ns role r t = cap (length (next (state ns role t) (record-of r)))
+
+module _ (ns : List ℕ) (role : Role) (r : ℕ) (t : List ℕ) where
+  pub record Counted (c′ : List ℕ) (n : ℕ) : Type 0 where
+    pub many : n ≡ successor-count ns role r t
+    pub right : RightCounts ns role r t c′
+
+  -- the stretch has become the k-th successor's
+  pub record Applied (k : ℕ) (t′ : List ℕ) : Type 0 where
+    pub goes : At (next (state ns role t) (record-of r)) k (state ns (role-next role r) t′)
+    pub kept : Kept ns (root ns) (modes t) (modes t′)

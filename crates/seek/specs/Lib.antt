@@ -1,0 +1,5 @@
+-- Definitions.
+pub mod Asked
+-- Theorems.
+pub mod NodeLaws
+pub mod Branches

@@ -1,0 +1,6 @@
+-- Definitions.
+pub mod Turns
+-- Theorems.
+pub mod NodeLaws
+pub mod KindLaws
+pub mod TurnLaws

@@ -1,0 +1,6 @@
+-- Definitions.
+pub mod Sides
+-- Theorems.
+pub mod KindLaws
+pub mod Noting
+pub mod CountLaws

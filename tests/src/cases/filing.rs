@@ -1,0 +1,260 @@
+//! Flow files for the program: whole ones with names that are easily mixed up, files cut at every kind of
+//! item, damaged ones, and files at the limits.
+
+use super::spoiling::spoil;
+use super::{judging, Case};
+use crate::flowfile::{Entry, FlowFile, Item, ItemKind};
+use crate::random::{self, TASTES};
+use crate::reader::MOST_NAMES;
+use crate::refusals::{MOST_NODES, MOST_RECORDS};
+use crate::rng::Rng;
+use crate::term::{is_event, kind, root, MOST_EVENT};
+
+/// A file that the reader takes, whatever comes of its judging.
+pub fn case(rng: &mut Rng) -> Case {
+    Case::File(whole(rng).bytes())
+}
+
+fn whole(rng: &mut Rng) -> FlowFile {
+    let most_names = if rng.once_in(40) { rng.between(1, MOST_NAMES) } else { rng.between(1, 6) };
+    let (nodes, records) = judging::flow_and_records(rng, most_names);
+    let needed = events(&nodes, &records).into_iter().max().unwrap_or(0) as usize;
+    let count = if rng.once_in(2) { needed } else { most_names.max(needed) };
+    FlowFile { names: names(rng, count), nodes, records }
+}
+
+/// The events of nodes and records.
+fn events(nodes: &[u16], records: &[u16]) -> Vec<u16> {
+    let of_nodes = nodes.chunks(3).filter(|node| node[0] == kind::EVENT).map(|node| node[1]);
+    of_nodes.chain(records.iter().copied().filter(|r| is_event(*r))).collect()
+}
+
+// ---- names ----
+
+/// So many different entries, all in one style.
+pub fn names(rng: &mut Rng, count: usize) -> Vec<Entry> {
+    let style = *rng.pick(&[plant_entry, split_entry, other_machine, any_bytes, long_entry]);
+    let mut all: Vec<Entry> = vec![];
+    let mut tries = 0;
+    while all.len() < count {
+        let style = if tries < 4 * count { style } else { any_bytes };
+        let entry = style(rng);
+        if !all.contains(&entry) {
+            all.push(entry);
+        }
+        tries += 1;
+    }
+    all
+}
+
+/// As a plant would name them, commas and all.
+fn plant_entry(rng: &mut Rng) -> Entry {
+    let step = *rng.pick(&["wash", "hold hot", "dry", "book van", "unload", "drain", "2,wash", "wash,W1"]);
+    let machine = *rng.pick(&["", "W1", "W2", "W1,2", "2", "1,2", "D1", ",", ",,", "W1,", "w1", "W1 "]);
+    (step.into(), machine.into())
+}
+
+/// The same bytes split at different places, so that only the lengths tell entries apart.
+fn split_entry(rng: &mut Rng) -> Entry {
+    let bytes = b"W1,2,W1,2,W1,2,W1,2,W1,2,W1,2,W1,2,W1,2,W1,2,W1,2,W1,2,W1,2,";
+    let (step, machine) = (rng.between(1, 40), rng.between(0, 20));
+    (bytes[..step].to_vec(), bytes[step..step + machine].to_vec())
+}
+
+/// One step on machines that differ in a byte or in length only.
+fn other_machine(rng: &mut Rng) -> Entry {
+    let length = rng.between(0, 40);
+    let mut machine = vec![b'W'; length];
+    if length > 0 && rng.once_in(2) {
+        machine[rng.below(length)] = rng.byte();
+    }
+    (b"wash".to_vec(), machine)
+}
+
+/// Every byte value.
+fn any_bytes(rng: &mut Rng) -> Entry {
+    let lengths = [rng.between(1, 40), rng.between(0, 40)];
+    let [step, machine] = lengths.map(|length| (0..length).map(|_| rng.byte()).collect());
+    (step, machine)
+}
+
+/// Both names at their longest, or nearly, and different in the first or the last byte only.
+fn long_entry(rng: &mut Rng) -> Entry {
+    let mut entry = (vec![0; rng.between(39, 40)], vec![255; rng.between(39, 40)]);
+    let name = if rng.once_in(2) { &mut entry.0 } else { &mut entry.1 };
+    let at = if rng.once_in(2) { 0 } else { name.len() - 1 };
+    name[at] = rng.byte();
+    entry
+}
+
+// ---- cuts ----
+
+/// A good file cut before or within an item of any kind.
+pub fn cut_case(rng: &mut Rng) -> Case {
+    let items = whole(rng).items();
+    let kinds: Vec<ItemKind> = {
+        let mut kinds: Vec<ItemKind> = items.iter().map(|item| item.kind).collect();
+        kinds.sort();
+        kinds.dedup();
+        kinds
+    };
+    let kind = *rng.pick(&kinds);
+    let of_kind: Vec<usize> = (0..items.len()).filter(|&i| items[i].kind == kind).collect();
+    let at = *rng.pick(&of_kind);
+    let mut file = bytes(&items[..at]);
+    file.extend(&items[at].bytes[..rng.below(items[at].bytes.len())]);
+    Case::File(file)
+}
+
+fn bytes(items: &[Item]) -> Vec<u8> {
+    items.iter().flat_map(|item| item.bytes.clone()).collect()
+}
+
+// ---- damages ----
+
+#[derive(Clone, Copy, PartialEq, Eq)]
+enum Damage {
+    /// 4 to 9, 12, 13.
+    Tables,
+    /// 18.
+    EqualEntry,
+    /// 19.
+    FewerNames,
+    /// 20.
+    RecordBeyondNames,
+    /// 16, 17, 17, 1 and 3, 10 and 11: a count or length out of range.
+    OutOfRange(ItemKind),
+    /// A count that is one off, so that everything after it is read as something else.
+    CountOffByOne,
+    /// 21.
+    MoreBytes,
+    ChangedBytes,
+    MissingByte,
+}
+
+const DAMAGES: [Damage; 19] = [
+    Damage::Tables,
+    Damage::Tables,
+    Damage::Tables,
+    Damage::EqualEntry,
+    Damage::EqualEntry,
+    Damage::FewerNames,
+    Damage::FewerNames,
+    Damage::RecordBeyondNames,
+    Damage::RecordBeyondNames,
+    Damage::OutOfRange(ItemKind::NameCount),
+    Damage::OutOfRange(ItemKind::StepLength),
+    Damage::OutOfRange(ItemKind::MachineLength),
+    Damage::OutOfRange(ItemKind::NodeCount),
+    Damage::OutOfRange(ItemKind::RecordCount),
+    Damage::CountOffByOne,
+    Damage::MoreBytes,
+    Damage::MoreBytes,
+    Damage::ChangedBytes,
+    Damage::MissingByte,
+];
+
+/// A file with one or two damages: to its tables, to its items, or to its bytes.
+pub fn damaged_case(rng: &mut Rng) -> Case {
+    let mut file = whole(rng);
+    let two = rng.once_in(3);
+    let damages: Vec<Damage> = (0..if two { 2 } else { 1 }).map(|_| *rng.pick(&DAMAGES)).collect();
+    damages.iter().for_each(|&damage| damage_tables(rng, damage, &mut file));
+    let mut items = file.items();
+    damages.iter().for_each(|&damage| damage_items(rng, damage, &mut items));
+    let mut bytes = bytes(&items);
+    damages.iter().for_each(|&damage| damage_bytes(rng, damage, &mut bytes));
+    Case::File(bytes)
+}
+
+fn damage_tables(rng: &mut Rng, damage: Damage, file: &mut FlowFile) {
+    match damage {
+        Damage::Tables => {
+            let number = *rng.pick(&[4, 5, 6, 7, 7, 8, 8, 9, 12, 13]);
+            spoil(rng, number, &mut file.nodes, &mut file.records);
+        }
+        Damage::EqualEntry if !file.names.is_empty() => {
+            let copied = rng.pick(&file.names).clone();
+            let at = rng.below(file.names.len() + 1);
+            file.names.insert(at, copied);
+            file.names.truncate(MOST_NAMES);
+        }
+        Damage::FewerNames => {
+            let asked = events(&file.nodes, &[]);
+            if !asked.is_empty() {
+                let event = *rng.pick(&asked) as usize;
+                file.names.truncate(rng.below(event.max(1)));
+            }
+        }
+        Damage::RecordBeyondNames => {
+            let event = (file.names.len() + rng.between(1, 2)).min(MOST_EVENT as usize) as u16;
+            file.records.insert(rng.below(file.records.len().max(1)), event);
+        }
+        _ => {}
+    }
+}
+
+fn damage_items(rng: &mut Rng, damage: Damage, items: &mut [Item]) {
+    let kind = match damage {
+        Damage::OutOfRange(kind) => kind,
+        Damage::CountOffByOne => {
+            *rng.pick(&[ItemKind::NameCount, ItemKind::NodeCount, ItemKind::RecordCount])
+        }
+        _ => return,
+    };
+    let of_kind: Vec<usize> = (0..items.len()).filter(|&i| items[i].kind == kind).collect();
+    if of_kind.is_empty() {
+        return;
+    }
+    let bytes = &mut items[*rng.pick(&of_kind)].bytes;
+    if damage == Damage::CountOffByOne {
+        bytes[0] = if rng.once_in(2) { bytes[0].wrapping_add(1) } else { bytes[0].wrapping_sub(1) };
+        return;
+    }
+    let values: &[u16] = match kind {
+        ItemKind::NameCount => &[257, 258, 512, 65535],
+        ItemKind::StepLength => &[0, 41, 42, 64, 127, 255],
+        ItemKind::MachineLength => &[41, 42, 64, 128, 255],
+        ItemKind::NodeCount => &[0, 65, 66, 256, 65535],
+        _ => &[0, 257, 258, 512, 65535],
+    };
+    let length = bytes.len();
+    *bytes = rng.pick(values).to_le_bytes()[..length].to_vec();
+}
+
+fn damage_bytes(rng: &mut Rng, damage: Damage, file: &mut Vec<u8>) {
+    match damage {
+        Damage::MoreBytes => (0..rng.between(1, 4)).for_each(|_| file.push(rng.byte())),
+        Damage::ChangedBytes => {
+            for _ in 0..rng.between(1, 3) {
+                let at = rng.below(file.len());
+                file[at] = if rng.once_in(2) { rng.byte() } else { file[at].wrapping_add(1) };
+            }
+        }
+        Damage::MissingByte => drop(file.remove(rng.below(file.len()))),
+        _ => {}
+    }
+}
+
+// ---- limits ----
+
+/// 255 to 257 names, 63 to 65 nodes, 255 to 257 records, alone or together, and bytes after the end.
+pub fn case_at_limits(rng: &mut Rng) -> Case {
+    let (taste, sort) = (*rng.pick(&TASTES), random::sort(rng));
+    let size = if rng.once_in(2) { rng.between(MOST_NODES - 1, MOST_NODES + 1) } else { rng.between(3, 20) };
+    let nodes = random::drawing_of_size(rng, taste, sort, size, 3).table_in_any_order(rng);
+    let mut records = random::records_for(rng, &root(&nodes), 3);
+    if rng.once_in(2) {
+        let length = rng.between(MOST_RECORDS - 1, MOST_RECORDS + 1);
+        while records.len() < length {
+            records.insert(records.len() - 1, rng.between(1, 3) as u16);
+        }
+    }
+    let count = if rng.once_in(2) { rng.between(MOST_NAMES - 1, MOST_NAMES + 1) } else { 3 };
+    let mut file = FlowFile { names: names(rng, count), nodes, records }.bytes();
+    if rng.once_in(4) {
+        let more = *rng.pick(&[1, 2, 1000, 30_000]);
+        file.extend(vec![rng.byte(); more]);
+    }
+    Case::File(file)
+}

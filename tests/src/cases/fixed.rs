@@ -1,0 +1,228 @@
+//! The cases that every stream begins with, whatever its seed: those of document 01 and one or more for
+//! each boundary that chance might miss.
+
+use super::{Case, MOST_WORK};
+use crate::by_hand::{self, A, B, C, MILLION};
+use crate::drawing::*;
+use crate::flowfile::{self, entry, Entry, FlowFile};
+use crate::refusals::work_wanted;
+use crate::term::{is_event, DONE, FAILED, WITHDRAWN};
+
+pub fn cases() -> Vec<(&'static str, Case)> {
+    let mut all = vec![];
+    let mut add = |family: &'static str, cases: Vec<Case>| all.extend(cases.into_iter().map(|c| (family, c)));
+    add("fixed: by hand", judged_by_hand());
+    add("fixed: limits", limits());
+    add("fixed: every node", every_node());
+    add("fixed: every record list", every_record_list());
+    add("fixed: boundaries", boundaries());
+    add("fixed: wide", wide());
+    add("fixed: worked file", worked_file());
+    add("fixed: names", similar_names());
+    add("fixed: names", missing_names());
+    add("fixed: long files", long_files());
+    all
+}
+
+fn judge(flow: &Drawing, records: &[u16], allowance: u32) -> Case {
+    let nodes = flow.table();
+    let work_len = work_wanted(&nodes, records).min(MOST_WORK);
+    Case::Judge { allowance, work_len, nodes, records: records.to_vec() }
+}
+
+/// "Judged by hand", as calls of the judge and as files.
+fn judged_by_hand() -> Vec<Case> {
+    let table = by_hand::table();
+    let calls = table.iter().map(|case| judge(&case.flow, &case.records, case.allowance));
+    let files = table.iter().map(|case| file(four_names(), &case.flow, &case.records));
+    calls.chain(files).collect()
+}
+
+fn four_names() -> Vec<Entry> {
+    vec![entry("wash", "W1"), entry("wash", "W1,2"), entry("dry", ""), entry("2,wash", "W1")]
+}
+
+fn file(names: Vec<Entry>, flow: &Drawing, records: &[u16]) -> Case {
+    Case::File(FlowFile { names, nodes: flow.table(), records: records.to_vec() }.bytes())
+}
+
+/// "64 nodes are judged, 65 refused 3; 256 records, 257 refused 11", as calls and as files.
+fn limits() -> Vec<Case> {
+    let flows = [
+        seq(block(skipp()), tower(31, &skip(), seq)),
+        tower(33, &skip(), seq),
+        tower(32, &event(A), seq),
+        tower(32, &event(A), |p, q| seq(q, p)),
+        block(tower(32, &throww(), parallel)),
+        tower(32, &yieldd(), seq),
+        tower(33, &yieldd(), seq),
+    ];
+    let mut all = vec![];
+    for flow in &flows {
+        let closings: &[u16] = if flow.kind < 10 { &[DONE] } else { &[DONE, DONE] };
+        for count in [0, 31, 32, 33, 254, 255, 256, 257, 399] {
+            let mut records = vec![A; (count + 1_usize).saturating_sub(closings.len())];
+            records.extend(closings);
+            all.push(judge(flow, &records, 1_000));
+            if count <= 257 {
+                all.push(file(four_names(), flow, &records));
+            }
+        }
+    }
+    all
+}
+
+/// Every kind and some that are none with many fields, alone and above every pair of leaves.
+fn every_node() -> Vec<Case> {
+    let mut all = vec![];
+    let below: [&[u16]; 4] = [&[], &[2, 0, 0, 2, 0, 0], &[14, 0, 0, 14, 0, 0], &[2, 0, 0, 14, 0, 0]];
+    for leaves in below {
+        let fields: &[u16] = if leaves.is_empty() { &[0, 1, 256, 257] } else { &[0, 1, 2] };
+        for kind in 0..=18 {
+            for first in fields {
+                for second in fields {
+                    let nodes = [leaves, &[kind, *first, *second]].concat();
+                    let records = if (10..=16).contains(&kind) { vec![DONE, DONE] } else { vec![DONE] };
+                    all.push(Case::Judge { allowance: 9, work_len: 18, nodes, records });
+                }
+            }
+        }
+    }
+    all
+}
+
+/// Every list of one to four of event, closings and 0, for both sorts of root.
+fn every_record_list() -> Vec<Case> {
+    let mut lists: Vec<Vec<u16>> = vec![vec![]];
+    let mut longest = lists.clone();
+    for _ in 0..4 {
+        let longer = |list: &Vec<u16>| [A, DONE, WITHDRAWN, 0].map(|r| [&list[..], &[r]].concat());
+        longest = longest.iter().flat_map(longer).collect();
+        lists.extend(longest.clone());
+    }
+    let roots = [choice(event(A), yields()), pair(choice(event(A), yields()), event(A))];
+    roots.iter().flat_map(|root| lists.iter().map(|records| judge(root, records, 9))).collect()
+}
+
+/// Allowances and work lengths on both sides of what is needed, in one small flow.
+fn boundaries() -> Vec<Case> {
+    let nodes = block(seq(pair(event(A), event(B)), throww())).table();
+    let mut all = vec![];
+    for records in [[A, B, DONE], [A, B, FAILED], [B, A, DONE], [A, 0, DONE], [A, DONE, B]] {
+        let wanted = work_wanted(&nodes, &records);
+        for work_len in [0, 1, wanted - 1, wanted, wanted + 1, MOST_WORK] {
+            for allowance in [0, 1, 2, 3, 4, 5, u32::MAX] {
+                let (nodes, records) = (nodes.clone(), records.to_vec());
+                all.push(Case::Judge { allowance, work_len, nodes, records });
+            }
+        }
+    }
+    for length in 0..=9 {
+        let nodes = [2, 0, 0, 2, 0, 0, 5, 0, 1][..length].to_vec();
+        all.push(Case::Judge { allowance: 9, work_len: 100, nodes, records: vec![DONE] });
+    }
+    all
+}
+
+/// Searches of about a million states, and blocks with thousands of millions of compensations.
+fn wide() -> Vec<Case> {
+    let a_times = |n: usize, closing: u16| [vec![A; n], vec![closing]].concat();
+    let orders = |n: usize| tower(n, &event(A), parallel);
+    let late = choice(seq(orders(8), throw()), tower(8, &event(A), seq));
+    let silent = block(parallel(throww(), tower(30, &yieldd(), parallel)));
+    let leaves = |e: u16| pair(skip(), event(e));
+    let undone = block(seq(tower(7, &choice(leaves(B), leaves(C)), parallel), throww()));
+    vec![
+        file(four_names(), &orders(9), &a_times(9, FAILED)),
+        file(four_names(), &orders(10), &a_times(10, FAILED)),
+        file(four_names(), &late, &a_times(8, DONE)),
+        judge(&orders(7), &a_times(7, FAILED), 13_699),
+        judge(&orders(7), &a_times(7, FAILED), 13_700),
+        judge(&tower(16, &choice(event(A), event(A)), seq), &a_times(16, FAILED), MILLION),
+        judge(&tower(31, &yieldd(), parallel), &[WITHDRAWN, FAILED], 50_000),
+        judge(&tower(16, &choice(skipp(), skipp()), seq), &[DONE, FAILED], u32::MAX),
+        judge(&silent, &[DONE], 10),
+        judge(&silent, &[WITHDRAWN], 10),
+        judge(&silent, &[A, DONE], 10),
+        judge(&undone, &[C, B, C, B, C, B, C, DONE], MILLION),
+        judge(&undone, &[B, B, B, A, DONE], MILLION),
+    ]
+}
+
+/// The worked file, every cut of it, and every byte of it exchanged.
+fn worked_file() -> Vec<Case> {
+    let worked = flowfile::worked().bytes();
+    let cuts = (0..=worked.len()).map(|length| Case::File(worked[..length].to_vec()));
+    let exchanged = (0..worked.len()).flat_map(|at| {
+        [worked[at].wrapping_add(1), worked[at].wrapping_sub(1), 255].map(|byte| {
+            let mut file = worked.clone();
+            file[at] = byte;
+            Case::File(file)
+        })
+    });
+    let longer = Case::File([&worked[..], &[0]].concat());
+    cuts.chain([longer]).chain(exchanged).collect()
+}
+
+/// Two entries that differ in little, or not at all.
+fn similar_names() -> Vec<Case> {
+    let pairs = [
+        (entry("wash", "W1,2"), entry("wash", "W1")),
+        (entry("wash", "W1,2"), entry("wash,W1", "2")),
+        (entry("hold hot", "W1,2"), entry("2,hold hot", "W1")),
+        (entry("wash", "W1,2"), entry("wash", "W1,2")),
+        (entry("wash", ""), entry("wash", "W")),
+        (entry("wash", ""), entry("wash", "")),
+        (entry("wash", "W1"), entry("Wash", "W1")),
+        (entry("wash", "W1"), entry("wash", "w1")),
+        (entry("wash", "W1"), entry("wash ", "W1")),
+        (entry("a", "b"), entry("ab", "")),
+        (entry("\0", ""), entry("\0\0", "")),
+        (entry("\0", "\0"), entry("\0", "\0")),
+    ];
+    let mut all = vec![];
+    for (first, second) in pairs {
+        for records in [[A, DONE], [B, DONE]] {
+            all.push(file(vec![first.clone(), second.clone()], &event(A), &records));
+        }
+    }
+    let every_byte: Vec<Entry> = (0..=255).map(|byte| (vec![byte], vec![255 - byte])).collect();
+    all.push(file(every_byte.clone(), &event(256), &[256, DONE]));
+    for (at, equal_to) in [(255, 0), (255, 254), (1, 0), (128, 127)] {
+        let mut names = every_byte.clone();
+        names[at] = names[equal_to].clone();
+        all.push(file(names, &event(256), &[256, DONE]));
+    }
+    all
+}
+
+/// Events of nodes and of records just within the names and just beyond them; none at all is allowed too.
+fn missing_names() -> Vec<Case> {
+    let mut all = vec![];
+    for count in [0, 1, 2, 255, 256] {
+        let names: Vec<Entry> = (0..count).map(|i| (vec![i as u8], vec![])).collect();
+        let beyond = [1, 2, count as u16, count as u16 + 1];
+        for e in beyond.into_iter().filter(|e| is_event(*e)) {
+            all.push(file(names.clone(), &skip(), &[DONE]));
+            all.push(file(names.clone(), &skip(), &[e, DONE]));
+            all.push(file(names.clone(), &event(e), &[DONE]));
+            all.push(file(names.clone(), &seq(skip(), event(e)), &[DONE, e]));
+            all.push(file(names.clone(), &seq(skip(), event(e)), &[1, e, DONE]));
+            all.push(file(names.clone(), &pair(event(1), event(e)), &[1, DONE, e, DONE]));
+        }
+    }
+    all
+}
+
+/// The longest file there is, one byte more, many bytes more, and one cut near its end.
+fn long_files() -> Vec<Case> {
+    let long_name = |i: usize| ([&[i as u8][..], &[b'x'; 39]].concat(), vec![b','; 40]);
+    let names: Vec<Entry> = (0..256).map(long_name).collect();
+    let flow = seq(block(skipp()), tower(31, &event(256), seq));
+    let records = [vec![256; 255], vec![DONE]].concat();
+    let Case::File(longest) = file(names, &flow, &records) else { unreachable!() };
+    assert_eq!(longest.len(), 21_894);
+    let with = |more: usize| Case::File([&longest[..], &vec![7; more]].concat());
+    let cut = |less: usize| Case::File(longest[..longest.len() - less].to_vec());
+    vec![with(0), with(1), with(2), with(65_535 - 21_894), cut(1), cut(2), cut(3), cut(512), cut(900)]
+}

@@ -1,0 +1,127 @@
+//! Comparing the program `replay` with the oracle: cases go to its standard input while its lines are read,
+//! and the first line that differs ends it.
+
+use crate::cases::malformed::{good_case, malformed, Malformed};
+use crate::cases::{Made, Stream, Totals};
+use std::io::{BufRead, BufReader, Write};
+use std::process::{Child, Command, Stdio};
+use std::sync::mpsc::{channel, Receiver};
+use std::thread;
+use std::time::Duration;
+
+/// A line that takes longer counts as missing.
+const PATIENCE: Duration = Duration::from_secs(120);
+
+/// Compares so many cases and then everything that is no case. The text says what was seen, or the first
+/// difference.
+pub fn compare(cases: u64, seed: u64, replay: &str) -> Result<String, String> {
+    let totals = compare_cases(cases, seed, replay)?;
+    let bad = malformed();
+    compare_empty(replay)?;
+    bad.iter().try_for_each(|case| compare_malformed(replay, case))?;
+    Ok(format!("{}{} malformed cases\nno difference, seed {seed}\n", totals.show(), bad.len()))
+}
+
+fn start(replay: &str) -> Result<Child, String> {
+    let mut command = Command::new(replay);
+    command.stdin(Stdio::piped()).stdout(Stdio::piped());
+    command.spawn().map_err(|e| format!("cannot run {replay}: {e}"))
+}
+
+/// The lines that a child prints, each as soon as it is there; the channel closes with its output.
+fn lines_of(child: &mut Child) -> Receiver<String> {
+    let output = BufReader::new(child.stdout.take().expect("a pipe"));
+    let (sender, receiver) = channel();
+    thread::spawn(move || {
+        for line in output.split(b'\n').map_while(Result::ok) {
+            if sender.send(String::from_utf8_lossy(&line).into_owned()).is_err() {
+                break;
+            }
+        }
+    });
+    receiver
+}
+
+fn compare_cases(cases: u64, seed: u64, replay: &str) -> Result<Totals, String> {
+    let mut child = start(replay)?;
+    let lines = lines_of(&mut child);
+    let mut input = child.stdin.take().expect("a pipe");
+    let (sender, made) = channel::<Made>();
+    // Makes the cases and hands them to the child; a child that has ended is noticed by its missing line.
+    let maker = move || {
+        for made in Stream::new(seed).take(cases as usize) {
+            let _ = input.write_all(&made.case.bytes());
+            if sender.send(made).is_err() {
+                break;
+            }
+        }
+    };
+    // The search wants a deep stack.
+    thread::Builder::new().stack_size(1 << 29).spawn(maker).map_err(|e| e.to_string())?;
+    let mut totals = Totals::default();
+    let mut difference = None;
+    for made in made {
+        let expected = made.case.line(made.answer);
+        let got = lines.recv_timeout(PATIENCE).unwrap_or("(no line)".into());
+        if got != expected {
+            let case = format!("case {} of seed {seed}, {}", totals.cases, made.family);
+            difference = Some(format!("{case}\nexpected: {expected}\n     got: {got}\n{}", made.case.show()));
+            break;
+        }
+        totals.count(&made);
+    }
+    if difference.is_none() {
+        difference = lines.recv_timeout(PATIENCE).ok().map(|line| format!("a line too many: {line}"));
+    }
+    end(child);
+    match difference {
+        Some(text) => Err(text),
+        None => Ok(totals),
+    }
+}
+
+/// Ends a child that is still running.
+fn end(mut child: Child) {
+    let _ = child.kill();
+    let _ = child.wait();
+}
+
+/// All lines that a program prints for an input.
+fn all_lines(replay: &str, input: &[u8]) -> Result<Vec<String>, String> {
+    let mut child = start(replay)?;
+    let lines = lines_of(&mut child);
+    // A program that ends early does not read the rest.
+    let _ = child.stdin.take().expect("a pipe").write_all(input);
+    let mut all = vec![];
+    while let Ok(line) = lines.recv_timeout(PATIENCE) {
+        all.push(line);
+    }
+    end(child);
+    Ok(all)
+}
+
+fn compare_empty(replay: &str) -> Result<(), String> {
+    let lines = all_lines(replay, &[])?;
+    if lines.is_empty() {
+        Ok(())
+    } else {
+        Err(format!("no cases\nexpected no lines\n     got: {lines:?}"))
+    }
+}
+
+/// A good case is answered, the malformed one is called bad, and nothing after it is answered.
+fn compare_malformed(replay: &str, malformed: &Malformed) -> Result<(), String> {
+    let good = good_case();
+    let answer = good.answer(9).expect("two states");
+    let mut input = [good.bytes(), malformed.bytes.clone()].concat();
+    if !malformed.cut {
+        input.extend(good.bytes());
+    }
+    let expected = vec![good.line(answer), "bad case".to_string()];
+    let lines = all_lines(replay, &input)?;
+    if lines == expected {
+        return Ok(());
+    }
+    let what = format!("{}: bytes {:?} after a good case", malformed.what, malformed.bytes);
+    Err(format!("{what}\nexpected: {expected:?}\n     got: {lines:?}"))
+}

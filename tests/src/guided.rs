@@ -1,0 +1,373 @@
+//! The successors of rules.rs, in the same order, given one at a time, and never a long wait between two
+//! of them: before compensations are gone through it is worked out which of them can lead anywhere. So a
+//! block with 2 to the 31 compensations, none of which steps by the record, costs no more than another.
+//!
+//! For that a term is described by its outlook: whether it steps by the event in question, and how it can
+//! end. The outlook of P;Q, P▷Q, a choice or a parallel follows from the outlooks of its two parts, so the
+//! outlooks that occur among many compensations are a set of at most sixteen.
+
+use crate::term::*;
+use std::ops::ControlFlow::{self, Continue};
+use std::rc::Rc;
+use Closing::*;
+
+/// Break: the one who asked wants no more.
+pub type Visit = ControlFlow<()>;
+type Each<'a, T> = &'a mut dyn FnMut(T) -> Visit;
+
+/// Calls `each` with the successors of a state by the next record, in order.
+pub fn successors(state: &State, record: u16, each: Each<State>) -> Visit {
+    match (state, Closing::of_record(record)) {
+        (State::NothingLeft, _) => Continue(()),
+        (State::Standard(p), None) => steps(p, record, &mut |p| each(State::Standard(p))),
+        (State::Compensable(pp), None) => comp_steps(pp, record, &mut |pp| each(State::Compensable(pp))),
+        (State::Standard(p), Some(by)) if outlook(p, NO_EVENT).ends[by as usize] => each(State::NothingLeft),
+        (State::Standard(_), Some(_)) => Continue(()),
+        (State::Compensable(pp), Some(by)) => {
+            compensations(pp, by, NO_EVENT, Outlooks::ALL, &mut |r, _| each(State::Standard(r)))
+        }
+    }
+}
+
+/// Is there a successor at all?
+pub fn possible(state: &State, record: u16) -> bool {
+    successors(state, record, &mut |_| ControlFlow::Break(())).is_break()
+}
+
+/// No node has this event.
+const NO_EVENT: u16 = 0;
+
+// ---- outlooks ----
+
+#[derive(Clone, Copy, PartialEq, Eq, Debug)]
+struct Outlook {
+    steps: bool,
+    ends: [bool; 3],
+}
+
+impl Outlook {
+    const NOTHING: Outlook = Outlook { steps: false, ends: [false; 3] };
+
+    fn ending(by: &[Closing]) -> Outlook {
+        let mut o = Outlook::NOTHING;
+        by.iter().for_each(|&c| o.ends[c as usize] = true);
+        o
+    }
+
+    /// P;Q for `on` = ✓, P▷Q for `on` = !.
+    fn then(self, on: Closing, second: Outlook) -> Outlook {
+        let passed = self.ends[on as usize];
+        let mut o = Outlook { steps: self.steps || (passed && second.steps), ends: [false; 3] };
+        for by in CLOSINGS {
+            let b = by as usize;
+            o.ends[b] = (by != on && self.ends[b]) || (passed && second.ends[b]);
+        }
+        o
+    }
+
+    fn or(self, other: Outlook) -> Outlook {
+        let mut o = Outlook { steps: self.steps || other.steps, ends: self.ends };
+        (0..3).for_each(|b| o.ends[b] |= other.ends[b]);
+        o
+    }
+
+    fn beside(self, other: Outlook) -> Outlook {
+        let mut o = Outlook { steps: self.steps || other.steps, ends: [false; 3] };
+        for x in CLOSINGS {
+            for y in CLOSINGS {
+                o.ends[x.join(y) as usize] |= self.ends[x as usize] && other.ends[y as usize];
+            }
+        }
+        o
+    }
+
+    /// One of sixteen numbers.
+    fn index(self) -> u16 {
+        self.steps as u16
+            | (self.ends[0] as u16) << 1
+            | (self.ends[1] as u16) << 2
+            | (self.ends[2] as u16) << 3
+    }
+
+    fn of_index(i: u16) -> Outlook {
+        let bit = |k: u16| i >> k & 1 == 1;
+        Outlook { steps: bit(0), ends: [bit(1), bit(2), bit(3)] }
+    }
+}
+
+/// A set of outlooks, a bit for each.
+#[derive(Clone, Copy, PartialEq, Eq, Debug)]
+struct Outlooks(u16);
+
+impl Outlooks {
+    const NONE: Outlooks = Outlooks(0);
+    const ALL: Outlooks = Outlooks(u16::MAX);
+
+    fn one(o: Outlook) -> Outlooks {
+        Outlooks(1 << o.index())
+    }
+
+    fn is_empty(self) -> bool {
+        self.0 == 0
+    }
+
+    fn has(self, o: Outlook) -> bool {
+        self.0 >> o.index() & 1 == 1
+    }
+
+    fn with(self, other: Outlooks) -> Outlooks {
+        Outlooks(self.0 | other.0)
+    }
+
+    fn iter(self) -> impl Iterator<Item = Outlook> {
+        (0..16).filter(move |i| self.0 >> i & 1 == 1).map(Outlook::of_index)
+    }
+
+    /// Those for which `keep` holds.
+    fn filter(self, keep: impl Fn(Outlook) -> bool) -> Outlooks {
+        self.iter().filter(|&o| keep(o)).fold(Outlooks::NONE, |s, o| s.with(Outlooks::one(o)))
+    }
+
+    /// Every one of these combined with every one of the others.
+    fn product(self, others: Outlooks, combine: impl Fn(Outlook, Outlook) -> Outlook) -> Outlooks {
+        let mut s = Outlooks::NONE;
+        for a in self.iter() {
+            for b in others.iter() {
+                s = s.with(Outlooks::one(combine(a, b)));
+            }
+        }
+        s
+    }
+}
+
+fn outlook(p: &Std, event: u16) -> Outlook {
+    match &**p {
+        Standard::Event(e) => Outlook { steps: *e == event, ends: [false; 3] },
+        Standard::Skip => Outlook::ending(&[Done]),
+        Standard::Throw => Outlook::ending(&[Failed]),
+        Standard::Yield => Outlook::ending(&[Done, Withdrawn]),
+        Standard::Seq(p, q) => outlook(p, event).then(Done, outlook(q, event)),
+        Standard::Handler(p, q) => outlook(p, event).then(Failed, outlook(q, event)),
+        Standard::Choice(p, q) => outlook(p, event).or(outlook(q, event)),
+        Standard::Parallel(p, q) => outlook(p, event).beside(outlook(q, event)),
+        Standard::Block(pp) => {
+            let inside = prospect(pp, event);
+            let undone = inside.left_by(Failed).iter().fold(Outlook::NOTHING, Outlook::or);
+            let forward =
+                Outlook { steps: inside.steps, ends: [!inside.left_by(Done).is_empty(), false, false] };
+            forward.or(undone)
+        }
+    }
+}
+
+/// What a compensable term can do: whether it steps by the event, and the outlooks of the compensations
+/// that it leaves by each closing.
+struct Prospect {
+    steps: bool,
+    left: [Outlooks; 3],
+}
+
+impl Prospect {
+    fn left_by(&self, by: Closing) -> Outlooks {
+        self.left[by as usize]
+    }
+
+    /// A pair: it steps and ends as its forward part does; ✓ leaves `undo`, the other closings leave SKIP.
+    fn of_pair(forward: Outlook, undo: Outlook) -> Prospect {
+        let leave = |by: Closing, r: Outlook| {
+            if forward.ends[by as usize] {
+                Outlooks::one(r)
+            } else {
+                Outlooks::NONE
+            }
+        };
+        let skip = Outlook::ending(&[Done]);
+        Prospect {
+            steps: forward.steps,
+            left: [leave(Done, undo), leave(Withdrawn, skip), leave(Failed, skip)],
+        }
+    }
+}
+
+/// Q;R: the second part's compensation and then the first part's.
+fn undone_after(q: Outlook, r: Outlook) -> Outlook {
+    q.then(Done, r)
+}
+
+fn prospect(pp: &Comp, event: u16) -> Prospect {
+    let skip = Outlook::ending(&[Done]);
+    match &**pp {
+        Compensable::Pair(p, q) => Prospect::of_pair(outlook(p, event), outlook(q, event)),
+        Compensable::Skipp => Prospect::of_pair(skip, skip),
+        Compensable::Throww => Prospect::of_pair(Outlook::ending(&[Failed]), skip),
+        Compensable::Yieldd => Prospect::of_pair(Outlook::ending(&[Done, Withdrawn]), skip),
+        Compensable::Seq(pp, qq) => {
+            let (a, b) = (prospect(pp, event), prospect(qq, event));
+            let r = a.left_by(Done);
+            let combined = |by: Closing| b.left_by(by).product(r, undone_after);
+            Prospect {
+                steps: a.steps || (!r.is_empty() && b.steps),
+                left: [
+                    combined(Done),
+                    a.left_by(Withdrawn).with(combined(Withdrawn)),
+                    a.left_by(Failed).with(combined(Failed)),
+                ],
+            }
+        }
+        Compensable::Choice(pp, qq) => {
+            let (a, b) = (prospect(pp, event), prospect(qq, event));
+            let mut both = Prospect { steps: a.steps || b.steps, left: a.left };
+            (0..3).for_each(|by| both.left[by] = both.left[by].with(b.left[by]));
+            both
+        }
+        Compensable::Parallel(pp, qq) => {
+            let (a, b) = (prospect(pp, event), prospect(qq, event));
+            let mut both = Prospect { steps: a.steps || b.steps, left: [Outlooks::NONE; 3] };
+            for x in CLOSINGS {
+                for y in CLOSINGS {
+                    let more = a.left_by(x).product(b.left_by(y), Outlook::beside);
+                    let by = x.join(y) as usize;
+                    both.left[by] = both.left[by].with(more);
+                }
+            }
+            both
+        }
+        Compensable::Held(qq, r) => {
+            let (b, r) = (prospect(qq, event), Outlooks::one(outlook(r, event)));
+            Prospect { steps: b.steps, left: b.left.map(|q| q.product(r, undone_after)) }
+        }
+    }
+}
+
+// ---- the lists of rules.rs, one by one ----
+
+fn steps(p: &Std, event: u16, each: Each<Std>) -> Visit {
+    match &**p {
+        Standard::Event(e) if *e == event => each(skip()),
+        Standard::Event(_) | Standard::Skip | Standard::Throw | Standard::Yield => Continue(()),
+        Standard::Seq(p, q) => {
+            steps(p, event, &mut |p| each(seq(p, q.clone())))?;
+            if outlook(p, event).ends[Done as usize] {
+                steps(q, event, each)?;
+            }
+            Continue(())
+        }
+        Standard::Handler(p, q) => {
+            steps(p, event, &mut |p| each(Rc::new(Standard::Handler(p, q.clone()))))?;
+            if outlook(p, event).ends[Failed as usize] {
+                steps(q, event, each)?;
+            }
+            Continue(())
+        }
+        Standard::Choice(p, q) => {
+            steps(p, event, each)?;
+            steps(q, event, each)
+        }
+        Standard::Parallel(p, q) => {
+            steps(p, event, &mut |p| each(parallel(p, q.clone())))?;
+            steps(q, event, &mut |q| each(parallel(p.clone(), q)))
+        }
+        Standard::Block(pp) => {
+            comp_steps(pp, event, &mut |pp| each(Rc::new(Standard::Block(pp))))?;
+            let stepping = Outlooks::ALL.filter(|o| o.steps);
+            compensations(pp, Failed, event, stepping, &mut |r, _| steps(&r, event, each))
+        }
+    }
+}
+
+fn comp_steps(pp: &Comp, event: u16, each: Each<Comp>) -> Visit {
+    match &**pp {
+        Compensable::Pair(p, q) => steps(p, event, &mut |p| each(Rc::new(Compensable::Pair(p, q.clone())))),
+        Compensable::Skipp | Compensable::Throww | Compensable::Yieldd => Continue(()),
+        Compensable::Seq(pp, qq) => {
+            comp_steps(pp, event, &mut |pp| each(Rc::new(Compensable::Seq(pp, qq.clone()))))?;
+            if !prospect(qq, event).steps {
+                return Continue(());
+            }
+            compensations(pp, Done, event, Outlooks::ALL, &mut |r, _| {
+                comp_steps(qq, event, &mut |qq| each(held(qq, r.clone())))
+            })
+        }
+        Compensable::Choice(pp, qq) => {
+            comp_steps(pp, event, each)?;
+            comp_steps(qq, event, each)
+        }
+        Compensable::Parallel(pp, qq) => {
+            comp_steps(pp, event, &mut |pp| each(Rc::new(Compensable::Parallel(pp, qq.clone()))))?;
+            comp_steps(qq, event, &mut |qq| each(Rc::new(Compensable::Parallel(pp.clone(), qq))))
+        }
+        Compensable::Held(qq, r) => comp_steps(qq, event, &mut |qq| each(held(qq, r.clone()))),
+    }
+}
+
+/// Calls `each` with the compensations by a closing whose outlook is a wanted one, in order, each with its
+/// outlook. The first part of a combined one is asked only for what some second part makes wanted.
+fn compensations(
+    pp: &Comp,
+    by: Closing,
+    event: u16,
+    wanted: Outlooks,
+    each: &mut dyn FnMut(Std, Outlook) -> Visit,
+) -> Visit {
+    if wanted.is_empty() {
+        return Continue(());
+    }
+    let mut pair = |forward: Outlook, undo: &Std| {
+        let left = if by == Done { undo.clone() } else { skip() };
+        let o = outlook(&left, event);
+        if forward.ends[by as usize] && wanted.has(o) {
+            each(left, o)
+        } else {
+            Continue(())
+        }
+    };
+    match &**pp {
+        Compensable::Pair(p, q) => pair(outlook(p, event), q),
+        Compensable::Skipp => pair(Outlook::ending(&[Done]), &skip()),
+        Compensable::Throww => pair(Outlook::ending(&[Failed]), &skip()),
+        Compensable::Yieldd => pair(Outlook::ending(&[Done, Withdrawn]), &skip()),
+        Compensable::Choice(pp, qq) => {
+            compensations(pp, by, event, wanted, each)?;
+            compensations(qq, by, event, wanted, each)
+        }
+        Compensable::Held(qq, r) => {
+            let or = outlook(r, event);
+            let wanted_of_q = Outlooks::ALL.filter(|oq| wanted.has(undone_after(oq, or)));
+            compensations(qq, by, event, wanted_of_q, &mut |q, oq| {
+                each(seq(q, r.clone()), undone_after(oq, or))
+            })
+        }
+        Compensable::Seq(pp, qq) => {
+            if by != Done {
+                compensations(pp, by, event, wanted, each)?;
+            }
+            let second = prospect(qq, event).left_by(by);
+            let completes = |or: Outlook| second.filter(|oq| wanted.has(undone_after(oq, or)));
+            let wanted_of_r = Outlooks::ALL.filter(|or| !completes(or).is_empty());
+            compensations(pp, Done, event, wanted_of_r, &mut |r, or| {
+                compensations(qq, by, event, completes(or), &mut |q, oq| {
+                    each(seq(q, r.clone()), undone_after(oq, or))
+                })
+            })
+        }
+        Compensable::Parallel(pp, qq) => {
+            let second = prospect(qq, event);
+            let completes =
+                |op: Outlook, y: Closing| second.left_by(y).filter(|oq| wanted.has(op.beside(oq)));
+            for x in CLOSINGS {
+                let partners: Vec<Closing> = CLOSINGS.into_iter().filter(|&y| x.join(y) == by).collect();
+                let wanted_of_p =
+                    Outlooks::ALL.filter(|op| partners.iter().any(|&y| !completes(op, y).is_empty()));
+                compensations(pp, x, event, wanted_of_p, &mut |p, op| {
+                    for &y in &partners {
+                        compensations(qq, y, event, completes(op, y), &mut |q, oq| {
+                            each(parallel(p.clone(), q), op.beside(oq))
+                        })?;
+                    }
+                    Continue(())
+                })?;
+            }
+            Continue(())
+        }
+    }
+}

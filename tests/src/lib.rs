@@ -1,0 +1,28 @@
+//! Document 01 a second time, in plain Rust, to test the proved judge and reader against. It is written from
+//! the document and the decisions on its open points, and shares no code with them.
+//!
+//! What is here, from the bottom up:
+//! - `term`: terms, closings, states; `refusals`: the checks 1 to 14.
+//! - `rules`: the rules as plain lists, sentence by sentence; `guided`: the same successors one at a time.
+//! - `judge`: the counted search and the answer; `reader`: the flow file and the program's line.
+//! - `traces`: the published trace semantics as explicit sets; `laws`: the laws of demand 3.
+//! - `selfcheck`: `judge` against `traces`, `guided` against `rules`, the laws against `judge`.
+//! - `drawing`, `random`, `flowfile`, `rng`: flows, records and files, by hand and at random.
+
+pub mod by_hand;
+pub mod cases;
+pub mod compare;
+pub mod drawing;
+pub mod flowfile;
+pub mod guided;
+pub mod judge;
+pub mod laws;
+pub mod random;
+pub mod reader;
+pub mod refusals;
+pub mod rng;
+pub mod rules;
+pub mod samples;
+pub mod selfcheck;
+pub mod term;
+pub mod traces;

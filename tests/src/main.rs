@@ -1,0 +1,102 @@
+//! The commands: see USAGE, and README.md for what each is for.
+
+use oracle::cases::malformed::malformed;
+use oracle::cases::{Stream, Totals};
+use oracle::compare::compare;
+use oracle::judge::{with_deep_stack, Answer};
+use oracle::laws::laws;
+use oracle::samples;
+use oracle::selfcheck::*;
+use std::process::ExitCode;
+
+const USAGE: &str = "usage:
+  oracle cases N SEED OUT_STDIN OUT_STDOUT   N cases for replay and the lines it must print
+  oracle compare N SEED PATH_TO_REPLAY       run replay on N cases; stop at the first difference
+  oracle selfcheck N SEED                    the oracle against trace sets and laws, N flows each
+  oracle samples DIR                         write the sample files and expected.txt
+  oracle line FILE                           the line that the program prints for a flow file
+  oracle bench FILE                          states entered in a second on a flow file
+";
+
+fn main() -> ExitCode {
+    let arguments: Vec<String> = std::env::args().skip(1).collect();
+    match with_deep_stack(move || run(&arguments)) {
+        Ok(text) => {
+            print!("{text}");
+            ExitCode::SUCCESS
+        }
+        Err(text) => {
+            eprint!("{text}");
+            ExitCode::FAILURE
+        }
+    }
+}
+
+fn run(arguments: &[String]) -> Result<String, String> {
+    let words: Vec<&str> = arguments.iter().map(String::as_str).collect();
+    match words[..] {
+        ["cases", n, seed, stdin, stdout] => cases(number(n)?, number(seed)?, stdin, stdout),
+        ["compare", n, seed, replay] => compare(number(n)?, number(seed)?, replay),
+        ["selfcheck", n, seed] => selfcheck(number(n)?, number(seed)?),
+        ["samples", folder] => samples::write(folder).map_err(|e| format!("{folder}: {e}\n")),
+        ["line", file] => {
+            let bytes = std::fs::read(file).map_err(|e| format!("{file}: {e}\n"))?;
+            Ok(format!("{}\n", oracle::reader::program(&bytes)))
+        }
+        ["bench", file] => bench(file),
+        _ => Err(USAGE.into()),
+    }
+}
+
+/// The best of five searches of one flow file, with twenty million states allowed.
+fn bench(file: &str) -> Result<String, String> {
+    let bytes = std::fs::read(file).map_err(|e| format!("{file}: {e}\n"))?;
+    let flow = oracle::reader::read(&bytes).map_err(|r| format!("{file}: refused {}\n", r.number))?;
+    let room = 2 * (flow.nodes.len() / 3) * (flow.records.len() + 1);
+    let (mut best, mut count) = (f64::MAX, 0);
+    for _ in 0..5 {
+        let start = std::time::Instant::now();
+        let answer = oracle::judge::judge(&flow.nodes, &flow.records, room, 20_000_000);
+        best = best.min(start.elapsed().as_secs_f64());
+        count = match answer {
+            Answer::Accepted { count, .. } | Answer::Rejected { count, .. } => count,
+            Answer::Undecided { allowance } => allowance,
+            Answer::Refused(_) => 0,
+        };
+    }
+    Ok(format!("{file}: {count} states, {:.3}M states/s\n", count as f64 / best / 1e6))
+}
+
+fn number(word: &str) -> Result<u64, String> {
+    word.parse().map_err(|_| format!("{word} is no number\n{USAGE}"))
+}
+
+/// So many cases and, last, one that is none, chosen by the seed.
+fn cases(count: u64, seed: u64, stdin: &str, stdout: &str) -> Result<String, String> {
+    let (mut input, mut lines, mut totals) = (vec![], String::new(), Totals::default());
+    for made in Stream::new(seed).take(count as usize) {
+        input.extend(made.case.bytes());
+        lines.push_str(&made.case.line(made.answer));
+        lines.push('\n');
+        totals.count(&made);
+    }
+    let bad = malformed();
+    input.extend(&bad[seed as usize % bad.len()].bytes);
+    lines.push_str("bad case\n");
+    std::fs::write(stdin, &input).map_err(|e| format!("{stdin}: {e}\n"))?;
+    std::fs::write(stdout, &lines).map_err(|e| format!("{stdout}: {e}\n"))?;
+    Ok(format!("{}{} bytes of cases, seed {seed}\n", totals.show(), input.len()))
+}
+
+fn selfcheck(flows: u64, seed: u64) -> Result<String, String> {
+    let show = |what: &str, seen: Seen| format!("{what}: {seen:?}\n");
+    let laws = laws();
+    let each = flows.div_ceil(laws.len() as u64);
+    Ok([
+        show("search and trace sets", random_flows_against_traces(flows, seed)?),
+        show("guided successors and plain lists", guided_against_lists(flows, seed)?),
+        show("single exchanges by each law", single_exchanges(&laws, each, seed)?),
+        show("chains of exchanges", chains_of_exchanges(&laws, flows, seed)?),
+    ]
+    .concat())
+}

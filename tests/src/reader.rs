@@ -1,0 +1,138 @@
+//! The flow file's reader and the program's line.
+
+use crate::flowfile::{Entry, FlowFile};
+use crate::judge::{judge_within, Answer};
+use crate::refusals::{
+    node_table, record_list, refuse, work_wanted, Check, Refusal, MOST_NODES, MOST_RECORDS,
+};
+use crate::term::{is_event, kind};
+
+pub const MOST_NAMES: usize = 256;
+pub const LONGEST_NAME: u8 = 40;
+/// Room for node numbers and for records that the reader wants to be lent.
+pub const NODE_ROOM: usize = 3 * MOST_NODES;
+pub const RECORD_ROOM: usize = MOST_RECORDS;
+pub const PROGRAM_READS: usize = 21_895;
+pub const PROGRAM_ALLOWS: u32 = 1_000_000;
+
+/// The reader, lent tables of these lengths: "checks this first (14)".
+pub fn read_into(node_room: usize, record_room: usize, bytes: &[u8]) -> Result<FlowFile, Refusal> {
+    if node_room < NODE_ROOM || record_room < RECORD_ROOM {
+        return refuse(14, 0);
+    }
+    read(bytes)
+}
+
+/// The reader, lent room enough.
+pub fn read(bytes: &[u8]) -> Result<FlowFile, Refusal> {
+    let mut cursor = Cursor { bytes, at: 0 };
+    let names = read_names(&mut cursor)?;
+    let nodes = read_numbers(&mut cursor, 3, MOST_NODES, [1, 3])?;
+    let records = read_numbers(&mut cursor, 1, MOST_RECORDS, [10, 11])?;
+    if cursor.at < bytes.len() {
+        return refuse(21, cursor.at);
+    }
+    node_table(&nodes)?;
+    record_list(&nodes, &records)?;
+    events_have_names(&nodes, &records, names.len())?;
+    Ok(FlowFile { names, nodes, records })
+}
+
+struct Cursor<'a> {
+    bytes: &'a [u8],
+    at: usize,
+}
+
+impl<'a> Cursor<'a> {
+    /// "A cut file is refused at the item that could not be read (15)."
+    fn item(&mut self, length: usize) -> Result<&'a [u8], Refusal> {
+        match self.bytes[self.at..].get(..length) {
+            None => refuse(15, self.at),
+            Some(item) => {
+                self.at += length;
+                Ok(item)
+            }
+        }
+    }
+
+    fn number(&mut self) -> Result<u16, Refusal> {
+        let item = self.item(2)?;
+        Ok(u16::from_le_bytes([item[0], item[1]]))
+    }
+
+    /// A length byte and the name's bytes; 17 at the length byte.
+    fn name(&mut self, least: u8) -> Result<Vec<u8>, Refusal> {
+        let place = self.at;
+        let length = self.item(1)?[0];
+        if length < least || length > LONGEST_NAME {
+            return refuse(17, place);
+        }
+        Ok(self.item(length as usize)?.to_vec())
+    }
+}
+
+/// 15 to 18.
+fn read_names(cursor: &mut Cursor) -> Result<Vec<Entry>, Refusal> {
+    let place = cursor.at;
+    let count = cursor.number()? as usize;
+    if count > MOST_NAMES {
+        return refuse(16, place);
+    }
+    let mut names: Vec<Entry> = vec![];
+    for _ in 0..count {
+        let place = cursor.at;
+        let entry = (cursor.name(1)?, cursor.name(0)?);
+        if names.contains(&entry) {
+            return refuse(18, place);
+        }
+        names.push(entry);
+    }
+    Ok(names)
+}
+
+/// A count, none or too many of which is refused by one of two numbers at its own place, and so many times
+/// `each` numbers.
+fn read_numbers(
+    cursor: &mut Cursor,
+    each: usize,
+    most: usize,
+    refusals: [u32; 2],
+) -> Result<Vec<u16>, Refusal> {
+    let place = cursor.at;
+    let count = cursor.number()? as usize;
+    if count == 0 {
+        return refuse(refusals[0], place);
+    }
+    if count > most {
+        return refuse(refusals[1], place);
+    }
+    (0..each * count).map(|_| cursor.number()).collect()
+}
+
+/// 19, then 20.
+fn events_have_names(nodes: &[u16], records: &[u16], names: usize) -> Check {
+    let nameless = |event: u16| event as usize > names;
+    if let Some(i) = nodes.chunks(3).position(|n| n[0] == kind::EVENT && nameless(n[1])) {
+        return refuse(19, i);
+    }
+    if let Some(i) = records.iter().position(|&r| is_event(r) && nameless(r)) {
+        return refuse(20, i);
+    }
+    Ok(())
+}
+
+/// The answer that the program prints for this input.
+pub fn program(input: &[u8]) -> Answer {
+    program_within(u32::MAX, input).expect("no search enters more than its allowance")
+}
+
+/// The same, but None where more states than `patience` would have to be entered to know.
+pub fn program_within(patience: u32, input: &[u8]) -> Option<Answer> {
+    let bytes = &input[..input.len().min(PROGRAM_READS)];
+    match read(bytes) {
+        Err(refusal) => Some(Answer::Refused(refusal)),
+        Ok(FlowFile { nodes, records, .. }) => {
+            judge_within(patience, &nodes, &records, work_wanted(&nodes, &records), PROGRAM_ALLOWS)
+        }
+    }
+}

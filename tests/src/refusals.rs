@@ -1,0 +1,134 @@
+//! The refusals of the judge, 1 to 14, in the order of document 01. Those of the reader alone, 15 to 21,
+//! are in reader.rs, which calls the checks from here in between.
+
+use crate::term::{is_event, kind, sort_of, Closing, Sort};
+
+#[derive(Clone, Copy, PartialEq, Eq, Debug)]
+pub struct Refusal {
+    pub number: u32,
+    pub place: usize,
+}
+
+/// What a check answers: nothing to say, or the refusal.
+pub type Check = Result<(), Refusal>;
+
+pub fn refuse<T>(number: u32, place: usize) -> Result<T, Refusal> {
+    Err(Refusal { number, place })
+}
+
+pub const MOST_NODES: usize = 64;
+pub const MOST_RECORDS: usize = 256;
+
+/// "Work bytes wanted: 2 × nodes × (records + 1)."
+pub fn work_wanted(nodes: &[u16], records: &[u16]) -> usize {
+    2 * (nodes.len() / 3) * (records.len() + 1)
+}
+
+/// "Judging checks 1 to 3; then nodes from 0 up, each in the order 4 to 8; then 9 to 14."
+pub fn judge_checks(nodes: &[u16], records: &[u16], work_len: usize) -> Check {
+    node_count(nodes)?;
+    node_table(nodes)?;
+    record_count(records)?;
+    record_list(nodes, records)?;
+    if work_len < work_wanted(nodes, records) {
+        return refuse(14, 0);
+    }
+    Ok(())
+}
+
+/// 1, 2, 3.
+fn node_count(nodes: &[u16]) -> Check {
+    if nodes.is_empty() {
+        refuse(1, 0)
+    } else if !nodes.len().is_multiple_of(3) {
+        refuse(2, 0)
+    } else if nodes.len() / 3 > MOST_NODES {
+        refuse(3, 0)
+    } else {
+        Ok(())
+    }
+}
+
+/// 4 to 8 for each node, then 9. The table has one node at least and a length that is a multiple of 3.
+pub fn node_table(nodes: &[u16]) -> Check {
+    let count = nodes.len() / 3;
+    let mut taken = vec![false; count];
+    for i in 0..count {
+        one_node(nodes, i, &mut taken)?;
+    }
+    match taken[..count - 1].iter().position(|t| !t) {
+        Some(i) => refuse(9, i),
+        None => Ok(()),
+    }
+}
+
+/// 4 to 8 for node i; `taken` says which nodes are children of lower ones, and gains node i's children.
+fn one_node(nodes: &[u16], i: usize, taken: &mut [bool]) -> Check {
+    let (kind, first, second) = (nodes[3 * i], nodes[3 * i + 1], nodes[3 * i + 2]);
+    let Some((children, wanted)) = children_of(kind, first, second) else {
+        return refuse(4, i);
+    };
+    let fields_fit = match kind {
+        kind::EVENT => is_event(first) && second == 0,
+        kind::BLOCK => second == 0,
+        _ => !children.is_empty() || (first == 0 && second == 0),
+    };
+    if !fields_fit {
+        return refuse(5, i);
+    }
+    if children.iter().any(|&c| c >= i) {
+        return refuse(6, i);
+    }
+    if children.iter().any(|&c| sort_of(nodes[3 * c]) != wanted) {
+        return refuse(7, i);
+    }
+    for c in children {
+        // The second child finds the first marked: "or the same child twice".
+        if taken[c] {
+            return refuse(8, i);
+        }
+        taken[c] = true;
+    }
+    Ok(())
+}
+
+/// The children that a node of this kind has and the sort they must be of; none for an unknown kind.
+fn children_of(kind: u16, first: u16, second: u16) -> Option<(Vec<usize>, Sort)> {
+    let (first, second) = (first as usize, second as usize);
+    match kind {
+        1..=4 | 14..=16 => Some((vec![], Sort::Standard)),
+        5..=8 | 10 => Some((vec![first, second], Sort::Standard)),
+        9 => Some((vec![first], Sort::Compensable)),
+        11..=13 => Some((vec![first, second], Sort::Compensable)),
+        _ => None,
+    }
+}
+
+/// 10, 11.
+fn record_count(records: &[u16]) -> Check {
+    if records.is_empty() {
+        refuse(10, 0)
+    } else if records.len() > MOST_RECORDS {
+        refuse(11, 0)
+    } else {
+        Ok(())
+    }
+}
+
+/// 12, then 13. The nodes have passed 1 to 9.
+pub fn record_list(nodes: &[u16], records: &[u16]) -> Check {
+    let neither = |r: &u16| !is_event(*r) && Closing::of_record(*r).is_none();
+    if let Some(i) = records.iter().position(neither) {
+        return refuse(12, i);
+    }
+    let needed = match sort_of(nodes[nodes.len() - 3]) {
+        Sort::Standard => 1,
+        Sort::Compensable => 2,
+    };
+    let mut closings = records.iter().enumerate().filter(|(_, r)| !is_event(**r));
+    match closings.nth(needed - 1) {
+        Some((i, _)) if i + 1 == records.len() => Ok(()),
+        Some((i, _)) => refuse(13, i + 1),
+        None => refuse(13, records.len()),
+    }
+}

@@ -1,0 +1,300 @@
+//! Checks of this implementation against itself: the search against explicit trace sets, the guided
+//! successors against the plain lists, and the laws of demand 3. Each answers how many cases it saw, or a
+//! text that says what went wrong. The tests call them with small numbers, the command `selfcheck` with any.
+
+use crate::drawing::{self, Drawing};
+use crate::judge::{judge, judge_by_lists, judge_within, Answer};
+use crate::laws::{Fresh, Law};
+use crate::random::{self, TASTES};
+use crate::refusals::{work_wanted, MOST_NODES};
+use crate::rng::Rng;
+use crate::term::{kind, root, Sort, CLOSING_RECORDS};
+use crate::traces::{meaning, Meaning};
+
+/// Enough for every search of the small flows here.
+const ALLOWANCE: u32 = 1_000_000;
+/// Trace sets that take longer to write down are left out.
+const PATIENCE: u64 = 300_000;
+
+#[derive(Default, Debug)]
+pub struct Seen {
+    pub flows: u64,
+    pub accepted: u64,
+    pub rejected: u64,
+    /// Flows or cases that were too large to decide.
+    pub left_out: u64,
+}
+
+impl Seen {
+    fn count(&mut self, answer: Answer) {
+        match answer {
+            Answer::Accepted { .. } => self.accepted += 1,
+            Answer::Rejected { .. } => self.rejected += 1,
+            _ => self.left_out += 1,
+        }
+    }
+}
+
+/// "Accepted exactly if its records are .. one of its traces", and the place of a rejection is "the longest
+/// beginning of the records that some run follows".
+pub fn agrees_with_traces(nodes: &[u16], meaning: &Meaning, records: &[u16]) -> Result<Answer, String> {
+    let answer = judge(nodes, records, work_wanted(nodes, records), ALLOWANCE);
+    let right = match answer {
+        Answer::Accepted { place, .. } => meaning.has(records) && place == records.len(),
+        Answer::Rejected { place, .. } => {
+            !meaning.has(records) && place == meaning.longest_beginning(records)
+        }
+        // Traces say nothing of how long the search is.
+        Answer::Undecided { .. } => true,
+        Answer::Refused(_) => false,
+    };
+    if right {
+        return Ok(answer);
+    }
+    let flow = drawing::of_table(nodes).show();
+    Err(format!("{flow}, records {records:?}: {answer}, but traces {:?}", meaning.lists()))
+}
+
+/// Random flows: records of runs, of traces, changed ones and random ones.
+pub fn random_flows_against_traces(flows: u64, seed: u64) -> Result<Seen, String> {
+    let mut rng = Rng::new(seed);
+    let mut seen = Seen::default();
+    while seen.flows < flows {
+        let (taste, sort) = (*rng.pick(&TASTES), random::sort(&mut rng));
+        let events = rng.between(1, 3);
+        let room = if rng.once_in(10) { rng.between(14, 24) } else { rng.between(1, 13) };
+        let flow = match rng.below(4) {
+            0 => random::undone_drawing(&mut rng, taste, room, events),
+            _ => random::drawing(&mut rng, taste, sort, room, events),
+        };
+        let nodes = flow.table_in_any_order(&mut rng);
+        let Some(meaning) = meaning(&nodes, PATIENCE) else {
+            seen.left_out += 1;
+            continue;
+        };
+        seen.flows += 1;
+        let traces = meaning.lists();
+        for _ in 0..8 {
+            let trace = rng.pick(&traces).clone();
+            let records = match rng.below(3) {
+                0 => trace,
+                1 => random::changed(&mut rng, &trace, events),
+                _ => random::records_for(&mut rng, &root(&nodes), events),
+            };
+            seen.count(agrees_with_traces(&nodes, &meaning, &records)?);
+        }
+    }
+    Ok(seen)
+}
+
+/// Every flow of at most `most_nodes` nodes over two events with every record list of at most so many
+/// events before each closing.
+pub fn every_small_flow_against_traces(most_nodes: usize, most_events: usize) -> Result<Seen, String> {
+    let mut seen = Seen::default();
+    for sort in [Sort::Standard, Sort::Compensable] {
+        let lists = every_record_list(sort, most_events);
+        for flow in (1..=most_nodes).flat_map(|size| every_flow(sort, size)) {
+            let nodes = flow.table();
+            let meaning = meaning(&nodes, u64::MAX).expect("patience without end");
+            seen.flows += 1;
+            for records in &lists {
+                seen.count(agrees_with_traces(&nodes, &meaning, records)?);
+            }
+        }
+    }
+    Ok(seen)
+}
+
+fn every_record_list(sort: Sort, most_events: usize) -> Vec<Vec<u16>> {
+    let mut events: Vec<Vec<u16>> = vec![vec![]];
+    let mut longest = events.clone();
+    for _ in 0..most_events {
+        longest = longest.iter().flat_map(|l| [1, 2].map(|e| [&l[..], &[e]].concat())).collect();
+        events.extend(longest.clone());
+    }
+    let closed: Vec<Vec<u16>> =
+        events.iter().flat_map(|l| CLOSING_RECORDS.map(|c| [&l[..], &[c]].concat())).collect();
+    match sort {
+        Sort::Standard => closed,
+        Sort::Compensable => {
+            closed.iter().flat_map(|f| closed.iter().map(|c| [&f[..], c].concat())).collect()
+        }
+    }
+}
+
+fn every_flow(sort: Sort, size: usize) -> Vec<Drawing> {
+    let mut all = vec![];
+    if size == 1 {
+        return match sort {
+            Sort::Standard => {
+                vec![
+                    drawing::event(1),
+                    drawing::event(2),
+                    drawing::skip(),
+                    drawing::throw(),
+                    drawing::yields(),
+                ]
+            }
+            Sort::Compensable => vec![drawing::skipp(), drawing::throww(), drawing::yieldd()],
+        };
+    }
+    let kinds: &[u16] = match sort {
+        Sort::Standard => &[kind::SEQ, kind::CHOICE, kind::PARALLEL, kind::HANDLER],
+        Sort::Compensable => &[kind::PAIR, kind::COMP_SEQ, kind::COMP_CHOICE, kind::COMP_PARALLEL],
+    };
+    if sort == Sort::Standard {
+        all.extend(every_flow(Sort::Compensable, size - 1).into_iter().map(drawing::block));
+    }
+    for &kind in kinds {
+        let sort_of_parts = if kind == kind::PAIR { Sort::Standard } else { sort };
+        for left_size in 1..size - 1 {
+            let right = every_flow(sort_of_parts, size - 1 - left_size);
+            for p in every_flow(sort_of_parts, left_size) {
+                all.extend(right.iter().map(|q| drawing::node(kind, vec![p.clone(), q.clone()])));
+            }
+        }
+    }
+    all
+}
+
+/// The guided search answers as the plain lists do, count and all, and the allowance is exact.
+pub fn guided_against_lists(flows: u64, seed: u64) -> Result<Seen, String> {
+    let mut rng = Rng::new(seed);
+    let mut seen = Seen::default();
+    while seen.flows < flows {
+        let (taste, sort) = (*rng.pick(&TASTES), random::sort(&mut rng));
+        let (events, room) = (rng.between(1, 3), rng.between(1, 18));
+        let flow = match rng.below(4) {
+            0 => random::undone_drawing(&mut rng, taste, room, events),
+            _ => random::drawing(&mut rng, taste, sort, room, events),
+        };
+        let nodes = flow.table_in_any_order(&mut rng);
+        seen.flows += 1;
+        for _ in 0..4 {
+            let records = random::records_for(&mut rng, &root(&nodes), events);
+            let work_len = work_wanted(&nodes, &records);
+            let Some(answer) = judge_within(3_000, &nodes, &records, work_len, ALLOWANCE) else {
+                seen.left_out += 1;
+                continue;
+            };
+            seen.count(answer);
+            let wrong = |what: &str, other: Answer| {
+                Err(format!("{}, records {records:?}: {answer}, but {what} {other}", flow.show()))
+            };
+            let listed = judge_by_lists(&nodes, &records, work_len, ALLOWANCE);
+            if listed != answer {
+                return wrong("by the lists", listed);
+            }
+            let (Answer::Accepted { count, .. } | Answer::Rejected { count, .. }) = answer else {
+                return wrong("it should be decided:", answer);
+            };
+            let just = judge(&nodes, &records, work_len, count);
+            if just != answer {
+                return wrong("allowed just its count", just);
+            }
+            let short = judge(&nodes, &records, work_len, count - 1);
+            if short != (Answer::Undecided { allowance: count - 1 }) {
+                return wrong("allowed one less", short);
+            }
+        }
+    }
+    Ok(seen)
+}
+
+/// Two flows that are equal by the laws get the same verdict and the same place, whatever the records.
+fn judged_alike(
+    rng: &mut Rng,
+    x: &Drawing,
+    y: &Drawing,
+    events: usize,
+    seen: &mut Seen,
+) -> Result<(), String> {
+    let tables = [x, y].map(|flow| flow.table_in_any_order(rng));
+    let roots = [&tables[0], &tables[1]].map(|nodes| root(nodes));
+    for _ in 0..4 {
+        let either = rng.below(2);
+        let records = random::records_for(rng, &roots[either], events);
+        let answers = [&tables[0], &tables[1]]
+            .map(|nodes| judge_within(20_000, nodes, &records, work_wanted(nodes, &records), ALLOWANCE));
+        let alike = match answers {
+            [Some(Answer::Accepted { .. }), Some(Answer::Accepted { .. })] => true,
+            [Some(Answer::Rejected { place: p, .. }), Some(Answer::Rejected { place: q, .. })] => p == q,
+            [None, _] | [_, None] => true,
+            _ => false,
+        };
+        if !alike {
+            let shown = format!("{} and {}, records {records:?}", x.show(), y.show());
+            return Err(format!("{shown}: {:?}", answers.map(|a| a.map(|a| a.to_string()))));
+        }
+        match answers {
+            [Some(a), Some(_)] => seen.count(a),
+            _ => seen.left_out += 1,
+        }
+    }
+    seen.flows += 1;
+    Ok(())
+}
+
+/// Each law by itself, its sides put into random surroundings, `pairs` times.
+pub fn single_exchanges(laws: &[Law], pairs: u64, seed: u64) -> Result<Seen, String> {
+    let mut rng = Rng::new(seed);
+    let mut seen = Seen::default();
+    for law in laws {
+        let mut done = 0;
+        while done < pairs {
+            let taste = *rng.pick(&TASTES);
+            let events = rng.between(1, 3);
+            let room = rng.between(1, 6);
+            let mut fresh = Fresh { rng: &mut rng, taste, room, events };
+            let (left, right) = law.instance(&mut fresh);
+            let sort = random::sort(&mut rng);
+            let size = rng.between(1, 12);
+            let around = random::drawing(&mut rng, taste, sort, size, events);
+            let mut places = around.paths();
+            places.retain(|path| around.at(path).sort() == left.sort());
+            if places.is_empty() {
+                continue;
+            }
+            let path = rng.pick(&places).clone();
+            let (x, y) = (around.replaced(&path, &left), around.replaced(&path, &right));
+            if x.size().max(y.size()) > MOST_NODES {
+                continue;
+            }
+            done += 1;
+            judged_alike(&mut rng, &x, &y, events, &mut seen).map_err(|e| format!("{}: {e}", law.name))?;
+        }
+    }
+    Ok(seen)
+}
+
+/// Chains of exchanges by any laws, in both directions, at any depth. "Forms in between may pass the limits."
+pub fn chains_of_exchanges(laws: &[Law], chains: u64, seed: u64) -> Result<Seen, String> {
+    let mut rng = Rng::new(seed);
+    let mut seen = Seen::default();
+    while seen.flows < chains {
+        let (taste, sort) = (*rng.pick(&TASTES), random::sort(&mut rng));
+        let events = rng.between(1, 3);
+        let size = rng.between(3, 20);
+        let first = random::drawing(&mut rng, taste, sort, size, events);
+        let mut flow = first.clone();
+        let mut used = vec![];
+        for _ in 0..rng.between(1, 40) {
+            let law = rng.pick(laws);
+            let forward = rng.once_in(2);
+            let mut fresh = Fresh { rng: &mut rng, taste, room: 4, events };
+            if let Some(next) = law.exchange(&flow, forward, &mut fresh) {
+                if next.size() <= 2 * MOST_NODES {
+                    flow = next;
+                    used.push(format!("{}{}", law.name, if forward { "" } else { " backwards" }));
+                }
+            }
+        }
+        if flow.size() > MOST_NODES {
+            seen.left_out += 1;
+            continue;
+        }
+        judged_alike(&mut rng, &first, &flow, events, &mut seen)
+            .map_err(|e| format!("after {used:?}: {e}"))?;
+    }
+    Ok(seen)
+}

@@ -1,0 +1,43 @@
+//! The search against the published trace semantics, and the laws of demand 3.
+
+use oracle::laws::{errors_that_look_right, laws};
+use oracle::selfcheck::*;
+
+#[test]
+fn every_small_flow_means_its_traces() {
+    let seen = every_small_flow_against_traces(5, 3).unwrap();
+    assert!(seen.flows > 6_000 && seen.accepted > 10_000 && seen.left_out == 0, "{seen:?}");
+}
+
+#[test]
+fn random_flows_mean_their_traces() {
+    let seen = random_flows_against_traces(20_000, 1).unwrap();
+    assert!(seen.accepted > 40_000 && seen.rejected > 40_000, "{seen:?}");
+}
+
+#[test]
+fn guided_successors_are_those_of_the_lists() {
+    let seen = guided_against_lists(10_000, 2).unwrap();
+    assert!(seen.accepted > 10_000 && seen.rejected > 10_000, "{seen:?}");
+}
+
+#[test]
+fn each_law_keeps_verdict_and_place() {
+    let seen = single_exchanges(&laws(), 400, 3).unwrap();
+    assert!(seen.accepted > 20_000 && seen.rejected > 20_000, "{seen:?}");
+}
+
+#[test]
+fn chains_of_exchanges_keep_verdict_and_place() {
+    let seen = chains_of_exchanges(&laws(), 6_000, 4).unwrap();
+    assert!(seen.accepted > 5_000 && seen.rejected > 5_000, "{seen:?}");
+}
+
+/// The check of the laws tells a law from an error.
+#[test]
+fn errors_that_look_right_are_found() {
+    for error in errors_that_look_right() {
+        let name = error.name.clone();
+        assert!(single_exchanges(&[error], 2_000, 5).is_err(), "{name} was not found out");
+    }
+}
