@@ -2,7 +2,7 @@
 -- takes what the code has learnt, in the code's order; what it says of terms is in SeekLaws of the crate below. Assumes nothing.
 use Prim.Native.Nat.{ℕ, _+_, _*_, _-_, _<_, _≤_}
 use mathlib.Core.Path.{_≡_, refl, sym, _∙_, ap, subst}
-use mathlib.Core.Bool.{Bool, true, false, not, _&&_, cond}
+use mathlib.Core.Bool.{Bool, true, not, _&&_, cond}
 use mathlib.Core.List.{List, map}
 use mathlib.Core.Logic.{_≢_, ⊎-elim}
 use native.Mathlib.Omega.{arith}
@@ -11,10 +11,9 @@ use lib.Dec.{eqb}
 use lib.ListN.{length, getD, set, length-set, List·getD-eq-default}
 use lib.Seq.{getD-set-same}
 use borrow.Author.Tests.{ne-eqb}
-use Rattle.calculus.specs.Term.{Closing, done, withdrawn, Std, Cmp, skip, seq, par, pair, cseq, calt, cpar, held}
+use Rattle.calculus.specs.Term.{done, withdrawn, Std, Cmp, skip, seq, par, pair, cseq, calt, cpar, held}
 use Rattle.calculus.specs.Successors.{eqc, only, ends, comps}
-use Rattle.flow.specs.Kinds.{Kind, CSeq, CAlt, Unknown, kinds, kindOf, one-of, two-of, shape}
-use Rattle.flow.specs.Nodes.{Tree}
+use Rattle.flow.specs.Kinds.{Kind, Unknown, kinds, kindOf, one-of, two-of}
 use Rattle.tallies.specs.Capped.{cap}
 use Rattle.tallies.specs.Counts.{sum-of, moves, view, tally, word, weight}
 use Rattle.tallies.specs.CountsLaws.{tally-only, weight-total}
@@ -29,7 +28,7 @@ use Rattle.states.specs.State.{Part, build, part, modes}
 use Rattle.states.specs.StateLaws.{part-is}
 use Rattle.states.specs.Contracts.{Spot, Kept, CountedStd, CountedLeft, Chosen, weight-of}
 use Rattle.seek.specs.Asked.{Fallen, runs, left, own-of, Wanted, Below, Marked, followed, Follows, Followed, PairChosen}
-use Rattle.seek.specs.NodeLaws.{set-part, kept-kid, kept-set, kept-part, own-kept, Fork, first-kid, second-kid, sides-apart, node-is, kid-lower, room-is, sought-is, spot-below, marked-kept, marked-part}
+use Rattle.seek.specs.NodeLaws.{set-part, kept-kid, kept-set, kept-part, Fork, first-kid, second-kid, sides-apart, node-is, kid-lower, room-is, sought-is, spot-below, marked-kept, marked-part}
 
 -- What is weighed ---------------------------------------------------------------------------------------------------------------
 

@@ -1,6 +1,6 @@
 -- A node of a known kind and mode, and its children: what the part of the node is, what stays of a child's part when the node's
 -- mode or the other child changes, and what stays outside the node. Theorems only. Assumes nothing.
-use Prim.Native.Nat.{ℕ, _+_, _*_, _<_, _≤_}
+use Prim.Native.Nat.{ℕ, _*_, _<_, _≤_}
 use mathlib.Core.Path.{_≡_, refl, sym, _∙_, ap, subst}
 use mathlib.Core.Bool.{Bool}
 use mathlib.Core.List.{List}
@@ -17,11 +17,11 @@ use Rattle.tallies.specs.Counts.{sum-of, weight}
 use Rattle.tallies.specs.Formulas.{closing}
 use Rattle.tallies.specs.Sought.{Sought}
 use Rattle.tallies.specs.declared.Weight.{Weight}
-use Rattle.states.specs.State.{Part, build, part, modes}
+use Rattle.states.specs.State.{build, part, modes}
 use Rattle.states.specs.StateLaws.{part-of, part-frame}
 use Rattle.states.specs.KindFacts.{one-kid, two-kid, apart}
 use Rattle.states.specs.Contracts.{Spot, Both, Kept, Chosen, weight-of}
-use Rattle.seek.specs.Asked.{runs, left, Below, Marked}
+use Rattle.seek.specs.Asked.{Below, Marked}
 
 -- A child -------------------------------------------------------------------------------------------------------------------
 

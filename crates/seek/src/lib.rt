@@ -6,14 +6,12 @@ use tallies::Tally;
 use tallies::Weight;
 use tallies::Word;
 
-
 ghost use mathlib.Core.Path.{_≡_};
-ghost use mathlib.Core.Bool.{cond, not};
-ghost use Prim.Native.Nat.{_+_, _*_, _<_, _≤_, _-_};
-ghost use lib.ListN.{length, getD};
+ghost use mathlib.Core.Bool.{cond};
+ghost use Prim.Native.Nat.{_+_, _*_, _<_};
+ghost use lib.ListN.{getD};
 ghost use Rattle.calculus.specs.Term.{done, withdrawn};
 ghost use Rattle.calculus.specs.Successors.{comps};
-ghost use Rattle.flow.specs.Kinds.{one-of, two-of};
 ghost use Rattle.tallies.specs.Capped.{cap};
 ghost use Rattle.tallies.specs.Counts.{tally, word};
 ghost use Rattle.tallies.specs.Formulas.{closing, byW, total, afterG, besideG, partnersT, fittingT};

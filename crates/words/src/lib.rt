@@ -44,6 +44,7 @@ fn put(c: &mut [u32], i: usize, n: u32)
     c[i] = n;
 }
 
+// A node's number of steps is noted, and what is seen of it answered.
 fn note(c: &mut [u32; 64], i: usize, v: View) -> View
     requires { ⌜ i < 64 ⌝ }
     ensures { λ r. ⌜ r ≡ v ⌝ }

@@ -3,10 +3,10 @@
 -- node's number, and below it the order in which functions call each other at one node. Assumes nothing.
 use Rattle.seek.specs.Branches.{other-chosen, choice-first-below, choice-first, choice-second-below, choice-second, open-first-below, open-first, open-second-below, open-second, second-below, second-followed, held-follows, held-chosen, own-below, own-chosen, both-room, both-spot, both-follows, both-chosen, par-first-room, par-second-room, par-chosen}
 use Rattle.seek.specs.NodeLaws.{kid-lower, spot-below, below-spot, below-room, below-marked}
-use mathlib.Core.Path.{_≡_, refl, sym, _∙_}
+use mathlib.Core.Path.{refl, sym, _∙_}
 use native.Mathlib.Omega.{arith}
 use borrow.Author.Needs.{needs}
-use Prim.Native.Nat.{ℕ, _<_, _+_, _*_, _-_}
+use Prim.Native.Nat.{ℕ, _<_, _+_, _*_}
 use borrow.Fn.Kinds.{In}
 use borrow.Fn.PlainCycle.{Measures, is, falls, and}
 use Rattle.seek.proofs.seek.Reads as seek
