@@ -1,8 +1,8 @@
 -- Names are counted, never joined: two entries, or two lists of entries, have the same bytes only if they are the same, so distinct
 -- pairs of a step and a machine never collide. The comma is a byte like any other. Worked example: the washer 'W1,2' and drum 2 on
 -- 'W1'. Assumes nothing.
-use Prim.Native.Nat.{ℕ, zero, suc}
-use mathlib.Core.Bool.{true, false}
+use Prim.Native.Nat.{ℕ}
+use mathlib.Core.Bool.{false}
 use mathlib.Core.List.{List, [], _∷_, _++_, append-assoc}
 use mathlib.Core.Path.{_≡_, refl, ap, ap₂, sym, _∙_}
 use native.Mathlib.Omega.{arith}
@@ -24,16 +24,17 @@ pub name-apart : (a b xs ys : List ℕ) → name-bytes a ++ xs ≡ name-bytes b 
 unfolding name-bytes head-of tail-of
 name-apart a b xs ys e =
     let l : length a ≡ length b = ap head-of e in
-    let t : a ++ xs ≡ b ++ ys = ap tail-of e in
-    (sym (take-at a xs (length a) refl) ∙ ap₂ take l t ∙ take-at b ys (length b) refl,
-    sym (drop-at a xs (length a) refl) ∙ ap₂ drop l t ∙ drop-at b ys (length b) refl)
+    let t : a ++ xs ≡ b ++ ys = ap tail-of e in (
+      sym (take-at a xs (length a) refl) ∙ ap₂ take l t ∙ take-at b ys (length b) refl,
+      sym (drop-at a xs (length a) refl) ∙ ap₂ drop l t ∙ drop-at b ys (length b) refl,
+    )
 
 -- "Two entries are the same only if both names are equal byte by byte."
 pub entry-apart : (e g : Entry) (xs ys : List ℕ) → entry-bytes e ++ xs ≡ entry-bytes g ++ ys → (e ≡ g) × (xs ≡ ys)
 unfolding entry-bytes
 entry-apart e g xs ys q =
     let a = name-apart (e .step) (g .step) (name-bytes (e .machine) ++ xs) (name-bytes (g .machine) ++ ys)
-              (sym (append-assoc (name-bytes (e .step)) (name-bytes (e .machine)) xs) ∙ q ∙ append-assoc (name-bytes (g .step)) (name-bytes (g .machine)) ys) in
+    (sym (append-assoc (name-bytes (e .step)) (name-bytes (e .machine)) xs) ∙ q ∙ append-assoc (name-bytes (g .step)) (name-bytes (g .machine)) ys) in
     let b = name-apart (e .machine) (g .machine) xs ys (a .1) in
     (ap₂ (λ (x y : List ℕ). record { step = x; machine = y }) (a .0) (b .0), b .1)
 

@@ -1,17 +1,17 @@
 -- Every cut of a readable file is refused with 15 at the item that could not be read. First of every plan: a file that the plan goes
 -- through, cut short, is refused at the item that holds the first byte missing. Then which items a flow file has. Assumes nothing.
-use Prim.Native.Nat.{ℕ, zero, suc, _+_, _-_, _*_, _/_, _≤_, _<_}
+use Prim.Native.Nat.{ℕ, _+_, _*_, _≤_, _<_}
 use mathlib.Core.Bool.{Bool, true, false, cond}
-use mathlib.Core.List.{List, [], _∷_, _++_, append-assoc, append-nil}
+use mathlib.Core.List.{List, [], _∷_, _++_, append-nil}
 use mathlib.Core.Logic.{_⊎_, inl, inr}
-use mathlib.Core.Path.{_≡_, refl, ap, ap₂, sym, _∙_, subst}
+use mathlib.Core.Path.{_≡_, refl, ap, ap₂, sym, _∙_}
 use native.Mathlib.Omega.{arith}
-use borrow.Author.Tests.{le-leb, lt-leb, lt-ltb, le-ltb}
+use borrow.Author.Tests.{le-leb, lt-ltb, le-ltb}
 use lib.Dec.{leb, ltb, eqb}
-use lib.ListN.{length, take, drop, getD, length-append, length-drop, take-append-drop, length-take, replicate}
+use lib.ListN.{length, take, drop, length-drop, take-append-drop}
 use lib.Seq.{take-append-le, drop-append-le, length-take-le}
-use Rattle.flowfile.specs.Format.{Entry, File, encode, word, words, name-bytes, entry-bytes, entries-bytes, names-section}
-use Rattle.flowfile.specs.Plan.{Plan, done, refuse, place, item, _>>=_, Ran, got, bad, run}
+use Rattle.flowfile.specs.Format.{Entry, File, encode, word, words, entry-bytes, entries-bytes, names-section}
+use Rattle.flowfile.specs.Plan.{Plan, done, refuse, place, item, _>>=_, got, bad, run}
 use Rattle.flowfile.specs.Plans.{item-there, item-cut}
 use Rattle.flowfile.specs.Reading.{byte-of, value, met, number, name, entry, new-entry, entries, name-count, names, some-count, numbers, layout, refused, laid, reading}
 use Rattle.flowfile.specs.Items.{refusal-of}
@@ -60,8 +60,10 @@ module _ {A : Type 0} (s : List ℕ) (m : ℕ) (h : m ≤ length s) where
     where
       b : List ℕ
       b = take n (drop at s)
+
       size : length (take m s) ≡ m
       size = length-take-le m s h
+
       by-cut : ((b : List ℕ) → at + n ≤ m → run s (at + n) (k′ b) ≡ got a e → run (take m s) (at + n) (k′ b) ≡ bad 15 (item-of (sizes s (at + n) (k′ b)) (at + n) m))
           → at + n ≤ length s → (at + n ≤ m) ⊎ (m < at + n)
           → run (take m s) at (item n k′) ≡ bad 15 (cond (ltb m (at + n)) at (item-of (sizes s (at + n) (k′ b)) (at + n) m))
@@ -73,6 +75,7 @@ module _ {A : Type 0} (s : List ℕ) (m : ℕ) (h : m ≤ length s) where
       by-cut rec w (inr i) =
           item-cut (take m s) at n k′ (omega (arith, size))
           ∙ ap (λ (t : Bool). bad 15 (cond t at (item-of (sizes s (at + n) (k′ b)) (at + n) m))) (sym (lt-ltb m (at + n) i))
+
       by-whole : ((b : List ℕ) → at + n ≤ m → run s (at + n) (k′ b) ≡ got a e → run (take m s) (at + n) (k′ b) ≡ bad 15 (item-of (sizes s (at + n) (k′ b)) (at + n) m))
           → (at + n ≤ length s) ⊎ (length s < at + n)
           → run (take m s) at (item n k′) ≡ bad 15 (cond (ltb m (at + n)) at (item-of (sizes s (at + n) (k′ b)) (at + n) m))
@@ -122,6 +125,7 @@ module _ (s : List ℕ) where
     where
       v : ℕ
       v = value (take 2 (drop at s))
+
       by : (n : ℕ) (t : Bool) → sizes s (at + 2) (cond t (refuse 16 at) (done n)) ≡ []
       by n true = refl
       by n false = refl
@@ -132,6 +136,7 @@ module _ (s : List ℕ) where
     where
       v : ℕ
       v = value (take 2 (drop at s))
+
       by : (n : ℕ) (t u : Bool) → sizes s (at + 2) (cond t (refuse zip at) (cond u (refuse over at) (done n))) ≡ []
       by n true u = refl
       by n false true = refl
@@ -197,17 +202,17 @@ module _ (s : List ℕ) where
       let p = layout-parts s f w h in
       let nodes-run : run s (p .from + 2) (numbers (3 * p .n)) ≡ got (f .nodes) (p .mid) = ap (λ (k : ℕ). run s (p .from + 2) (numbers k)) (sym (p .whole)) ∙ p .nodes-run in
       let nodes-size : sizes s (p .from + 2) (numbers (3 * p .n)) ≡ number-items (f .nodes) =
-            ap (λ (k : ℕ). sizes s (p .from + 2) (numbers k)) (sym (p .whole)) ∙ numbers-sizes (p .from + 2) (f .nodes) (p .nodes-at) in
+      ap (λ (k : ℕ). sizes s (p .from + 2) (numbers k)) (sym (p .whole)) ∙ numbers-sizes (p .from + 2) (f .nodes) (p .nodes-at) in
       sizes-bind s 0 names with-names (p .names-run)
       ∙ ap₂ _++_ (names-sizes (w .names-good) (w .few-names) (p .names-at))
-        (sizes-bind s (p .from) (some-count 1 3 64) (with-count (f .names)) (p .node-count-run)
-        ∙ ap₂ _++_ (some-count-sizes (p .from) 1 3 64)
-          (sizes-bind s (p .from + 2) (numbers (3 * p .n)) (with-nodes (f .names)) nodes-run
-          ∙ ap₂ _++_ nodes-size
-            (sizes-bind s (p .mid) (some-count 10 11 256) (with-records (f .names) (f .nodes)) (p .record-count-run)
-            ∙ ap₂ _++_ (some-count-sizes (p .mid) 10 11 256)
-              (sizes-bind s (p .mid + 2) (numbers (length (f .records))) (file-of (f .names) (f .nodes)) (p .records-run)
-              ∙ append-nil _ ∙ numbers-sizes (p .mid + 2) (f .records) (p .records-at)))))
+      (sizes-bind s (p .from) (some-count 1 3 64) (with-count (f .names)) (p .node-count-run)
+      ∙ ap₂ _++_ (some-count-sizes (p .from) 1 3 64)
+      (sizes-bind s (p .from + 2) (numbers (3 * p .n)) (with-nodes (f .names)) nodes-run
+      ∙ ap₂ _++_ nodes-size
+      (sizes-bind s (p .mid) (some-count 10 11 256) (with-records (f .names) (f .nodes)) (p .record-count-run)
+      ∙ ap₂ _++_ (some-count-sizes (p .mid) 10 11 256)
+      (sizes-bind s (p .mid + 2) (numbers (length (f .records))) (file-of (f .names) (f .nodes)) (p .records-run)
+      ∙ append-nil _ ∙ numbers-sizes (p .mid + 2) (f .records) (p .records-at)))))
 
 ---- The cuts of a flow file ----
 

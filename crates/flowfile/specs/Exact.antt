@@ -1,25 +1,24 @@
 -- The plan of the flow file reads exactly the files of the format that are within the limits, and finds what they hold: sections
 -- that stand in a file are read back, and what is read stands there. Assumes nothing.
-use Prim.Native.Nat.{ℕ, zero, suc, _+_, _*_, _-_, _/_, _≤_, _<_}
-use mathlib.Core.Bool.{Bool, true, false}
-use mathlib.Core.List.{List, [], _∷_, _++_, append-assoc, append-nil, List·Memᴰ}
+use Prim.Native.Nat.{ℕ, zero, suc, _+_, _*_, _/_, _≤_}
+use mathlib.Core.List.{List, [], _∷_, _++_, append-assoc, append-nil}
 use mathlib.Core.Path.{_≡_, refl, ap, ap₂, sym, _∙_, subst}
 use native.Mathlib.Omega.{arith}
 use lib.ListN.{length, length-append}
 use Rattle.flowfile.specs.Format.{word, words, Entry, entry-bytes, entries-bytes, names-section, nodes-section, records-section, File, encode}
 use Rattle.flowfile.specs.Plan.{Ran, got, bad, run}
-use Rattle.flowfile.specs.Reading.{number, entry, met, new-entry, entries, name-count, names, some-count, numbers, layout}
-use Rattle.flowfile.specs.Limits.{GoodEntry, Follow, none, more, Within, Bytes, Stands, NamesStand, FileStands}
+use Rattle.flowfile.specs.Reading.{new-entry, entries, name-count, names, some-count, numbers, layout}
+use Rattle.flowfile.specs.Limits.{Follow, none, more, Within, Bytes, Stands, NamesStand, FileStands}
 use Rattle.flowfile.specs.Items.{values, number-at}
 use Rattle.flowfile.specs.ItemLaws.{got-value, got-next, number-got}
 use Rattle.flowfile.specs.SectionLaws.{NumberThere, name-count-got, name-count-there, names-bad, names-from, some-count-got, some-count-there, numbers-got, values-length, new-entry-got, new-entry-there, entries-bad, entries-more}
 use Rattle.flowfile.specs.NameLaws.{not-among, not-met}
 use Rattle.flowfile.specs.LayoutLaws.{numbers-there, layout-got}
-use Rattle.flowfile.specs.ReaderLaws.{LayoutRuns, layout-runs}
-use Rattle.flowfile.specs.StandsLaws.{stands-nil, stands-move, stands-left, stands-right, stands-join, number-reads, number-stands, entry-reads, EntryStands, entry-stands}
+use Rattle.flowfile.specs.ReaderLaws.{layout-runs}
+use Rattle.flowfile.specs.StandsLaws.{stands-nil, stands-move, stands-left, stands-right, stands-join, number-reads, number-stands, entry-reads, entry-stands}
 
 module _ (s : List ℕ) where
----- Entries ----
+  ---- Entries ----
 
   -- entries that stand in s are passed, whatever is to come behind them
   pub entries-pass : (at k : ℕ) {earlier es : List Entry} → Follow earlier es → Stands s at (entries-bytes es)
@@ -33,7 +32,7 @@ module _ (s : List ℕ) where
       let a = entry-reads s at e g (stands-left s at (entry-bytes e) (entries-bytes es) h) in
       let b = stands-right s at (entry-bytes e) (entries-bytes es) h in
       let l : (at + length (entry-bytes e)) + length (entries-bytes es) ≡ at + length (entry-bytes e ++ entries-bytes es) =
-            omega (arith, length-append (entry-bytes e) (entries-bytes es)) in
+      omega (arith, length-append (entry-bytes e) (entries-bytes es)) in
       let c : suc (length es) + k ≡ suc (length es + k) = omega arith in
       ap (λ (m : ℕ). run s at (entries m earlier)) c
       ∙ entries-more s at earlier (length es + k) (new-entry-got s at earlier a (not-among e earlier n))
@@ -59,14 +58,14 @@ module _ (s : List ℕ) where
       → EntriesStand k earlier at es next
   unfolding entries run entries-bytes
   entries-stand zero at earlier l e =
-      record
-        { later = []
-        ; is = sym (got-value e) ∙ sym (append-nil earlier)
-        ; sized = refl
-        ; follow = none
-        ; stands = stands-nil s l
-        ; ends = omega (arith, got-next e)
-        }
+      record {
+        later = [];
+        is = sym (got-value e) ∙ sym (append-nil earlier);
+        sized = refl;
+        follow = none;
+        stands = stands-nil s l;
+        ends = omega (arith, got-next e);
+      }
   entries-stand (suc k) at earlier {es} {next} l e = by (λ a g l′ e′. entries-stand k a g l′ e′) (run s at (new-entry earlier)) refl
     where
       by : ((a : ℕ) (g : List Entry) → a ≤ length s → run s a (entries k g) ≡ got es next → EntriesStand k g a es next) → (x : Ran Entry)
@@ -75,17 +74,17 @@ module _ (s : List ℕ) where
           let t = new-entry-there s at earlier q in
           let w = entry-stands s at (t .read) in
           let r = rec m (earlier ++ (g ∷ [])) (omega (arith, w .ends, w .stands .inside)) (sym (entries-more s at earlier k q) ∙ e) in
-          record
-            { later = g ∷ r .later
-            ; is = r .is ∙ append-assoc earlier (g ∷ []) (r .later)
-            ; sized = ap suc (r .sized)
-            ; follow = more (w .good) (not-met g earlier (t .new)) (r .follow)
-            ; stands = stands-join s at (entry-bytes g) (entries-bytes (r .later)) (w .ends) (w .stands) (r .stands)
-            ; ends = omega (arith, r .ends, w .ends, length-append (entry-bytes g) (entries-bytes (r .later)))
-            }
+          record {
+            later = g ∷ r .later;
+            is = r .is ∙ append-assoc earlier (g ∷ []) (r .later);
+            sized = ap suc (r .sized);
+            follow = more (w .good) (not-met g earlier (t .new)) (r .follow);
+            stands = stands-join s at (entry-bytes g) (entries-bytes (r .later)) (w .ends) (w .stands) (r .stands);
+            ends = omega (arith, r .ends, w .ends, length-append (entry-bytes g) (entries-bytes (r .later)));
+          }
       by rec (bad n p) q = let b = entries-bad s at earlier k q in let z : _≡_ {A = ℕ} 0 1 = cc in absurd (omega arith)
 
----- Numbers ----
+  ---- Numbers ----
 
   pub words-length : (ns : List ℕ) → length (words ns) ≡ 2 * length ns
   unfolding words word
@@ -121,13 +120,13 @@ module _ (s : List ℕ) where
   numbers-stand b k at {ns} {next} l e =
       let t = numbers-there s k at l e in
       let n : length ns ≡ k = ap length (t .is) ∙ values-length s k at in
-      record
-        { sized = n
-        ; stands = subst (λ (xs : List ℕ). Stands s at (words xs)) (sym (t .is)) (values-stand b k at (omega (arith, t .ends, t .inside)))
-        ; ends = omega (arith, t .ends, words-length ns)
-        }
+      record {
+        sized = n;
+        stands = subst (λ (xs : List ℕ). Stands s at (words xs)) (sym (t .is)) (values-stand b k at (omega (arith, t .ends, t .inside)));
+        ends = omega (arith, t .ends, words-length ns);
+      }
 
----- The sections ----
+  ---- The sections ----
 
   pub count-reads : (at no over most v : ℕ) → Stands s at (word v) → 1 ≤ v → v ≤ most → run s at (some-count no over most) ≡ got v (at + 2)
   count-reads at zip over most v h l m = some-count-got s at zip over most (number-reads s at v h) (λ z. omega arith) m
@@ -152,17 +151,17 @@ module _ (s : List ℕ) where
           let n : length es ≡ v = ap length (r .is) ∙ r .sized in
           let c : Stands s 0 (word (length es)) = subst (λ (k : ℕ). Stands s 0 (word k)) (sym n) (number-stands s b 0 v m w) in
           let d : Stands s m (entries-bytes es) = subst (λ (gs : List Entry). Stands s m (entries-bytes gs)) (sym (r .is)) (r .stands) in
-          record
-            { few = omega (arith, t .few)
-            ; follow = subst (λ (gs : List Entry). Follow [] gs) (sym (r .is)) (r .follow)
-            ; stands = stands-join s 0 (word (length es)) (entries-bytes es) (w .ends) c d
-            ; ends =
+          record {
+            few = omega (arith, t .few);
+            follow = subst (λ (gs : List Entry). Follow [] gs) (sym (r .is)) (r .follow);
+            stands = stands-join s 0 (word (length es)) (entries-bytes es) (w .ends) c d;
+            ends =
                 r .ends ∙ ap₂ (λ (k : ℕ) (gs : List Entry). k + length (entries-bytes gs)) (w .ends) (sym (r .is))
-                ∙ sym (length-append (word (length es)) (entries-bytes es))
-            }
+                ∙ sym (length-append (word (length es)) (entries-bytes es));
+          }
       by (bad n p) q = let z′ = names-bad s q in let z : _≡_ {A = ℕ} 0 1 = cc in absurd (omega arith)
 
----- The file ----
+  ---- The file ----
 
   word-length : (n : ℕ) → length (word n) ≡ 2
   unfolding word
@@ -209,22 +208,22 @@ module _ (s : List ℕ) where
       let q1 = length-append (names-section es) ((word n ++ words ns) ++ (word r ++ words rs)) in
       let q2 = length-append (word n ++ words ns) (word r ++ words rs) in
       let q3 = length-append (word r) (words rs) in
-      record
-        { from = from
-        ; mid = mid
-        ; n = n
-        ; whole = omega (arith, w .whole-nodes)
-        ; names-at = a
-        ; names-run = names-read (w .names-good) (w .few-names) a
-        ; node-count-run =
+      record {
+        from = from;
+        mid = mid;
+        n = n;
+        whole = omega (arith, w .whole-nodes);
+        names-at = a;
+        names-run = names-read (w .names-good) (w .few-names) a;
+        node-count-run =
             count-reads from 1 3 64 n (stands-move s (word n) e1 (stands-left s (0 + from) (word n) (words ns) c))
-            (omega (arith, w .whole-nodes, w .some-nodes)) (omega (arith, w .whole-nodes, w .few-nodes))
-        ; nodes-at = nodes
-        ; nodes-run = numbers-read (from + 2) ns nodes
-        ; record-count-run = count-reads mid 10 11 256 r (stands-move s (word r) e3 (stands-left s _ (word r) (words rs) d)) (w .some-records) (w .few-records)
-        ; records-at = records
-        ; records-run = numbers-read (mid + 2) rs records ∙ ap (got rs) (omega arith)
-        }
+            (omega (arith, w .whole-nodes, w .some-nodes)) (omega (arith, w .whole-nodes, w .few-nodes));
+        nodes-at = nodes;
+        nodes-run = numbers-read (from + 2) ns nodes;
+        record-count-run = count-reads mid 10 11 256 r (stands-move s (word r) e3 (stands-left s _ (word r) (words rs) d)) (w .some-records) (w .few-records);
+        records-at = records;
+        records-run = numbers-read (mid + 2) rs records ∙ ap (got rs) (omega arith);
+      }
 
   -- a file that stands in s is read
   pub layout-reads : (f : File) → Within f → Stands s 0 (encode f) → run s 0 layout ≡ got f (length (encode f))
@@ -257,21 +256,28 @@ module _ (s : List ℕ) where
       let nodes = stands-join s (l .from) (word (length ns / 3)) (words ns) (u2 .ends ∙ ap (λ (k : ℕ). l .from + k) (sym w1)) c1 (p3 .stands) in
       let records = stands-join s (l .mid) (word (length rs)) (words rs) (u4 .ends ∙ ap (λ (k : ℕ). l .mid + k) (sym w2)) c2 (p5 .stands) in
       let both = stands-join s (l .from) (word (length ns / 3) ++ words ns) (word (length rs) ++ words rs) (omega (arith, p3 .ends, u2 .ends)) nodes records in
-      record
-        { within =
-            record
-              { few-names = p1 .few
-              ; names-good = p1 .follow
-              ; n = l .n
-              ; whole-nodes = p3 .sized
-              ; some-nodes = t2 .1
-              ; few-nodes = t2 .0 .few
-              ; some-records = omega (arith, t4 .1, p5 .sized)
-              ; few-records = omega (arith, t4 .0 .few, p5 .sized)
-              }
-        ; stands = stands-join s 0 (names-section (f .names)) _ (omega (arith, p1 .ends)) (p1 .stands) both
-        ; ends =
-            omega (arith, p1 .ends, u2 .ends, p3 .ends, u4 .ends, p5 .ends,
+      record {
+        within =
+            record {
+              few-names = p1 .few;
+              names-good = p1 .follow;
+              n = l .n;
+              whole-nodes = p3 .sized;
+              some-nodes = t2 .1;
+              few-nodes = t2 .0 .few;
+              some-records = omega (arith, t4 .1, p5 .sized);
+              few-records = omega (arith, t4 .0 .few, p5 .sized);
+            };
+        stands = stands-join s 0 (names-section (f .names)) _ (omega (arith, p1 .ends)) (p1 .stands) both;
+        ends =
+            omega (
+              arith,
+              p1 .ends,
+              u2 .ends,
+              p3 .ends,
+              u4 .ends,
+              p5 .ends,
               length-append (names-section (f .names)) ((word (length ns / 3) ++ words ns) ++ (word (length rs) ++ words rs)),
-              length-append (word (length ns / 3) ++ words ns) (word (length rs) ++ words rs))
-        }
+              length-append (word (length ns / 3) ++ words ns) (word (length rs) ++ words rs),
+            );
+      }

@@ -1,13 +1,13 @@
 -- What the plans of single items and names come to, by the bytes that stand in the file. Assumes nothing.
-use Prim.Native.Nat.{ℕ, zero, suc, _+_, _*_, _≤_, _<_}
+use Prim.Native.Nat.{ℕ, _+_, _*_, _≤_, _<_}
 use mathlib.Core.Bool.{Bool, true, false, _&&_, cond}
-use mathlib.Core.List.{List, [], _∷_, _++_}
+use mathlib.Core.List.{List}
 use mathlib.Core.Logic.{_⊎_, inl, inr}
 use mathlib.Core.Path.{_≡_, refl, ap, ap₂, sym, _∙_, subst}
 use native.Mathlib.Nat.{add-zero}
 use native.Mathlib.Omega.{arith}
-use borrow.Author.Tests.{leb-true, leb-false, le-leb, lt-leb, lt-ltb, le-ltb, eq-eqb, ne-eqb}
-use lib.Dec.{T, leb, ltb, eqb}
+use borrow.Author.Tests.{leb-true, leb-false, le-leb, lt-leb}
+use lib.Dec.{leb}
 use lib.ListN.{length, getD, take, drop, length-drop}
 use lib.Seq.{getD-take, getD-drop, length-take-le}
 use Rattle.flow.specs.declared.Refusal.{Refusal}
@@ -16,7 +16,7 @@ use Rattle.flowfile.specs.declared.Item.{Item}
 use Rattle.flowfile.specs.declared.Item.the-variants.{Has, Bad}
 use Rattle.flowfile.specs.Format.{Entry}
 use Rattle.flowfile.specs.Plan.{Plan, done, refuse, place, item, _>>=_, Ran, got, bad, run}
-use Rattle.flowfile.specs.Plans.{run-bind, bind-bad, bind-got, item-there, item-cut}
+use Rattle.flowfile.specs.Plans.{bind-bad, bind-got, item-there, item-cut}
 use Rattle.flowfile.specs.Reading.{byte-of, value, number, name, entry}
 use Rattle.flowfile.specs.Items.{refusal-of, answered, number-at, name-at, name-end, entry-at, entry-end}
 
@@ -80,7 +80,7 @@ module _ (s : List ℕ) (at : ℕ) where
       ap₂ (λ (a b : ℕ). a + 256 * b) (first-byte 2 (omega arith))
       (getD-take 2 (drop at s) 1 0 (omega arith) ∙ getD-drop at s 1 0)
 
----- A number ----
+  ---- A number ----
 
   pub number-cut : length s < at + 2 → run s at number ≡ bad 15 at
   unfolding number
@@ -151,17 +151,21 @@ module _ (s : List ℕ) (at least : ℕ) {n : List ℕ} {next : ℕ} where
     where
       not-bad : {k p : ℕ} → run s at (name least) ≡ bad k p → NameThere s at least n next
       not-bad h = let z : _≡_ {A = ℕ} 0 1 = cc in absurd (omega arith)
+
       by-end : at + 1 ≤ length s → least ≤ getD s at 0 → getD s at 0 ≤ 40 → (name-end s at ≤ length s) ⊎ (length s < name-end s at) → NameThere s at least n next
       by-end h l m (inl i) =
           let g = sym e ∙ name-got s at least h l m i in
           record { bytes = got-value g; ends = got-next g; inside = i; low = l; high = m }
       by-end h l m (inr i) = not-bad (name-cut s at least h l m i)
+
       by-high : at + 1 ≤ length s → least ≤ getD s at 0 → (getD s at 0 ≤ 40) ⊎ (40 < getD s at 0) → NameThere s at least n next
       by-high h l (inl m) = by-end h l m (le-or-lt (name-end s at) (length s))
       by-high h l (inr m) = not-bad (name-high s at least h m)
+
       by-low : at + 1 ≤ length s → (least ≤ getD s at 0) ⊎ (getD s at 0 < least) → NameThere s at least n next
       by-low h (inl l) = by-high h l (le-or-lt (getD s at 0) 40)
       by-low h (inr l) = not-bad (name-low s at least h l)
+
       by-start : (at + 1 ≤ length s) ⊎ (length s < at + 1) → NameThere s at least n next
       by-start (inl h) = by-low h (le-or-lt least (getD s at 0))
       by-start (inr h) = not-bad (name-short s at least h)
@@ -203,16 +207,18 @@ module _ (s : List ℕ) (at : ℕ) where
     where
       not-bad : {k p : ℕ} → run s at entry ≡ bad k p → EntryRuns s at e next
       not-bad b = let z : _≡_ {A = ℕ} 0 1 = cc in absurd (omega arith)
+
       by-machine : {st : List ℕ} {mid : ℕ} → run s at (name 1) ≡ got st mid → (x : Ran (List ℕ)) → run s mid (name 0) ≡ x → EntryRuns s at e next
       by-machine {st} {mid} a (got m last) b =
           let g : got e next ≡ got (record { step = st; machine = m }) last = sym h ∙ entry-got a b in
           let q = got-value g in
-          record
-            { mid = mid
-            ; step-run = a ∙ ap (λ (e′ : Entry). got (e′ .step) mid) (sym q)
-            ; machine-run = b ∙ ap₂ (λ (e′ : Entry) (n : ℕ). got (e′ .machine) n) (sym q) (sym (got-next g))
-            }
+          record {
+            mid = mid;
+            step-run = a ∙ ap (λ (e′ : Entry). got (e′ .step) mid) (sym q);
+            machine-run = b ∙ ap₂ (λ (e′ : Entry) (n : ℕ). got (e′ .machine) n) (sym q) (sym (got-next g));
+          }
       by-machine a (bad k p) b = not-bad (entry-machine-bad a b)
+
       by-step : (x : Ran (List ℕ)) → run s at (name 1) ≡ x → EntryRuns s at e next
       by-step (got st mid) a = by-machine a (run s mid (name 0)) refl
       by-step (bad k p) a = not-bad (entry-step-bad a)
@@ -224,9 +230,9 @@ module _ (s : List ℕ) (at : ℕ) where
       let v = name-there s (r .mid) 0 (r .machine-run) in
       let d : r .mid ≡ name-end s at = u .ends in
       let d′ : name-end s (r .mid) ≡ entry-end s at = ap (name-end s) d in
-      record
-        { is = ap₂ (λ (x y : List ℕ). record { step = x; machine = y }) (u .bytes) (v .bytes ∙ ap (name-at s) d)
-        ; ends = v .ends ∙ d′
-        ; inside = subst (λ (x : ℕ). x ≤ length s) d′ (v .inside)
-        ; short = omega (arith, d′, v .high, u .high, ap (λ (x : ℕ). getD s x 0) d)
-        }
+      record {
+        is = ap₂ (λ (x y : List ℕ). record { step = x; machine = y }) (u .bytes) (v .bytes ∙ ap (name-at s) d);
+        ends = v .ends ∙ d′;
+        inside = subst (λ (x : ℕ). x ≤ length s) d′ (v .inside);
+        short = omega (arith, d′, v .high, u .high, ap (λ (x : ℕ). getD s x 0) d);
+      }

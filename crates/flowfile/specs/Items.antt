@@ -11,7 +11,7 @@ use Rattle.flowfile.specs.declared.Counts.{Counts}
 use Rattle.flowfile.specs.declared.Item.{Item}
 use Rattle.flowfile.specs.declared.Item.the-variants.{Has, Bad}
 use Rattle.flowfile.specs.declared.Reading.{Reading}
-use Rattle.flowfile.specs.declared.Reading.the-variants.{Read, Refused}
+use Rattle.flowfile.specs.declared.Reading.the-variants.{Refused}
 use Rattle.flowfile.specs.Format.{Entry, File}
 use Rattle.flowfile.specs.Plan.{Ran, got, bad}
 use Rattle.flowfile.specs.Reading.{counts, reading, over}

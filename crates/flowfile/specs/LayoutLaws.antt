@@ -1,26 +1,23 @@
 -- What the plan of the three sections comes to, by the runs of the sections, and what is known of a file that it goes through to
 -- the end. Assumes nothing.
 use Prim.Native.Nat.{ℕ, zero, suc, _+_, _*_, _-_, _/_, _≤_, _<_}
-use mathlib.Core.Bool.{cond}
-use mathlib.Core.List.{List, [], _∷_, _++_}
+use mathlib.Core.List.{List}
 use mathlib.Core.Logic.{_⊎_, inl, inr}
-use mathlib.Core.Path.{_≡_, refl, ap, ap₂, sym, _∙_, subst}
+use mathlib.Core.Path.{_≡_, refl, ap, sym, _∙_}
 use native.Mathlib.Omega.{arith}
 use borrow.Author.Tests.{lt-ltb, le-ltb}
 use lib.ListN.{length}
 use Rattle.flow.specs.declared.Refusal.{Refusal}
 use Rattle.flowfile.specs.declared.Got.{Got}
-use Rattle.flowfile.specs.declared.Item.{Item}
-use Rattle.flowfile.specs.declared.Item.the-variants.{Has, Bad}
-use Rattle.flowfile.specs.declared.Reading.{Reading}
+use Rattle.flowfile.specs.declared.Item.the-variants.{Has}
 use Rattle.flowfile.specs.declared.Reading.the-variants.{Read, Refused}
 use Rattle.flowfile.specs.Format.{Entry, File}
 use Rattle.flowfile.specs.Plan.{Plan, done, _>>=_, Ran, got, bad, run}
 use Rattle.flowfile.specs.Plans.{bind-bad, bind-got}
 use Rattle.flowfile.specs.Reading.{number, new-entry, name-count, names, some-count, numbers, layout, counts}
-use Rattle.flowfile.specs.Items.{answered, laid-out, number-at, values, entries-at, entries-end}
-use Rattle.flowfile.specs.ItemLaws.{le-or-lt, got-value, got-next, has-found, number-cut, number-got}
-use Rattle.flowfile.specs.SectionLaws.{Scanned, scan-start, scan-stop, scan-more, scan-end, names-bad, entries-at-length, numbers-got, numbers-bad, numbers-next-bad, numbers-next-got, values-length, CountThere, some-count-there}
+use Rattle.flowfile.specs.Items.{answered, laid-out, values, entries-at, entries-end}
+use Rattle.flowfile.specs.ItemLaws.{le-or-lt, got-value, got-next, has-found, number-cut}
+use Rattle.flowfile.specs.SectionLaws.{Scanned, scan-start, scan-stop, scan-more, scan-end, names-bad, entries-at-length, numbers-got, numbers-bad, numbers-next-bad}
 
 -- an item whose value is the number itself
 pub has-number : (x : Ran ℕ) {g : Got} → answered (λ n. n) x ≡ Has g → x ≡ got (g .value) (g .next .at)
@@ -42,13 +39,13 @@ module _ (s : List ℕ) {es : List Entry} {next : ℕ} (e : run s 0 names ≡ go
       let g : got es next ≡ got (entries-at s n 2) at = sym e ∙ scan-end s h (omega arith) in
       let d : length es ≡ n = ap length (got-value g) ∙ entries-at-length s n 2 in
       let d′ : i ≡ n = omega (arith, h .some) in
-      record
-        { is = got-value g ∙ ap (λ (k : ℕ). entries-at s k 2) (sym d)
-        ; ends = got-next g ∙ h .here ∙ ap (λ (k : ℕ). entries-end s k 2) (d′ ∙ sym d)
-        ; few = omega (arith, h .few)
-        ; near = omega (arith, h .near, got-next g)
-        ; inside = omega (arith, h .inside, got-next g)
-        }
+      record {
+        is = got-value g ∙ ap (λ (k : ℕ). entries-at s k 2) (sym d);
+        ends = got-next g ∙ h .here ∙ ap (λ (k : ℕ). entries-end s k 2) (d′ ∙ sym d);
+        few = omega (arith, h .few);
+        near = omega (arith, h .near, got-next g);
+        inside = omega (arith, h .inside, got-next g);
+      }
   scan-all (suc k) {n} {i} {at} h z = by (λ j m h′ z′. scan-all k h′ z′) (run s at (new-entry (entries-at s i 2))) refl
     where
       by : ((j m : ℕ) → Scanned s n j m → n - j ≡ k → NamesThere s es next) → (x : Ran Entry) → run s at (new-entry (entries-at s i 2)) ≡ x → NamesThere s es next
@@ -76,9 +73,11 @@ module _ (s : List ℕ) where
     where
       not-bad : {n p : ℕ} → run s at (numbers (suc k)) ≡ bad n p → at + 2 * suc k ≤ length s
       not-bad b = let z : _≡_ {A = ℕ} 0 1 = cc in absurd (omega arith)
+
       by-rest : ((a : ℕ) (ms : List ℕ) (m : ℕ) → a ≤ length s → run s a (numbers k) ≡ got ms m → a + 2 * k ≤ length s) → at + 2 ≤ length s → (x : Ran (List ℕ)) → run s (at + 2) (numbers k) ≡ x → at + 2 * suc k ≤ length s
       by-rest rec h (got ms m) a = omega (arith, rec (at + 2) ms m h a)
       by-rest rec h (bad n p) a = not-bad (numbers-next-bad s k at h a)
+
       by-first : ((a : ℕ) (ms : List ℕ) (m : ℕ) → a ≤ length s → run s a (numbers k) ≡ got ms m → a + 2 * k ≤ length s) → (at + 2 ≤ length s) ⊎ (length s < at + 2) → at + 2 * suc k ≤ length s
       by-first rec (inl h) = by-rest rec h (run s (at + 2) (numbers k)) refl
       by-first rec (inr h) = not-bad (numbers-bad s k at (number-cut s at h))

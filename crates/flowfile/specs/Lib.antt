@@ -21,4 +21,3 @@ pub mod Reader
 pub mod Cuts
 pub mod Refused
 pub mod Worked
-

@@ -1,17 +1,17 @@
 -- Names compared byte by byte, from the front; that this is equality; and entries met among earlier ones. Assumes nothing.
-use Prim.Native.Nat.{ℕ, zero, suc, _+_, _-_, _≤_, _<_}
+use Prim.Native.Nat.{ℕ, suc, _+_, _-_, _≤_, _<_}
 use mathlib.Core.Bool.{Bool, true, false, _&&_, _||_}
-use mathlib.Core.List.{List, [], _∷_, _++_, List·Memᴰ, List·Memᴰ·head, List·Memᴰ·tail}
-use mathlib.Core.Path.{_≡_, refl, ap, ap₂, sym, _∙_, subst}
+use mathlib.Core.List.{List, [], _∷_, List·Memᴰ, List·Memᴰ·head, List·Memᴰ·tail}
+use mathlib.Core.Path.{_≡_, refl, ap, ap₂, sym, _∙_}
 use native.Mathlib.Numerals.{add-one}
 use native.Mathlib.Omega.{arith}
-use borrow.Author.Tests.{eq-eqb, ne-eqb, eqb-true, eqb-false}
-use lib.Dec.{eqb, T, eqb-refl}
-use lib.ListN.{length, getD, take, drop, drop-of-length-le}
+use borrow.Author.Tests.{eq-eqb, ne-eqb, eqb-true}
+use lib.Dec.{eqb}
+use lib.ListN.{length, getD, drop, drop-of-length-le}
 use lib.Seq.{drop-cons}
 use Rattle.flowfile.specs.Format.{Entry}
 use Rattle.flowfile.specs.Reading.{same, same-entry, met}
-use Rattle.flowfile.specs.Items.{name-at, entry-at, entry-end, entries-at, entries-end}
+use Rattle.flowfile.specs.Items.{entry-at, entry-end, entries-at, entries-end}
 use Rattle.flowfile.specs.SectionLaws.{entries-end-le}
 
 ---- Tests ----

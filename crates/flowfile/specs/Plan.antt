@@ -19,7 +19,6 @@ pub data Plan (A : Type 0) : Type 0 where
   item : ℕ → (List ℕ → Plan A) → Plan A
 
 infixl 20 _>>=_
-
 -- one plan, then another by what the first found
 unfoldable pub _>>=_ : {A B : Type 0} → Plan A → (A → Plan B) → Plan B
 _>>=_ (done a) f = f a

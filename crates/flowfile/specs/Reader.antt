@@ -3,9 +3,9 @@
 -- Not here: what is refused, and where (Refused); cuts (Cuts). Assumes nothing.
 use Prim.Native.Nat.{ℕ, _+_, _≤_, _<_}
 use mathlib.Core.Bool.{Bool, true, false, _||_, cond}
-use mathlib.Core.List.{List, [], _∷_, _++_, append-nil}
+use mathlib.Core.List.{List, _++_, append-nil}
 use mathlib.Core.Logic.{_⊎_, inl, inr, _↔_}
-use mathlib.Core.Path.{_≡_, refl, ap, ap₂, sym, _∙_, subst}
+use mathlib.Core.Path.{_≡_, refl, ap, sym, _∙_, subst}
 use native.Mathlib.Omega.{arith}
 use borrow.Author.Tests.{ltb-false}
 use lib.Dec.{ltb}
@@ -14,7 +14,7 @@ use Rattle.flow.specs.declared.Refusal.{Refusal}
 use Rattle.flow.specs.declared.Check.{Check}
 use Rattle.flow.specs.declared.Check.the-variants as check
 use Rattle.flow.specs.Refusals.{first}
-use Rattle.flow.specs.FirstRefusal.{First, None, refused-exactly, fine-exactly}
+use Rattle.flow.specs.FirstRefusal.{None, fine-exactly}
 use Rattle.flowfile.specs.declared.Counts.{Counts}
 use Rattle.flowfile.specs.declared.Reading.{Reading}
 use Rattle.flowfile.specs.declared.Reading.the-variants.{Read, Refused}
@@ -64,29 +64,38 @@ read-readable s b nr rr c e = by-nodes (le-or-lt 192 nr)
   where
     Goal : Type 0
     Goal = (f : File) × Readable s nr rr f × (Read c ≡ counts f)
+
     no : {r : Refusal} → Refused r ≡ Read c → Goal
     no q = let z : _≡_ {A = ℕ} 0 1 = cc in absurd (omega arith)
+
     by-check : (f : File) (at : ℕ) → run s 0 layout ≡ got f at → length s ≤ at → 192 ≤ nr → 256 ≤ rr → (k : Check) → content-check f ≡ k → checked f k .answer ≡ Read c → Goal
     by-check f at g l h i check.Fine q a =
-        let t = layout-stands s b g in
-        (f, record
-          { node-room = h
-          ; record-room = i
-          ; encoded = stands-whole s (encode f) (t .stands) (omega (arith, t .ends))
-          ; within = t .within
-          ; fine = fine-exactly (content-grounds f) .0 q
-          }, sym a)
+        let t = layout-stands s b g in (
+          f,
+          record {
+            node-room = h;
+            record-room = i;
+            encoded = stands-whole s (encode f) (t .stands) (omega (arith, t .ends));
+            within = t .within;
+            fine = fine-exactly (content-grounds f) .0 q;
+          },
+          sym a,
+        )
     by-check f at g l h i (check.Refused r) q a = no a
+
     by-long : (f : File) (at : ℕ) → run s 0 layout ≡ got f at → 192 ≤ nr → 256 ≤ rr → (t : Bool) → ltb at (length s) ≡ t
         → (cond t (refused (refusal-of 21 at)) (checked f (content-check f))) .answer ≡ Read c → Goal
     by-long f at g h i true q a = no a
     by-long f at g h i false q a = by-check f at g (ltb-false at (length s) q) h i (content-check f) refl a
+
     by-run : 192 ≤ nr → 256 ≤ rr → (x : Ran File) → run s 0 layout ≡ x → laid s x .answer ≡ Read c → Goal
     by-run h i (bad n p) g a = no a
     by-run h i (got f at) g a = by-long f at g h i (ltb at (length s)) refl a
+
     by-records : 192 ≤ nr → (256 ≤ rr) ⊎ (rr < 256) → Goal
     by-records h (inl i) = by-run h i (run s 0 layout) refl (sym (ap (λ (o : Outcome). o .answer) (reading-laid s nr rr h i)) ∙ e)
     by-records h (inr i) = no (sym (ap (λ (o : Outcome). o .answer) (reading-short s nr rr (inr i))) ∙ e)
+
     by-nodes : (192 ≤ nr) ⊎ (nr < 192) → Goal
     by-nodes (inl h) = by-records h (le-or-lt 256 rr)
     by-nodes (inr h) = no (sym (ap (λ (o : Outcome). o .answer) (reading-short s nr rr (inl h))) ∙ e)
@@ -120,18 +129,23 @@ refused-unchanged s nr rr r e = by-room (ltb nr 192 || ltb rr 256) e
   where
     is : {q : Refusal} → Refused q ≡ Refused r → refused q ≡ refused r
     is h = cc
+
     not-read : {c : Counts} {o : Outcome} → Read c ≡ Refused r → o ≡ refused r
     not-read h = let z : _≡_ {A = ℕ} 0 1 = cc in absurd (omega arith)
+
     by-check : (f : File) (k : Check) → checked f k .answer ≡ Refused r → checked f k ≡ refused r
     by-check f check.Fine h = not-read h
     by-check f (check.Refused q) h = is h
+
     by-long : (f : File) (at : ℕ) (t : Bool) → (cond t (refused (refusal-of 21 at)) (checked f (content-check f))) .answer ≡ Refused r
         → cond t (refused (refusal-of 21 at)) (checked f (content-check f)) ≡ refused r
     by-long f at true h = is h
     by-long f at false h = by-check f (content-check f) h
+
     by-run : (x : Ran File) → laid s x .answer ≡ Refused r → laid s x ≡ refused r
     by-run (bad n p) h = is h
     by-run (got f at) h = by-long f at (ltb at (length s)) h
+
     by-room : (t : Bool) → (cond t (refused (refusal-of 14 0)) (laid s (run s 0 layout))) .answer ≡ Refused r
         → cond t (refused (refusal-of 14 0)) (laid s (run s 0 layout)) ≡ refused r
     by-room true h = is h

@@ -1,10 +1,10 @@
 -- What a file whose sections are gone through to the end is known to hold, and what the reader answers by the parts of `reading`.
 -- Assumes nothing.
-use Prim.Native.Nat.{ℕ, zero, suc, _+_, _*_, _-_, _/_, _≤_, _<_}
+use Prim.Native.Nat.{ℕ, _+_, _*_, _-_, _/_, _≤_, _<_}
 use mathlib.Core.Bool.{Bool, true, false, _||_, cond}
-use mathlib.Core.List.{List, [], _∷_, _++_}
+use mathlib.Core.List.{List}
 use mathlib.Core.Logic.{_⊎_, inl, inr}
-use mathlib.Core.Path.{_≡_, refl, ap, ap₂, sym, _∙_, subst}
+use mathlib.Core.Path.{_≡_, refl, ap, ap₂, sym, _∙_}
 use native.Mathlib.Omega.{arith}
 use borrow.Author.Tests.{lt-ltb, le-ltb}
 use lib.Dec.{ltb}
@@ -22,7 +22,7 @@ use Rattle.flowfile.specs.Reading.{names, some-count, numbers, layout, g
 use Rattle.flowfile.specs.Items.{refusal-of, laid-out, values, Placed, ReadAs}
 use Rattle.flowfile.specs.ItemLaws.{le-or-lt, got-value, got-next}
 use Rattle.flowfile.specs.SectionLaws.{some-count-there, values-length, entries-end-le}
-use Rattle.flowfile.specs.LayoutLaws.{NamesThere, names-there, NumbersThere, numbers-there, layout-names-bad, layout-node-count-bad, layout-nodes-bad, layout-record-count-bad, layout-records-bad, layout-got}
+use Rattle.flowfile.specs.LayoutLaws.{names-there, numbers-there, layout-names-bad, layout-node-count-bad, layout-nodes-bad, layout-record-count-bad, layout-records-bad, layout-got}
 
 ---- The sections of a file ----
 
@@ -52,26 +52,35 @@ module _ (s : List ℕ) {f : File} {end : ℕ} (e : run s 0 layout ≡ got f end
       by-records {es} {from} {n} {at} {mid} {r} {to} {ns} a b c d (got rs last) h =
           let g : got f end ≡ got (record { names = es; nodes = ns; records = rs }) last = sym e ∙ layout-got s a b c d h in
           let q = got-value g in
-          record
-            { from = from; n = n; nodes-at = at; mid = mid; r = r; records-at = to
-            ; names-run = a ∙ ap (λ (f′ : File). got (f′ .names) from) (sym q)
-            ; node-count-run = b
-            ; nodes-run = c ∙ ap (λ (f′ : File). got (f′ .nodes) mid) (sym q)
-            ; record-count-run = d
-            ; records-run = h ∙ ap₂ (λ (f′ : File) (m : ℕ). got (f′ .records) m) (sym q) (sym (got-next g))
-            }
+          record {
+            from = from;
+            n = n;
+            nodes-at = at;
+            mid = mid;
+            r = r;
+            records-at = to;
+            names-run = a ∙ ap (λ (f′ : File). got (f′ .names) from) (sym q);
+            node-count-run = b;
+            nodes-run = c ∙ ap (λ (f′ : File). got (f′ .nodes) mid) (sym q);
+            record-count-run = d;
+            records-run = h ∙ ap₂ (λ (f′ : File) (m : ℕ). got (f′ .records) m) (sym q) (sym (got-next g));
+          }
       by-records a b c d (bad k p) h = not-bad (layout-records-bad s a b c d h)
+
       by-record-count : {es : List Entry} {from n at mid : ℕ} {ns : List ℕ} → run s 0 names ≡ got es from → run s from (some-count 1 3 64) ≡ got n at
           → run s at (numbers (3 * n)) ≡ got ns mid → (x : Ran ℕ) → run s mid (some-count 10 11 256) ≡ x → LayoutRuns s f end
       by-record-count a b c (got r to) d = by-records a b c d (run s to (numbers r)) refl
       by-record-count a b c (bad k p) d = not-bad (layout-record-count-bad s a b c d)
+
       by-nodes : {es : List Entry} {from n at : ℕ} → run s 0 names ≡ got es from → run s from (some-count 1 3 64) ≡ got n at
           → (x : Ran (List ℕ)) → run s at (numbers (3 * n)) ≡ x → LayoutRuns s f end
       by-nodes a b (got ns mid) c = by-record-count a b c (run s mid (some-count 10 11 256)) refl
       by-nodes a b (bad k p) c = not-bad (layout-nodes-bad s a b c)
+
       by-node-count : {es : List Entry} {from : ℕ} → run s 0 names ≡ got es from → (x : Ran ℕ) → run s from (some-count 1 3 64) ≡ x → LayoutRuns s f end
       by-node-count a (got n at) b = by-nodes a b (run s at (numbers (3 * n))) refl
       by-node-count a (bad k p) b = not-bad (layout-node-count-bad s a b)
+
       by-names : (x : Ran (List Entry)) → run s 0 names ≡ x → LayoutRuns s f end
       by-names (got es from) a = by-node-count a (run s from (some-count 1 3 64)) refl
       by-names (bad k p) a = not-bad (layout-names-bad s a)
@@ -100,19 +109,19 @@ layout-there s {f} {end} e =
     let h = numbers-there s (l .r) (l .records-at) (omega arith) (l .records-run) in
     let rs : l .records-at ≡ end - 2 * l .r = omega arith in
     let ns : l .nodes-at ≡ end - 2 * l .r - 2 - 2 * (3 * l .n) = omega arith in
-    record
-      { n = l .n
-      ; r = l .r
-      ; some-nodes = b .1
-      ; few-nodes = b .0 .few
-      ; some-records = d .1
-      ; few-records = d .0 .few
-      ; few-names = a .few
-      ; inside = h .inside
-      ; room = omega (arith, a .ends, entries-end-le s (length (f .names)) 2)
-      ; nodes-are = c .is ∙ ap (values s (3 * l .n)) ns
-      ; records-are = h .is ∙ ap (values s (l .r)) rs
-      }
+    record {
+      n = l .n;
+      r = l .r;
+      some-nodes = b .1;
+      few-nodes = b .0 .few;
+      some-records = d .1;
+      few-records = d .0 .few;
+      few-names = a .few;
+      inside = h .inside;
+      room = omega (arith, a .ends, entries-end-le s (length (f .names)) 2);
+      nodes-are = c .is ∙ ap (values s (3 * l .n)) ns;
+      records-are = h .is ∙ ap (values s (l .r)) rs;
+    }
 
 ---- The answer ----
 
@@ -172,11 +181,11 @@ module _ (s : List ℕ) where
     pub read-as : {o : Outcome} {r : Reading} {nodes′ records′ : List ℕ} → reading s (length nodes) (length records) ≡ o
         → r ≡ o .answer → nodes′ ≡ over (o .nodes) nodes → records′ ≡ over (o .records) records → ReadAs s nodes records nodes′ records′ r
     read-as {o} e a n k =
-        record
-          { answer = a ∙ ap (λ (o′ : Outcome). o′ .answer) (sym e)
-          ; nodes-after = n ∙ ap (λ (o′ : Outcome). over (o′ .nodes) nodes) (sym e)
-          ; records-after = k ∙ ap (λ (o′ : Outcome). over (o′ .records) records) (sym e)
-          }
+        record {
+          answer = a ∙ ap (λ (o′ : Outcome). o′ .answer) (sym e);
+          nodes-after = n ∙ ap (λ (o′ : Outcome). over (o′ .nodes) nodes) (sym e);
+          records-after = k ∙ ap (λ (o′ : Outcome). over (o′ .records) records) (sym e);
+        }
 
     pub read-refused : {r : Refusal} → reading s (length nodes) (length records) ≡ refused r → ReadAs s nodes records nodes records (Refused r)
     read-refused e = read-as e refl refl refl
@@ -216,24 +225,24 @@ module _ (s : List ℕ) (c : Counts) where
       let ns : length (f .nodes) ≡ 3 * l .n = ap length (l .nodes-are) ∙ values-length s _ _ in
       let n : l .n ≡ c .nodes = omega (arith, ap (λ (c′ : Counts). c′ .nodes) d) in
       let r : l .r ≡ c .records =
-            sym (ap (λ (c′ : Counts). c′ .records) d ∙ ap length (l .records-are) ∙ values-length s _ _) in
-      record
-        { file = f
-        ; is = o .is
-        ; answer = o .answer
-        ; names-are = ap (λ (c′ : Counts). c′ .names) d
-        ; nodes-are = l .nodes-are ∙ ap₂ (λ (n′ r′ : ℕ). values s (3 * n′) (length s - 2 * r′ - 2 - 2 * (3 * n′))) n r
-        ; records-are = l .records-are ∙ ap (λ (r′ : ℕ). values s r′ (length s - 2 * r′)) r
-        ; room = omega (arith, l .room)
-        ; placed =
-            record
-              { some-nodes = omega (arith, l .some-nodes)
-              ; few-nodes = omega (arith, l .few-nodes)
-              ; few-records = omega (arith, l .few-records)
-              ; nodes-inside = omega (arith, l .room)
-              ; records-inside = omega (arith, l .room)
-              }
-        }
+      sym (ap (λ (c′ : Counts). c′ .records) d ∙ ap length (l .records-are) ∙ values-length s _ _) in
+      record {
+        file = f;
+        is = o .is;
+        answer = o .answer;
+        names-are = ap (λ (c′ : Counts). c′ .names) d;
+        nodes-are = l .nodes-are ∙ ap₂ (λ (n′ r′ : ℕ). values s (3 * n′) (length s - 2 * r′ - 2 - 2 * (3 * n′))) n r;
+        records-are = l .records-are ∙ ap (λ (r′ : ℕ). values s r′ (length s - 2 * r′)) r;
+        room = omega (arith, l .room);
+        placed =
+            record {
+              some-nodes = omega (arith, l .some-nodes);
+              few-nodes = omega (arith, l .few-nodes);
+              few-records = omega (arith, l .few-records);
+              nodes-inside = omega (arith, l .room);
+              records-inside = omega (arith, l .room);
+            };
+      }
     where
       read-counts : {c d : Counts} → Read c ≡ Read d → c ≡ d
       read-counts h = cc

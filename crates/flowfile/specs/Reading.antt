@@ -1,7 +1,7 @@
 -- What the reader answers, as one definition in the order of 01, "The flow file": 14; then through the file item by item, 15 to
 -- 18, 1, 3, 10, 11; then 21; then 4 to 9, 12, 13, 19, 20. Places up to 21 are byte offsets.
 -- Not here: what a refusal means in terms of the format (Faults). Definitions only. Assumes nothing.
-use Prim.Native.Nat.{ℕ, zero, suc, _+_, _*_, _/_, _<_}
+use Prim.Native.Nat.{ℕ, zero, suc, _+_, _*_, _/_}
 use mathlib.Core.Bool.{Bool, true, false, _&&_, _||_, cond}
 use mathlib.Core.List.{List, [], _∷_, _++_}
 use lib.Dec.{eqb, ltb, leb}

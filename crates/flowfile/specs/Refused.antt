@@ -1,37 +1,36 @@
 -- The reader refuses exactly as Faults says: each way of a refusal is answered with its number and place, and every refusal is one
 -- of these ways. Assumes nothing.
 use Prim.Native.Nat.{ℕ, zero, suc, _+_, _*_, _-_, _/_, _≤_, _<_}
-use mathlib.Core.Bool.{Bool, true, false, _||_, cond}
+use mathlib.Core.Bool.{Bool, true, false, cond}
 use mathlib.Core.List.{List, [], _∷_, _++_, append-assoc, append-nil, List·Memᴰ, Memᴰ·append-left}
 use mathlib.Core.Logic.{_⊎_, inl, inr, _↔_}
-use mathlib.Core.Path.{_≡_, refl, ap, ap₂, sym, _∙_, subst}
+use mathlib.Core.Path.{_≡_, refl, ap, sym, _∙_, subst}
 use native.Mathlib.Numerals.{add-one}
 use native.Mathlib.Omega.{arith}
-use borrow.Author.Tests.{lt-ltb, le-ltb, ltb-true, ltb-false}
+use borrow.Author.Tests.{lt-ltb, ltb-true, ltb-false}
 use lib.Dec.{ltb}
-use lib.ListN.{length, getD, take, drop, length-append}
+use lib.ListN.{length, getD, drop, length-append}
 use lib.Seq.{drop-cons}
 use Rattle.flow.specs.declared.Refusal.{Refusal}
 use Rattle.flow.specs.declared.Check.{Check}
 use Rattle.flow.specs.declared.Check.the-variants as check
-use Rattle.flow.specs.FirstRefusal.{First, refused-exactly}
+use Rattle.flow.specs.FirstRefusal.{refused-exactly}
 use Rattle.flowfile.specs.declared.Counts.{Counts}
-use Rattle.flowfile.specs.declared.Reading.{Reading}
-use Rattle.flowfile.specs.declared.Reading.the-variants.{Read, Refused}
-use Rattle.flowfile.specs.Format.{word, words, Entry, name-bytes, entry-bytes, entries-bytes, names-section, nodes-section, File, encode}
+use Rattle.flowfile.specs.declared.Reading.the-variants.{Refused}
+use Rattle.flowfile.specs.Format.{word, words, Entry, name-bytes, entry-bytes, entries-bytes, nodes-section, File, encode}
 use Rattle.flowfile.specs.Plan.{Ran, got, bad, run}
-use Rattle.flowfile.specs.Reading.{number, name, entry, met, new-entry, entries, name-count, names, some-count, numbers, layout, content-grounds, content-check, Outcome, refused, counts, checked, laid, reading}
-use Rattle.flowfile.specs.Limits.{GoodEntry, Follow, none, more, Within, Bytes, Stands, NamesStand, NodesStand, FileStands}
-use Rattle.flowfile.specs.Items.{refusal-of, number-at, name-at, name-end, values}
+use Rattle.flowfile.specs.Reading.{number, name, entry, met, new-entry, entries, name-count, names, some-count, numbers, layout, content-grounds, content-check, Outcome, refused, checked, laid, reading}
+use Rattle.flowfile.specs.Limits.{GoodEntry, Follow, none, more, Bytes, Stands, NamesStand, NodesStand}
+use Rattle.flowfile.specs.Items.{refusal-of, number-at, name-end}
 use Rattle.flowfile.specs.Faults.{CountFault, cut-count, none-counted, many-counted, NumbersFault, cut-number, NameFault, cut-length, low-length, high-length, cut-bytes, EntryFault, in-step, in-machine, Entering, NamesFault, cut-names, many-names, in-entry, met-again, LayoutFault, in-names, in-node-count, in-nodes, in-record-count, in-records, Refuses, no-node-room, no-record-room, in-layout, too-long, in-contents}
-use Rattle.flowfile.specs.ItemLaws.{le-or-lt, got-value, got-next, number-cut, number-got, name-short, name-low, name-high, name-cut, name-got, name-length, NameThere, name-there, entry-step-bad, entry-machine-bad, entry-got}
-use Rattle.flowfile.specs.SectionLaws.{NumberThere, name-count-bad, name-count-many, name-count-got, name-count-there, names-bad, names-from, some-count-bad, some-count-none, some-count-over, some-count-got, some-count-there, numbers-stop, numbers-got, new-entry-bad, new-entry-met, new-entry-got, new-entry-there, entries-bad, entries-more}
+use Rattle.flowfile.specs.ItemLaws.{le-or-lt, number-cut, number-got, name-short, name-low, name-high, name-cut, name-got, name-length, name-there, entry-step-bad, entry-machine-bad, entry-got}
+use Rattle.flowfile.specs.SectionLaws.{name-count-bad, name-count-many, name-count-got, name-count-there, names-bad, names-from, some-count-bad, some-count-none, some-count-over, some-count-got, some-count-there, numbers-stop, numbers-got, new-entry-bad, new-entry-met, new-entry-got, new-entry-there, entries-bad, entries-more}
 use Rattle.flowfile.specs.NameLaws.{met-among, among-met, not-met}
 use Rattle.flowfile.specs.LayoutLaws.{layout-names-bad, layout-node-count-bad, layout-nodes-bad, layout-record-count-bad, layout-records-bad, layout-got}
 use Rattle.flowfile.specs.ReaderLaws.{reading-short, reading-laid, laid-checked}
 use Rattle.flowfile.specs.StandsLaws.{stands-all, stands-move, stands-left, stands-right, stands-join, stands-head, number-reads, number-stands, name-reads, name-stands, entry-reads, entry-stands}
-use Rattle.flowfile.specs.Exact.{entries-pass, names-read, names-stand, count-reads, numbers-read, numbers-stand, words-length, layout-reads, layout-stands}
-use Rattle.flowfile.specs.Reader.{stands-whole, refused-unchanged}
+use Rattle.flowfile.specs.Exact.{entries-pass, names-read, names-stand, count-reads, numbers-read, numbers-stand, layout-reads, layout-stands}
+use Rattle.flowfile.specs.Reader.{stands-whole}
 
 -- a fault of one number and place is one of another that are equal
 moved : {A : Type 0} (F : ℕ → ℕ → Type 0) {a b k p : ℕ} → _≡_ {A = Ran A} (bad a b) (bad k p) → F a b → F k p
@@ -45,7 +44,7 @@ never : {A : Type 0} {C : Type 0} {x : Ran A} {a : A} {n k p : ℕ} → x ≡ go
 never e h = let z : _≡_ {A = ℕ} 0 1 = cc in absurd (omega arith)
 
 module _ (s : List ℕ) where
----- Counts and numbers ----
+  ---- Counts and numbers ----
 
   pub count-refused : (at zip over most : ℕ) {k p : ℕ} → CountFault s at zip over most k p → run s at (some-count zip over most) ≡ bad k p
   count-refused at zip over most (cut-count h) = some-count-bad s at zip over most (number-cut s at h)
@@ -60,15 +59,18 @@ module _ (s : List ℕ) where
     where
       F : ℕ → ℕ → Type 0
       F = CountFault s at zip over most
+
       by-most : at + 2 ≤ length s → 0 < number-at s at → (number-at s at ≤ most) ⊎ (most < number-at s at) → CountFault s at zip over most k p
       by-most h z (inl l) = never (some-count-got s at zip over most (number-got s at h) (λ q. omega arith) l) e
       by-most h z (inr l) =
           moved F (sym (some-count-over s at zip over most (number-got s at h) (λ q. omega arith) l) ∙ e) (many-counted (number-at s at) (number-here b at h) l)
+
       by-zero : at + 2 ≤ length s → (number-at s at ≤ 0) ⊎ (0 < number-at s at) → CountFault s at zip over most k p
       by-zero h (inl z) =
           let q : number-at s at ≡ 0 = omega arith in
           moved F (sym (some-count-none s at zip over most (number-got s at h) q) ∙ e) (none-counted (subst (λ (v : ℕ). Stands s at (word v)) q (number-here b at h)))
       by-zero h (inr z) = by-most h z (le-or-lt (number-at s at) most)
+
       by-number : (at + 2 ≤ length s) ⊎ (length s < at + 2) → CountFault s at zip over most k p
       by-number (inl h) = by-zero h (le-or-lt (number-at s at) 0)
       by-number (inr h) = moved F (sym (some-count-bad s at zip over most (number-cut s at h)) ∙ e) (cut-count h)
@@ -86,7 +88,7 @@ module _ (s : List ℕ) where
           let f : NumbersFault s at n 15 (at + 2 * i) = cut-number i (omega arith) (omega arith) (omega arith) in
           moved (NumbersFault s at n) (sym (numbers-refused at n f) ∙ e) f
 
----- Names and entries ----
+  ---- Names and entries ----
 
   pub name-refused : (at least : ℕ) {k p : ℕ} → NameFault s at least k p → run s at (name least) ≡ bad k p
   name-refused at least (cut-length h) = name-short s at least h
@@ -102,17 +104,22 @@ module _ (s : List ℕ) where
     where
       F : ℕ → ℕ → Type 0
       F = NameFault s at least
+
       l : ℕ
       l = getD s at 0
+
       by-end : at + 1 ≤ length s → least ≤ l → l ≤ 40 → (name-end s at ≤ length s) ⊎ (length s < name-end s at) → NameFault s at least k p
       by-end h a m (inl c) = never (name-got s at least h a m c) e
       by-end h a m (inr c) = moved F (sym (name-cut s at least h a m c) ∙ e) (cut-bytes l (byte-here at h) a m c)
+
       by-high : at + 1 ≤ length s → least ≤ l → (l ≤ 40) ⊎ (40 < l) → NameFault s at least k p
       by-high h a (inl m) = by-end h a m (le-or-lt (name-end s at) (length s))
       by-high h a (inr m) = moved F (sym (name-high s at least h m) ∙ e) (high-length l (byte-here at h) m)
+
       by-low : at + 1 ≤ length s → (least ≤ l) ⊎ (l < least) → NameFault s at least k p
       by-low h (inl a) = by-high h a (le-or-lt l 40)
       by-low h (inr a) = moved F (sym (name-low s at least h a) ∙ e) (low-length l (byte-here at h) a)
+
       by-start : (at + 1 ≤ length s) ⊎ (length s < at + 1) → NameFault s at least k p
       by-start (inl h) = by-low h (le-or-lt least l)
       by-start (inr h) = moved F (sym (name-short s at least h) ∙ e) (cut-length h)
@@ -134,6 +141,7 @@ module _ (s : List ℕ) where
           let d : mid ≡ at + length (name-bytes st) = omega (arith, t .ends) in
           moved (EntryFault s at) (sym (entry-machine-bad s at a h) ∙ e)
           (in-machine st (omega (arith, t .low)) (omega (arith, t .high)) (name-stands s at 1 t) (subst (λ (m : ℕ). NameFault s m 0 n q) d (name-fault mid 0 h)))
+
       by-step : (x : Ran (List ℕ)) → run s at (name 1) ≡ x → EntryFault s at k p
       by-step (got st mid) a = by-machine st mid a (run s mid (name 0)) refl
       by-step (bad n q) a = moved (EntryFault s at) (sym (entry-step-bad s at a) ∙ e) (in-step (name-fault at 1 a))
@@ -182,14 +190,17 @@ module _ (s : List ℕ) where
     where
       t : Entering s n es at
       t = record { few = w; follow = f; left = omega arith; stands = h; here = d }
+
       by-met : (g : Entry) (last : ℕ) {a b : ℕ} → run s at entry ≡ got g last → run s at (new-entry es) ≡ bad a b → (x : Bool) → met g es ≡ x → NamesFault s q p
       by-met g last r i true m =
           let u = entry-stands s at r in
           moved (NamesFault s) (sym (entries-bad s at es k (new-entry-met s at es r m)) ∙ e) (met-again n es at t g (u .good) (u .stands) (met-among g es m))
       by-met g last r i false m = never (new-entry-got s at es r m) i
+
       by-entry : {a b : ℕ} → run s at (new-entry es) ≡ bad a b → (x : Ran Entry) → run s at entry ≡ x → NamesFault s q p
       by-entry i (got g last) r = by-met g last r i (met g es) refl
       by-entry i (bad a b) r = moved (NamesFault s) (sym (entries-bad s at es k (new-entry-bad s at es r)) ∙ e) (in-entry n es at t (entry-fault s at r))
+
       by-new : ((at′ : ℕ) (es′ : List Entry) → n ≡ length es′ + k → Follow [] es′ → Stands s 0 (word n ++ entries-bytes es′) → at′ ≡ 2 + length (entries-bytes es′)
           → run s at′ (entries k es′) ≡ bad q p → NamesFault s q p) → (x : Ran Entry) → run s at (new-entry es) ≡ x → NamesFault s q p
       by-new rec (got g m) r =
@@ -199,7 +210,7 @@ module _ (s : List ℕ) where
           let l₁ = length-append (word n) (entries-bytes es) in
           let l₂ = length-append es (g ∷ []) in
           let l₃ : length (entries-bytes (es ++ (g ∷ []))) ≡ length (entries-bytes es) + length (entry-bytes g) =
-                ap length (entries-bytes-more es g) ∙ length-append (entries-bytes es) (entry-bytes g) in
+          ap length (entries-bytes-more es g) ∙ length-append (entries-bytes es) (entry-bytes g) in
           let j = stands-join s 0 (word n ++ entries-bytes es) (entry-bytes g) (omega arith) h (u .stands) in
           rec m (es ++ (g ∷ [])) (omega arith) (follow-more f (u .good) (not-met g es (v .new)))
           (subst (λ (xs : List ℕ). Stands s 0 xs) (append-assoc (word n) (entries-bytes es) (entry-bytes g) ∙ ap (λ (xs : List ℕ). word n ++ xs) (sym (entries-bytes-more es g))) j)
@@ -214,9 +225,11 @@ module _ (s : List ℕ) where
       by-many : 0 + 2 ≤ length s → {a c : ℕ} → run s 0 name-count ≡ bad a c → (number-at s 0 ≤ 256) ⊎ (256 < number-at s 0) → NamesFault s k p
       by-many h r (inl l) = never (name-count-got s 0 (number-got s 0 h) l) r
       by-many h r (inr l) = moved (NamesFault s) (sym (names-bad s (name-count-many s 0 (number-got s 0 h) l)) ∙ e) (many-names (number-at s 0) (number-here s b 0 h) l)
+
       by-cut : {a c : ℕ} → run s 0 name-count ≡ bad a c → (0 + 2 ≤ length s) ⊎ (length s < 0 + 2) → NamesFault s k p
       by-cut r (inl h) = by-many h r (le-or-lt (number-at s 0) 256)
       by-cut r (inr h) = moved (NamesFault s) (sym (names-bad s (name-count-bad s 0 (number-cut s 0 h))) ∙ e) (cut-names (omega arith))
+
       by-count : (x : Ran ℕ) → run s 0 name-count ≡ x → NamesFault s k p
       by-count (got v m) r =
           let t = name-count-there s 0 r in
@@ -225,7 +238,7 @@ module _ (s : List ℕ) where
           (omega (arith, t .there .ends)) (sym (names-from s r) ∙ e)
       by-count (bad a c) r = by-cut r (le-or-lt (0 + 2) (length s))
 
----- The sections ----
+  ---- The sections ----
 
   -- what stands is read, up to the nodes
   nodes-read : {es : List Entry} {at : ℕ} → NamesStand s es at → run s 0 names ≡ got es at
@@ -247,15 +260,15 @@ module _ (s : List ℕ) where
       let a = stands-left s (t .from) (word n) (words ns) (t .stands) in
       let b = stands-move s (words ns) (ap (λ (k : ℕ). t .from + k) l) (stands-right s (t .from) (word n) (words ns) (t .stands)) in
       let w : length ns ≡ 3 * n = omega (arith, t .whole) in
-      record
-        { from = t .from
-        ; n = n
-        ; names-run = nodes-read (t .names)
-        ; count-run = count-reads s (t .from) 1 3 64 n a (omega (arith, t .whole, t .some)) (omega (arith, t .whole, t .few))
-        ; nodes-run =
+      record {
+        from = t .from;
+        n = n;
+        names-run = nodes-read (t .names);
+        count-run = count-reads s (t .from) 1 3 64 n a (omega (arith, t .whole, t .some)) (omega (arith, t .whole, t .few));
+        nodes-run =
             ap (λ (k : ℕ). run s (t .from + 2) (numbers k)) (sym w) ∙ numbers-read s (t .from + 2) ns b
-            ∙ ap (got ns) (omega (arith, t .ends, length-append (word n) (words ns)))
-        }
+            ∙ ap (got ns) (omega (arith, t .ends, length-append (word n) (words ns)));
+      }
 
   nodes-stand : Bytes s → {es : List Entry} {ns : List ℕ} {from n at next : ℕ} → run s 0 names ≡ got es from → run s from (some-count 1 3 64) ≡ got n at
       → run s at (numbers (3 * n)) ≡ got ns next → NodesStand s es ns next
@@ -268,16 +281,16 @@ module _ (s : List ℕ) where
       let m : length ns / 3 ≡ n = omega (arith, d .sized) in
       let w : Stands s from (word (length ns / 3)) = subst (λ (k : ℕ). Stands s from (word k)) (sym m) (number-stands s b from n at u) in
       let l = two-bytes-long (length ns / 3) in
-      record
-        { from = from
-        ; names = a
-        ; n = n
-        ; whole = d .sized
-        ; some = c .1
-        ; few = c .0 .few
-        ; stands = stands-join s from (word (length ns / 3)) (words ns) (omega (arith, u .ends)) w (d .stands)
-        ; ends = omega (arith, d .ends, u .ends, length-append (word (length ns / 3)) (words ns))
-        }
+      record {
+        from = from;
+        names = a;
+        n = n;
+        whole = d .sized;
+        some = c .1;
+        few = c .0 .few;
+        stands = stands-join s from (word (length ns / 3)) (words ns) (omega (arith, u .ends)) w (d .stands);
+        ends = omega (arith, d .ends, u .ends, length-append (word (length ns / 3)) (words ns));
+      }
 
   pub layout-refused : {k p : ℕ} → LayoutFault s k p → run s 0 layout ≡ bad k p
   layout-refused (in-names f) = layout-names-bad s (names-refused f)
@@ -296,6 +309,7 @@ module _ (s : List ℕ) where
     where
       F : ℕ → ℕ → Type 0
       F = LayoutFault s
+
       by-records : (es : List Entry) (ns : List ℕ) (from n at mid r to : ℕ) → run s 0 names ≡ got es from → run s from (some-count 1 3 64) ≡ got n at
           → run s at (numbers (3 * n)) ≡ got ns mid → run s mid (some-count 10 11 256) ≡ got r to → (x : Ran (List ℕ)) → run s to (numbers r) ≡ x → LayoutFault s k p
       by-records es ns from n at mid r to a c d g (got rs last) h = never (layout-got s a c d g h) e
@@ -304,11 +318,13 @@ module _ (s : List ℕ) where
           let u = t .0 .there in
           let v : NumbersFault s (mid + 2) r i q = subst (λ (m : ℕ). NumbersFault s m r i q) (u .ends) (numbers-fault s to r (omega (arith, u .ends, u .inside)) h) in
           moved F (sym (layout-records-bad s a c d g h) ∙ e) (in-records es ns mid r (nodes-stand b a c d) (number-stands s b mid r to u) (t .1) (t .0 .few) v)
+
       by-record-count : (es : List Entry) (ns : List ℕ) (from n at mid : ℕ) → run s 0 names ≡ got es from → run s from (some-count 1 3 64) ≡ got n at
           → run s at (numbers (3 * n)) ≡ got ns mid → (x : Ran ℕ) → run s mid (some-count 10 11 256) ≡ x → LayoutFault s k p
       by-record-count es ns from n at mid a c d (got r to) g = by-records es ns from n at mid r to a c d g (run s to (numbers r)) refl
       by-record-count es ns from n at mid a c d (bad i q) g =
           moved F (sym (layout-record-count-bad s a c d g) ∙ e) (in-record-count es ns mid (nodes-stand b a c d) (count-fault s b mid 10 11 256 g))
+
       by-nodes : (es : List Entry) (from n at : ℕ) → run s 0 names ≡ got es from → run s from (some-count 1 3 64) ≡ got n at
           → (x : Ran (List ℕ)) → run s at (numbers (3 * n)) ≡ x → LayoutFault s k p
       by-nodes es from n at a c (got ns mid) d = by-record-count es ns from n at mid a c d (run s mid (some-count 10 11 256)) refl
@@ -317,15 +333,17 @@ module _ (s : List ℕ) where
           let u = t .0 .there in
           let v : NumbersFault s (from + 2) (3 * n) i q = subst (λ (m : ℕ). NumbersFault s m (3 * n) i q) (u .ends) (numbers-fault s at (3 * n) (omega (arith, u .ends, u .inside)) d) in
           moved F (sym (layout-nodes-bad s a c d) ∙ e) (in-nodes es from n (names-stand s b a) (number-stands s b from n at u) (t .1) (t .0 .few) v)
+
       by-node-count : (es : List Entry) (from : ℕ) → run s 0 names ≡ got es from → (x : Ran ℕ) → run s from (some-count 1 3 64) ≡ x → LayoutFault s k p
       by-node-count es from a (got n at) c = by-nodes es from n at a c (run s at (numbers (3 * n))) refl
       by-node-count es from a (bad i q) c =
           moved F (sym (layout-node-count-bad s a c) ∙ e) (in-node-count es from (names-stand s b a) (count-fault s b from 1 3 64 c))
+
       by-names : (x : Ran (List Entry)) → run s 0 names ≡ x → LayoutFault s k p
       by-names (got es from) a = by-node-count es from a (run s from (some-count 1 3 64)) refl
       by-names (bad i q) a = moved F (sym (layout-names-bad s a) ∙ e) (in-names (names-fault b a))
 
----- The reader ----
+  ---- The reader ----
 
   -- each way of a refusal is answered so
   pub refuses-refused : (nr rr : ℕ) {k p : ℕ} → Refuses s nr rr k p → reading s nr rr ≡ refused (refusal-of k p)
@@ -347,10 +365,13 @@ module _ (s : List ℕ) where
     where
       Goal : Type 0
       Goal = Refuses s nr rr (r .number) (r .place)
+
       is : {q : Refusal} → Refused q ≡ Refused r → Refuses s nr rr (q .number) (q .place) → Goal
       is {q} h x = let d : q ≡ r = cc in subst (λ (q′ : Refusal). Refuses s nr rr (q′ .number) (q′ .place)) d x
+
       answered-by : {o : Outcome} → reading s nr rr ≡ o → o .answer ≡ Refused r
       answered-by h = sym (ap (λ (o′ : Outcome). o′ .answer) h) ∙ e
+
       by-check : 192 ≤ nr → 256 ≤ rr → (f : File) (at : ℕ) → run s 0 layout ≡ got f at → length s ≤ at → (k : Check) → content-check f ≡ k
           → checked f k .answer ≡ Refused r → Goal
       by-check h l f at g w check.Fine q a = let z : _≡_ {A = ℕ} 0 1 = cc in absurd (omega arith)
@@ -358,16 +379,20 @@ module _ (s : List ℕ) where
           let t = layout-stands s b g in
           let d : s ≡ encode f = stands-whole s (encode f) (t .stands) (omega (arith, t .ends)) in
           is a (in-contents f h l (t .within) d (refused-exactly (content-grounds f) q′ .0 q))
+
       by-long : 192 ≤ nr → 256 ≤ rr → (f : File) (at : ℕ) → run s 0 layout ≡ got f at → (t : Bool) → ltb at (length s) ≡ t
           → (cond t (refused (refusal-of 21 at)) (checked f (content-check f))) .answer ≡ Refused r → Goal
       by-long h l f at g true q a = is a (too-long f at h l (layout-stands s b g) (ltb-true at (length s) q))
       by-long h l f at g false q a = by-check h l f at g (ltb-false at (length s) q) (content-check f) refl a
+
       by-run : 192 ≤ nr → 256 ≤ rr → (x : Ran File) → run s 0 layout ≡ x → laid s x .answer ≡ Refused r → Goal
       by-run h l (bad k p) g a = is a (in-layout h l (layout-fault b g))
       by-run h l (got f at) g a = by-long h l f at g (ltb at (length s)) refl a
+
       by-records : 192 ≤ nr → (256 ≤ rr) ⊎ (rr < 256) → Goal
       by-records h (inl l) = by-run h l (run s 0 layout) refl (answered-by (reading-laid s nr rr h l))
       by-records h (inr l) = is (answered-by (reading-short s nr rr (inr l))) (no-record-room l)
+
       by-nodes : (192 ≤ nr) ⊎ (nr < 192) → Goal
       by-nodes (inl h) = by-records h (le-or-lt 256 rr)
       by-nodes (inr h) = is (answered-by (reading-short s nr rr (inl h))) (no-node-room h)

@@ -1,19 +1,19 @@
 -- What the plans of counts, numbers, entries and the three sections come to, by the runs of their parts. Assumes nothing.
 use Prim.Native.Nat.{ℕ, zero, suc, _+_, _*_, _-_, _≤_, _<_}
-use mathlib.Core.Bool.{Bool, true, false, _&&_, cond}
+use mathlib.Core.Bool.{Bool, true, false, cond}
 use mathlib.Core.List.{List, [], _∷_, _++_, append-assoc}
 use mathlib.Core.Logic.{_⊎_, inl, inr}
 use mathlib.Core.Path.{_≡_, refl, ap, ap₂, sym, _∙_, subst}
 use native.Mathlib.Numerals.{add-one}
 use native.Mathlib.Omega.{arith}
-use borrow.Author.Tests.{leb-true, leb-false, le-leb, lt-leb, lt-ltb, le-ltb, eq-eqb, ne-eqb, ltb-true, ltb-false, eqb-false}
+use borrow.Author.Tests.{lt-ltb, le-ltb, eq-eqb, ne-eqb}
 use lib.Dec.{ltb, eqb}
 use lib.ListN.{length, getD, take, drop, set, length-append, length-drop}
 use lib.Seq.{drop-cons, set-at, take-at}
-use Rattle.flowfile.specs.Format.{Entry, File}
-use Rattle.flowfile.specs.Plan.{Plan, done, refuse, place, item, _>>=_, Ran, got, bad, run}
-use Rattle.flowfile.specs.Plans.{run-bind, bind-bad, bind-got}
-use Rattle.flowfile.specs.Reading.{number, entry, met, new-entry, entries, name-count, names, some-count, numbers, layout, over}
+use Rattle.flowfile.specs.Format.{Entry}
+use Rattle.flowfile.specs.Plan.{Plan, done, refuse, _>>=_, Ran, got, bad, run}
+use Rattle.flowfile.specs.Plans.{bind-bad, bind-got}
+use Rattle.flowfile.specs.Reading.{number, entry, met, new-entry, entries, name-count, names, some-count, numbers, over}
 use Rattle.flowfile.specs.Items.{number-at, values, entry-at, entry-end, entries-at, entries-end}
 use Rattle.flowfile.specs.ItemLaws.{le-or-lt, got-value, got-next, number-cut, number-got, entry-there, EntryThere}
 
@@ -89,11 +89,13 @@ module _ (s : List ℕ) (at : ℕ) where
     where
       not-bad : {k p : ℕ} → run s at name-count ≡ bad k p → CountThere s at 256 v next
       not-bad b = let z : _≡_ {A = ℕ} 0 1 = cc in absurd (omega arith)
+
       by-size : {w last : ℕ} → run s at number ≡ got w last → (w ≤ 256) ⊎ (256 < w) → CountThere s at 256 v next
       by-size {w} {last} a (inl l) =
           let q : got w last ≡ got v next = sym (name-count-got s at a l) ∙ e in
           record { there = number-there s at (a ∙ q); few = subst (λ (x : ℕ). x ≤ 256) (got-value q) l }
       by-size a (inr l) = not-bad (name-count-many s at a l)
+
       by-number : (x : Ran ℕ) → run s at number ≡ x → CountThere s at 256 v next
       by-number (got w last) a = by-size a (le-or-lt w 256)
       by-number (bad k p) a = not-bad (name-count-bad s at a)
@@ -104,6 +106,7 @@ module _ (s : List ℕ) (at : ℕ) where
       where
         not-bad : {k p : ℕ} → run s at (some-count none over most) ≡ bad k p → CountThere s at most v next × (1 ≤ v)
         not-bad b = let z : _≡_ {A = ℕ} 0 1 = cc in absurd (omega arith)
+
         by-most : {w last : ℕ} → run s at number ≡ got w last → (w ≡ 0 → ⊥) → (w ≤ most) ⊎ (most < w) → CountThere s at most v next × (1 ≤ v)
         by-most {w} {last} a n (inl l) =
             let q : got w last ≡ got v next = sym (some-count-got s at none over most a n l) ∙ e in
@@ -113,9 +116,11 @@ module _ (s : List ℕ) (at : ℕ) where
             by-zero : w ≡ v → 1 ≤ v
             by-zero d = not-zero v (λ z. n (d ∙ z))
         by-most a n (inr l) = not-bad (some-count-over s at none over most a n l)
+
         by-none : {w last : ℕ} → run s at number ≡ got w last → (w ≤ 0) ⊎ (0 < w) → CountThere s at most v next × (1 ≤ v)
         by-none a (inl z) = not-bad (some-count-none s at none over most a (omega arith))
         by-none {w} a (inr z) = by-most a (λ q. omega arith) (le-or-lt w most)
+
         by-number : (x : Ran ℕ) → run s at number ≡ x → CountThere s at most v next × (1 ≤ v)
         by-number (got w last) a = by-none a (le-or-lt w 0)
         by-number (bad k p) a = not-bad (some-count-bad s at none over most a)
@@ -182,7 +187,7 @@ module _ (s : List ℕ) where
       let n : length ns ≡ i = values-length i at in
       let n′ : length (values s (i + 1) at) ≡ suc i = values-length (i + 1) at ∙ add-one i in
       let there : over ns table ≡ ns ++ (getD table i 0 ∷ drop (suc i) table) =
-            ap (λ (k : ℕ). ns ++ drop k table) n ∙ ap (λ (xs : List ℕ). ns ++ xs) (drop-cons table i 0 h) in
+      ap (λ (k : ℕ). ns ++ drop k table) n ∙ ap (λ (xs : List ℕ). ns ++ xs) (drop-cons table i 0 h) in
       let more : values s (i + 1) at ≡ ns ++ (v ∷ []) = ap (λ (k : ℕ). values s k at) (add-one i) ∙ values-more i at in
       ap (λ (xs : List ℕ). set xs i v) there ∙ set-at ns (getD table i 0) (drop (suc i) table) v i n
       ∙ sym (ap₂ (λ (xs : List ℕ) (k : ℕ). xs ++ drop k table) more n′ ∙ append-assoc ns (v ∷ []) (drop (suc i) table))
@@ -193,7 +198,7 @@ module _ (s : List ℕ) where
       ∙ ap₂ (λ (a b : ℕ). a + b) (values-length k at) (length-drop (length (values s k at)) table ∙ ap (λ (n : ℕ). length table - n) (values-length k at))
       ∙ omega arith
 
----- Entries ----
+  ---- Entries ----
 
   pub entries-at-more : (i at : ℕ) → entries-at s (suc i) at ≡ entries-at s i at ++ (entry-at s (entries-end s i at) ∷ [])
   unfolding entries-at entries-end
@@ -239,12 +244,14 @@ module _ (s : List ℕ) (at : ℕ) (earlier : List Entry) where
     where
       not-bad : {k p : ℕ} → run s at (new-entry earlier) ≡ bad k p → NewThere e next
       not-bad b = let z : _≡_ {A = ℕ} 0 1 = cc in absurd (omega arith)
+
       by-met : {g : Entry} {last : ℕ} → run s at entry ≡ got g last → (b : Bool) → met g earlier ≡ b → NewThere e next
       by-met a true m = not-bad (new-entry-met a m)
       by-met {g} {last} a false m =
           let q : got g last ≡ got e next = sym (new-entry-got a m) ∙ h in
           let d : g ≡ e = got-value q in
           record { read = a ∙ q; there = entry-there s at (a ∙ q); new = subst (λ (x : Entry). met x earlier ≡ false) d m }
+
       by-entry : (x : Ran Entry) → run s at entry ≡ x → NewThere e next
       by-entry (got g last) a = by-met a (met g earlier) refl
       by-entry (bad k p) a = not-bad (new-entry-bad a)
@@ -297,14 +304,14 @@ module _ (s : List ℕ) where
   scan-start {v} {next} e =
       let t = name-count-there s 0 e in
       let z : v - 0 ≡ v = omega arith in
-      record
-        { some = omega arith
-        ; few = t .few
-        ; here = t .there .ends
-        ; near = omega (arith, t .there .ends)
-        ; inside = omega (arith, t .there .ends, t .there .inside)
-        ; goes-on = names-from s e ∙ ap (λ (k : ℕ). run s next (entries k [])) (sym z)
-        }
+      record {
+        some = omega arith;
+        few = t .few;
+        here = t .there .ends;
+        near = omega (arith, t .there .ends);
+        inside = omega (arith, t .there .ends, t .there .inside);
+        goes-on = names-from s e ∙ ap (λ (k : ℕ). run s next (entries k [])) (sym z);
+      }
 
   module _ {n i at : ℕ} (h : Scanned s n i at) where
     module _ (l : i < n) where
@@ -321,18 +328,18 @@ module _ (s : List ℕ) where
           let t = new-entry-there s at (entries-at s i 2) g .there in
           let d : e ≡ entry-at s (entries-end s i 2) = t .is ∙ ap (entry-at s) (h .here) in
           let more : entries-at s (i + 1) 2 ≡ entries-at s i 2 ++ (e ∷ []) =
-                ap (λ (k : ℕ). entries-at s k 2) (add-one i) ∙ entries-at-more s i 2 ∙ ap (λ (x : Entry). entries-at s i 2 ++ (x ∷ [])) (sym d) in
-          record
-            { some = omega arith
-            ; few = h .few
-            ; here = t .ends ∙ ap (entry-end s) (h .here) ∙ sym (entries-end-more s i 2) ∙ ap (λ (k : ℕ). entries-end s k 2) (sym (add-one i))
-            ; near = omega (arith, t .ends, t .short, h .near)
-            ; inside = omega (arith, t .ends, t .inside)
-            ; goes-on =
+          ap (λ (k : ℕ). entries-at s k 2) (add-one i) ∙ entries-at-more s i 2 ∙ ap (λ (x : Entry). entries-at s i 2 ++ (x ∷ [])) (sym d) in
+          record {
+            some = omega arith;
+            few = h .few;
+            here = t .ends ∙ ap (entry-end s) (h .here) ∙ sym (entries-end-more s i 2) ∙ ap (λ (k : ℕ). entries-end s k 2) (sym (add-one i));
+            near = omega (arith, t .ends, t .short, h .near);
+            inside = omega (arith, t .ends, t .inside);
+            goes-on =
                 h .goes-on ∙ ap (λ (k : ℕ). run s at (entries k (entries-at s i 2))) left-over
                 ∙ entries-more s at (entries-at s i 2) (n - (i + 1)) g
-                ∙ ap (λ (es : List Entry). run s next (entries (n - (i + 1)) es)) (sym more)
-            }
+                ∙ ap (λ (es : List Entry). run s next (entries (n - (i + 1)) es)) (sym more);
+          }
 
     pub scan-end : n ≤ i → run s 0 names ≡ got (entries-at s n 2) at
     unfolding entries run

@@ -1,7 +1,6 @@
 -- Bytes that stand at an offset: split and joined, and read as items, numbers, names and entries. Each piece of the format is read
 -- back as what it encodes, and what is read is a piece of the format. Assumes nothing.
-use Prim.Native.Nat.{ℕ, zero, suc, _+_, _*_, _-_, _/_, _%_, _≤_, _<_}
-use mathlib.Core.Bool.{Bool, true, false}
+use Prim.Native.Nat.{ℕ, suc, _+_, _/_, _%_, _≤_}
 use mathlib.Core.List.{List, [], _∷_, _++_, append-assoc, append-nil}
 use mathlib.Core.Path.{_≡_, refl, ap, ap₂, sym, _∙_, subst}
 use native.Mathlib.Nat.{add-zero}
@@ -9,12 +8,12 @@ use native.Mathlib.Numerals.{add-one}
 use native.Mathlib.Omega.{arith}
 use lib.ListN.{length, getD, take, drop, length-append, length-drop, take-append-drop}
 use lib.Seq.{take-at, drop-at, drop-drop, drop-cons, drop-length, getD-drop, length-take-le}
-use Rattle.flowfile.specs.Format.{word, words, Entry, name-bytes, entry-bytes, entries-bytes}
-use Rattle.flowfile.specs.Plan.{Plan, item, Ran, got, bad, run}
+use Rattle.flowfile.specs.Format.{word, Entry, name-bytes, entry-bytes}
+use Rattle.flowfile.specs.Plan.{got, run}
 use Rattle.flowfile.specs.Reading.{number, name, entry, numbers}
 use Rattle.flowfile.specs.Limits.{GoodEntry, Bytes, Stands}
-use Rattle.flowfile.specs.Items.{number-at, name-at, name-end, entry-at, entry-end}
-use Rattle.flowfile.specs.ItemLaws.{number-got, name-got, NameThere, name-there, name-length, entry-got, EntryRuns, entry-runs}
+use Rattle.flowfile.specs.Items.{number-at, name-at, name-end}
+use Rattle.flowfile.specs.ItemLaws.{number-got, name-got, NameThere, name-there, name-length, entry-got, entry-runs}
 use Rattle.flowfile.specs.SectionLaws.{NumberThere}
 
 ---- Split and joined ----
@@ -32,37 +31,37 @@ module _ (s : List ℕ) where
   pub stands-taken : (at n : ℕ) → at + n ≤ length s → Stands s at (take n (drop at s))
   stands-taken at n h =
       let l : length (take n (drop at s)) ≡ n = length-take-le n (drop at s) (rw length-drop (omega arith)) in
-      record
-        { begins = sym (take-append-drop n (drop at s)) ∙ ap (λ (xs : List ℕ). take n (drop at s) ++ xs) (drop-drop n at s ∙ ap (λ (k : ℕ). drop (at + k) s) (sym l))
-        ; inside = omega arith
-        }
+      record {
+        begins = sym (take-append-drop n (drop at s)) ∙ ap (λ (xs : List ℕ). take n (drop at s) ++ xs) (drop-drop n at s ∙ ap (λ (k : ℕ). drop (at + k) s) (sym l));
+        inside = omega arith;
+      }
 
   pub stands-left : (at : ℕ) (xs ys : List ℕ) → Stands s at (xs ++ ys) → Stands s at xs
   stands-left at xs ys h =
       let l = length-append xs ys in
       let rest : drop (at + length xs) s ≡ ys ++ drop (at + length (xs ++ ys)) s =
-            sym (drop-drop (length xs) at s) ∙ ap (drop (length xs)) (h .begins ∙ append-assoc xs ys _) ∙ drop-at xs _ (length xs) refl in
+      sym (drop-drop (length xs) at s) ∙ ap (drop (length xs)) (h .begins ∙ append-assoc xs ys _) ∙ drop-at xs _ (length xs) refl in
       record { begins = h .begins ∙ append-assoc xs ys _ ∙ ap (λ (zs : List ℕ). xs ++ zs) (sym rest); inside = omega (arith, h .inside) }
 
   pub stands-right : (at : ℕ) (xs ys : List ℕ) → Stands s at (xs ++ ys) → Stands s (at + length xs) ys
   stands-right at xs ys h =
       let l : at + length (xs ++ ys) ≡ (at + length xs) + length ys = omega (arith, length-append xs ys) in
-      record
-        { begins =
+      record {
+        begins =
             sym (drop-drop (length xs) at s) ∙ ap (drop (length xs)) (h .begins ∙ append-assoc xs ys _) ∙ drop-at xs _ (length xs) refl
-            ∙ ap (λ (n : ℕ). ys ++ drop n s) l
-        ; inside = omega (arith, h .inside)
-        }
+            ∙ ap (λ (n : ℕ). ys ++ drop n s) l;
+        inside = omega (arith, h .inside);
+      }
 
   pub stands-join : (at : ℕ) (xs ys : List ℕ) {next : ℕ} → next ≡ at + length xs → Stands s at xs → Stands s next ys → Stands s at (xs ++ ys)
   stands-join at xs ys {next} e h k =
       let l : next + length ys ≡ at + length (xs ++ ys) = omega (arith, length-append xs ys) in
-      record
-        { begins =
+      record {
+        begins =
             h .begins ∙ ap (λ (n : ℕ). xs ++ drop n s) (sym e) ∙ ap (λ (zs : List ℕ). xs ++ zs) (k .begins ∙ ap (λ (n : ℕ). ys ++ drop n s) l)
-            ∙ sym (append-assoc xs ys _)
-        ; inside = omega (arith, k .inside, length-append xs ys)
-        }
+            ∙ sym (append-assoc xs ys _);
+        inside = omega (arith, k .inside, length-append xs ys);
+      }
 
   pub stands-move : {at to : ℕ} (xs : List ℕ) → at ≡ to → Stands s at xs → Stands s to xs
   stands-move xs e h = subst (λ (n : ℕ). Stands s n xs) e h
@@ -78,7 +77,7 @@ module _ (s : List ℕ) where
   pub stands-tail : (at x : ℕ) (xs : List ℕ) → Stands s at (x ∷ xs) → Stands s (at + 1) xs
   stands-tail at x xs h = stands-right at (x ∷ []) xs h
 
----- Numbers ----
+  ---- Numbers ----
 
   pub number-reads : (at v : ℕ) → Stands s at (word v) → run s at number ≡ got v (at + 2)
   unfolding word
@@ -95,12 +94,12 @@ module _ (s : List ℕ) where
       let hi : v / 256 ≡ getD s (at + 1) 0 = omega (arith, t .is, b at, b (at + 1)) in
       let e : suc (at + 1) ≡ at + 2 = omega arith in
       let two : drop at s ≡ getD s at 0 ∷ (getD s (at + 1) 0 ∷ drop (at + 2) s) =
-            drop-cons s at 0 (omega (arith, t .inside))
-            ∙ ap (λ (n : ℕ). getD s at 0 ∷ drop n s) (sym (add-one at))
-            ∙ ap (λ (xs : List ℕ). getD s at 0 ∷ xs) (drop-cons s (at + 1) 0 (omega (arith, t .inside)) ∙ ap (λ (n : ℕ). getD s (at + 1) 0 ∷ drop n s) e) in
+      drop-cons s at 0 (omega (arith, t .inside))
+      ∙ ap (λ (n : ℕ). getD s at 0 ∷ drop n s) (sym (add-one at))
+      ∙ ap (λ (xs : List ℕ). getD s at 0 ∷ xs) (drop-cons s (at + 1) 0 (omega (arith, t .inside)) ∙ ap (λ (n : ℕ). getD s (at + 1) 0 ∷ drop n s) e) in
       record { begins = two ∙ ap₂ (λ (x y : ℕ). x ∷ (y ∷ drop (at + 2) s)) (sym lo) (sym hi); inside = t .inside }
 
----- Names and entries ----
+  ---- Names and entries ----
 
   pub name-reads : (at least : ℕ) (n : List ℕ) → least ≤ length n → length n ≤ 40 → Stands s at (name-bytes n) → run s at (name least) ≡ got n (at + length (name-bytes n))
   unfolding name-bytes
@@ -116,13 +115,13 @@ module _ (s : List ℕ) where
       let l : length n ≡ getD s at 0 = ap length (t .bytes) ∙ length-take-le (getD s at 0) (drop (at + 1) s) (rw length-drop (omega (arith, t .inside))) in
       let e : name-end s at ≡ at + length (length n ∷ n) = omega arith in
       let tail : drop (at + 1) s ≡ n ++ drop (name-end s at) s =
-            sym (take-append-drop (getD s at 0) (drop (at + 1) s)) ∙ ap₂ _++_ (sym (t .bytes)) (drop-drop (getD s at 0) (at + 1) s) in
-      record
-        { begins =
+      sym (take-append-drop (getD s at 0) (drop (at + 1) s)) ∙ ap₂ _++_ (sym (t .bytes)) (drop-drop (getD s at 0) (at + 1) s) in
+      record {
+        begins =
             drop-cons s at 0 (omega (arith, t .inside)) ∙ ap (λ (k : ℕ). getD s at 0 ∷ drop k s) (sym (add-one at))
-            ∙ ap₂ (λ (x : ℕ) (xs : List ℕ). x ∷ xs) (sym l) (tail ∙ ap (λ (k : ℕ). n ++ drop k s) e)
-        ; inside = omega (arith, t .inside)
-        }
+            ∙ ap₂ (λ (x : ℕ) (xs : List ℕ). x ∷ xs) (sym l) (tail ∙ ap (λ (k : ℕ). n ++ drop k s) e);
+        inside = omega (arith, t .inside);
+      }
 
   pub entry-reads : (at : ℕ) (e : Entry) → GoodEntry e → Stands s at (entry-bytes e) → run s at entry ≡ got e (at + length (entry-bytes e))
   unfolding entry-bytes
@@ -148,8 +147,8 @@ module _ (s : List ℕ) where
       let la : length (e .step) ≡ getD s at 0 = ap length (u .bytes) ∙ name-length s at (u .inside) in
       let lb : length (e .machine) ≡ getD s (r .mid) 0 = ap length (v .bytes) ∙ name-length s (r .mid) (v .inside) in
       let m : r .mid ≡ at + length (name-bytes (e .step)) = omega (arith, u .ends) in
-      record
-        { good = record { step-some = omega (arith, u .low); step-few = omega (arith, u .high); machine-few = omega (arith, v .high) }
-        ; stands = stands-join at (name-bytes (e .step)) (name-bytes (e .machine)) m a b
-        ; ends = omega (arith, v .ends, length-append (name-bytes (e .step)) (name-bytes (e .machine)))
-        }
+      record {
+        good = record { step-some = omega (arith, u .low); step-few = omega (arith, u .high); machine-few = omega (arith, v .high) };
+        stands = stands-join at (name-bytes (e .step)) (name-bytes (e .machine)) m a b;
+        ends = omega (arith, v .ends, length-append (name-bytes (e .step)) (name-bytes (e .machine)));
+      }

@@ -4,33 +4,42 @@
 use flow::Check;
 use flow::Refusal;
 ghost use mathlib.Core.Bool.{true};
-ghost use mathlib.Core.List.{List, _++_};
 ghost use mathlib.Core.Path.{_≡_};
-ghost use Prim.Native.Nat.{ℕ, _+_, _*_, _<_, _≤_};
-ghost use lib.Dec.{leb, eqb};
-ghost use lib.ListN.{length, getD, take, drop};
+ghost use Prim.Native.Nat.{_+_, _*_, _<_, _≤_};
+ghost use lib.ListN.{length};
 ghost use Rattle.flow.specs.Refusals.{first};
-ghost use Rattle.flowfile.specs.Format.{Entry};
 ghost use Rattle.flowfile.specs.Plan.{run};
 ghost use Rattle.flowfile.specs.Reading.{number, name, entry, new-entry, names, name-count, some-count, numbers, layout, same, same-entry, met, unnamed-leaf, unnamed-event, leaves-grounds, events-grounds, grounds-of, over};
-ghost use Rattle.flowfile.specs.Items.{refusal-of, answered, laid-out, number-at, values, name-at, name-end, entry-at, entry-end, entries-at, entries-end, Behind, Placed, ReadAs};
+ghost use Rattle.flowfile.specs.Items.{refusal-of, answered, laid-out, values, name-at, name-end, entry-at, entry-end, entries-at, entries-end, Behind, Placed, ReadAs};
 
 // The refusals of the reader's own, by document 01's numbers.
 const NO_NODES: u16 = 1;
+
 const TOO_MANY_NODES: u16 = 3;
+
 const NO_RECORDS: u16 = 10;
+
 const TOO_MANY_RECORDS: u16 = 11;
+
 const NO_ROOM: u16 = 14;
+
 const CUT: u16 = 15;
+
 const TOO_MANY_NAMES: u16 = 16;
+
 const BAD_LENGTH: u16 = 17;
+
 const SAME_ENTRY: u16 = 18;
+
 const NO_NAME_FOR_NODE: u16 = 19;
+
 const NO_NAME_FOR_RECORD: u16 = 20;
+
 const TOO_LONG: u16 = 21;
 
 // What the two tables must hold: three numbers for each of 64 nodes, and 256 records.
 const NODE_ROOM: usize = 192;
+
 const RECORD_ROOM: usize = 256;
 
 // A place in the file, in bytes.

@@ -1,6 +1,6 @@
 -- The functions of the search over their locals: what a visit needs and gives (`visit`), the successor's stretch and what comes
 -- back of it (`follow`), and what stays as it was between two successors (`visit_each`). Assumes nothing.
-use Prim.Native.Nat.{ℕ, zero, suc, _+_, _-_, _*_, _/_, _≤_, _<_}
+use Prim.Native.Nat.{ℕ, suc, _+_, _-_, _*_, _≤_, _<_}
 use mathlib.Core.Path.{_≡_, refl, sym, ap, _∙_, subst}
 use mathlib.Core.Bool.{false}
 use mathlib.Core.Logic.{_≢_}
@@ -9,10 +9,10 @@ use native.Mathlib.Omega.{arith}
 use lib.ListN.{length, take, drop, getD, length-append, length-drop}
 use lib.Seq.{paste, getD-drop, drop-at, take-all}
 use borrow.Rule.Slice.PartMut.{putMid, midOf, same-len-mid}
-use Rattle.calculus.specs.Records.{Record, State, Closed, ClosedTwice, Fits}
+use Rattle.calculus.specs.Records.{Record, State, Fits}
 use Rattle.calculus.specs.Search.{next}
 use Rattle.calculus.specs.Found.{next-moves, fits-moves}
-use Rattle.calculus.specs.Budget.{Out as Found, spent, visitB}
+use Rattle.calculus.specs.Budget.{spent, visitB}
 use Rattle.flow.specs.Records.{record-of, records}
 use Rattle.flow.specs.Refusals.{count, root, no-record}
 use Rattle.tallies.specs.Capped.{cap}

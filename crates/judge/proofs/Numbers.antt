@@ -1,7 +1,7 @@
 -- What the numbers of records are: those that pass check 12, and, where the closings are as a state needs, a record that is not
 -- the last, and the last one. Assumes nothing.
 use Prim.Native.Nat.{ℕ, _≤_, _<_}
-use mathlib.Core.Path.{_≡_, refl, sym, ap, _∙_, subst}
+use mathlib.Core.Path.{_≡_, refl, subst}
 use mathlib.Core.Bool.{Bool, true, false, cond}
 use mathlib.Core.List.{List, [], _∷_}
 use mathlib.Core.Logic.{_⊎_, inl, inr}
@@ -11,11 +11,11 @@ use lib.Dec.{eqb}
 use lib.ListN.{length, getD}
 use borrow.Author.Tests.{ne-eqb, lt-leb, le-leb}
 use Rattle.calculus.specs.Term.{Closing, done, withdrawn, failed}
-use Rattle.calculus.specs.Records.{Record, event, close, State, Closed, ClosedTwice, turn, Fits}
+use Rattle.calculus.specs.Records.{Record, event, close, Closed, ClosedTwice, turn, Fits}
 use Rattle.flow.specs.Records.{done-number, withdrawn-number, failed-number, is-event-number, is-closing-number, record-of, records}
-use Rattle.flow.specs.Refusals.{Ground, no-record, value-grounds, values-grounds, values-check}
+use Rattle.flow.specs.Refusals.{no-record, value-grounds, values-grounds, values-check}
 use Rattle.flow.specs.Tests.{is-false}
-use Rattle.flow.specs.FirstRefusal.{None, none, more, fine-exactly, none-each}
+use Rattle.flow.specs.FirstRefusal.{None, more, fine-exactly, none-each}
 use Rattle.flow.specs.declared.Check.the-variants.{Fine}
 use Rattle.judge.specs.declared.Role.{Role}
 use Rattle.judge.specs.declared.Role.the-variants.{Standard, Running, Left}

@@ -1,23 +1,23 @@
 -- One record: the counting pass, the steps and the choice of a compensation give what the functions over a role promise.
 -- `i` is the root's number, as the code has it. Assumes nothing.
-use Prim.Native.Nat.{ℕ, zero, suc, _-_, _≤_, _<_}
-use mathlib.Core.Path.{_≡_, refl, sym, ap, _∙_, subst}
+use Prim.Native.Nat.{ℕ, suc, _-_, _≤_, _<_}
+use mathlib.Core.Path.{_≡_, sym, ap, _∙_, subst}
 use mathlib.Core.Bool.{Bool, true, false, cond}
 use mathlib.Core.Logic.{_≢_}
 use mathlib.Core.List.{List, [], _∷_, map}
 use native.Mathlib.Omega.{arith}
-use lib.Dec.{T, ltb}
+use lib.Dec.{T}
 use lib.ListN.{length, length-map}
 use borrow.Author.Tests.{lt-ltb, le-ltb}
 use Rattle.calculus.specs.Term.{Closing, done, withdrawn, failed, Std}
-use Rattle.calculus.specs.Records.{Record, event, close, State, over, std, cmp, Fits}
+use Rattle.calculus.specs.Records.{State, over, std, cmp, Fits}
 use Rattle.calculus.specs.Successors.{only, ends, steps, comps, csteps}
 use Rattle.calculus.specs.Search.{next}
-use Rattle.calculus.specs.Budget.{Out as Found, spent, back, bump, chain, triesB, visitB}
+use Rattle.calculus.specs.Budget.{spent, back, chain, triesB, visitB}
 use Rattle.flow.specs.Records.{done-number, failed-number, record-of, records}
 use Rattle.flow.specs.Refusals.{root}
 use Rattle.tallies.specs.Capped.{cap}
-use Rattle.tallies.specs.Counts.{moves, view, tally, word}
+use Rattle.tallies.specs.Counts.{moves, view, tally}
 use Rattle.tallies.specs.Formulas.{byW, closing, oneG}
 use Rattle.tallies.specs.PlacesLaws.{at-map}
 use Rattle.tallies.specs.Places.{At}
@@ -30,8 +30,7 @@ use Rattle.states.specs.Stored.{stored}
 use Rattle.states.specs.Contracts.{Spot, CountedStd, CountedLeft, CountedRun, weight-of, Chosen, SteppedStd, SteppedRun, SteppedLeft}
 use Rattle.judge.specs.declared.Role.{Role}
 use Rattle.judge.specs.declared.Role.the-variants.{Standard, Running, Left}
-use Rattle.judge.specs.declared.Out.the-variants.{Spent, Back}
-use Rattle.judge.specs.Visits.{state, role-next, out-of, closing-of, ends-by, onward, Inner, RightCounts, successor-count, Counted, Applied}
+use Rattle.judge.specs.Visits.{state, role-next, closing-of, ends-by, onward, Inner, RightCounts, successor-count, Counted, Applied}
 use Rattle.judge.proofs.Numbers.{record-event, record-close, last-close, not-twice}
 
 -- Successors, by the role -------------------------------------------------------------------------------------------------

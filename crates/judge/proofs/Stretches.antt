@@ -1,21 +1,20 @@
 -- The stretches of the work bytes. In order: lists that agree from a place on; a copy of the modes behind the state; a part that
 -- is lent up to the end and comes back; what a search leaves alone; and that a state is only in its own modes. Assumes nothing.
-use Prim.Native.Nat.{ℕ, suc, _+_, _-_, _*_, _/_, _≤_, _<_}
+use Prim.Native.Nat.{ℕ, suc, _+_, _-_, _*_, _≤_, _<_}
 use mathlib.Core.Path.{_≡_, refl, sym, ap, _∙_, subst}
-use mathlib.Core.List.{List, [], _∷_, _++_, append-assoc, append-nil}
+use mathlib.Core.List.{List, [], _++_, append-assoc, append-nil}
 use native.Mathlib.Omega.{arith}
 use native.Mathlib.Numerals.{add-one}
 use native.Mathlib.Nat.{mul-suc}
 use lib.Dec.{T}
-use lib.ListN.{length, take, drop, getD, set, length-append, length-drop, List·getD-append, drop-of-length-le}
+use lib.ListN.{length, take, drop, getD, set, length-drop, List·getD-append, drop-of-length-le}
 use lib.Seq.{paste, paste-suc, length-paste, drop-paste, getD-take, getD-drop, length-take-le, take-at, drop-at, take-all, drop-drop, ext-getD}
 use borrow.Rule.Slice.PartMut.{putMid, midOf}
-use Rattle.calculus.specs.Records.{State, std, cmp}
+use Rattle.calculus.specs.Records.{std, cmp}
 use Rattle.flow.specs.Kinds.{shape}
 use Rattle.flow.specs.Nodes.{Under, under-le}
 use Rattle.flow.specs.Refusals.{count, root}
-use Rattle.states.specs.State.{part, modes, counts}
-use Rattle.states.specs.Stored.{stored}
+use Rattle.states.specs.State.{modes, counts}
 use Rattle.states.specs.StateLaws.{part-frame, stored-frame}
 use Rattle.states.specs.Contracts.{Sound, Kept}
 use Rattle.judge.specs.declared.Role.{Role}

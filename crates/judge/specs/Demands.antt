@@ -2,17 +2,14 @@
 -- stands under the words that it keeps; `judge` itself ensures the record `Judged` for every input (src/lib.rt).
 -- The definitions it is stated with: Judged and Given; of the calculus Records, Search and Laws; of flow Refusals and Draws.
 -- Theorems only. Assumes nothing.
-use Prim.Native.Nat.{ℕ, _+_, _*_, _<_, _≤_}
+use Prim.Native.Nat.{ℕ, _<_, _≤_}
 use mathlib.Core.Path.{_≡_, refl, sym, ap, _∙_, subst}
-use mathlib.Core.Bool.{Bool, true, false}
-use mathlib.Core.List.{List, [], _∷_, _++_}
+use mathlib.Core.List.{List}
 use mathlib.Core.Logic.{_↔_}
 use native.Mathlib.Omega.{arith}
-use lib.Dec.{T}
-use lib.ListN.{length, length-map, replicate}
+use lib.ListN.{length, length-map}
 use Rattle.calculus.specs.Records.{Record, State, Complete, InTraces, Follows}
 use Rattle.calculus.specs.Search.{visit, Verdict}
-use Rattle.calculus.specs.Search as search
 use Rattle.calculus.specs.Laws.{Redrawn}
 use Rattle.calculus.specs.Found.{found-complete, place-follows, place-longest}
 use Rattle.calculus.specs.Redrawn.{complete-traces, Alike, redrawn-alike}
@@ -28,7 +25,7 @@ use Rattle.judge.specs.declared.Answer.{Answer}
 use Rattle.judge.specs.Judged.{Word, Told, told, verdict, refusal, room-wanted, judge-check, answer-of, judged, cleared, work-after, Judged}
 use Rattle.judge.specs.Given.{Passes, Given}
 use Rattle.judge.specs.Refused.{passes-exactly}
-use Rattle.judge.specs.Verdicts.{not-undecided-word, not-accepted-word, Decided, undecides, accepts, rejects, decided-told, fine-decided, not-refused-fine, told-refused, refusal-told, refused-is, fine-is, refused-bytes, fine-bytes, records-decide, redrawn-records}
+use Rattle.judge.specs.Verdicts.{not-undecided-word, not-accepted-word, Decided, undecides, accepts, rejects, decided-told, not-refused-fine, told-refused, refusal-told, refused-is, fine-is, refused-bytes, fine-bytes, records-decide, redrawn-records}
 
 ---- Demand 1 ----
 -- "The judge takes every flow, record list and file, damaged ones included, and always ends. It refuses bad input itself, by the

@@ -4,9 +4,8 @@
 -- `judge` refuses. Assumes nothing.
 use Prim.Native.Nat.{ℕ, _+_, _<_}
 use mathlib.Core.Path.{_≡_}
-use mathlib.Core.Bool.{Bool, true, false}
+use mathlib.Core.Bool.{true, false}
 use mathlib.Core.List.{List}
-use lib.Dec.{T}
 use lib.ListN.{length, getD}
 use Rattle.flow.specs.Refusals.{count, no-nodes, not-whole, too-many-nodes, unknown-kind, wrong-field, not-lower, wrong-sort, child-taken, nobodys-child, no-records, too-many-records, no-record, wrong-closings, after-closings, closings-wanted}
 use Rattle.flow.specs.Children.{FineNode}

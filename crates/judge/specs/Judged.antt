@@ -2,7 +2,7 @@
 -- allowance, refused ones too. `told` gives document 01's word, number, place and count for each case of the answer, and every
 -- promise is stated of it. `ns` are the numbers of the nodes, `rs` those of the records.
 -- Definitions only: Given has the refusal table row by row, Demands the promises. Assumes nothing.
-use Prim.Native.Nat.{ℕ, _+_, _*_, _≤_}
+use Prim.Native.Nat.{ℕ, _+_, _*_}
 use mathlib.Core.Path.{_≡_}
 use mathlib.Core.Bool.{Bool}
 use mathlib.Core.List.{List, [], _∷_, _++_}

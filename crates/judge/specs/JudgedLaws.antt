@@ -1,20 +1,18 @@
 -- What ties the code of `judge` to its outcome: all modes 0 are the drawn flow (`state-drawn`), a table and records that pass are
 -- what a visit asks (`ready`), the code's three checks are one (`table-refuses` to `all-pass`), and clearing, visiting and clearing
 -- again give the answer and leave the bytes as promised (`searched`). Assumes nothing.
-use Prim.Native.Nat.{ℕ, zero, suc, _+_, _*_, _-_, _/_, max, _<_, _≤_}
+use Prim.Native.Nat.{ℕ, zero, suc, _+_, _*_, _-_, _<_, _≤_}
 use mathlib.Core.Path.{_≡_, refl, sym, ap, _∙_, subst}
-use mathlib.Core.Bool.{Bool, true, false, not, cond}
+use mathlib.Core.Bool.{Bool, true, false, cond}
 use mathlib.Core.List.{List, [], _∷_, _++_}
-use mathlib.Core.Logic.{_↔_}
 use native.Mathlib.Omega.{arith}
 use native.Mathlib.Nat.{mul-le-mul, mul-suc}
 use native.Mathlib.Numerals.{add-one}
-use lib.Dec.{T, ltb}
 use lib.ListN.{length, getD, set, drop, replicate, length-append, length-replicate, length-drop, getD-replicate, List·getD-append, length-map}
 use lib.Seq.{drop-drop, drop-at}
 use borrow.Author.Tests.{ltb-false, lt-ltb}
 use borrow.Author.Fill.{fill-more}
-use Rattle.calculus.specs.Term.{Std, Cmp, seq, alt, par, hnd, blk, pair, cseq, calt, cpar}
+use Rattle.calculus.specs.Term.{seq, alt, par, hnd, blk, pair, cseq, calt, cpar}
 use Rattle.calculus.specs.Records.{Record, State, over, std, cmp, Fits}
 use Rattle.calculus.specs.Search.{next}
 use Rattle.calculus.specs.Search as search
@@ -23,10 +21,10 @@ use Rattle.flow.specs.declared.Refusal.{Refusal}
 use Rattle.flow.specs.declared.Check.{Check}
 use Rattle.flow.specs.declared.Check.the-variants.{Fine}
 use Rattle.flow.specs.declared.Check.the-variants as check
-use Rattle.flow.specs.Nodes.{Under, Tree, under-le}
+use Rattle.flow.specs.Nodes.{Tree, under-le}
 use Rattle.flow.specs.Kinds.{Kind, kind, is-standard, one-of, two-of, shape}
 use Rattle.flow.specs.Records.{record-of, records}
-use Rattle.flow.specs.Refusals.{count, root, first, or-else-check, refused, table-check, records-check, closings-check, wrong-closings, too-many-records}
+use Rattle.flow.specs.Refusals.{count, root, first, or-else-check, refused, table-check, records-check, too-many-records}
 use Rattle.flow.specs.FirstRefusal.{single-held}
 use Rattle.flow.specs.FineTable.{FineTable, fine-table, fine-tree}
 use Rattle.flow.specs.Draws.{Draws, at-event, at-skip, at-throw, at-yield, at-seq, at-alt, at-par, at-hnd, at-blk, at-pair, at-cseq, at-calt, at-cpar, at-skipp, at-throww, at-yieldd, flow-of}
@@ -34,7 +32,6 @@ use Rattle.flow.specs.OneFlow.{flow-standard, flow-compensable, flow-drawn}
 use Rattle.flow.specs.RecordsFit.{records-fit}
 use Rattle.states.specs.State.{Part, build, part, modes}
 use Rattle.states.specs.StateLaws.{part-of, part-frame}
-use Rattle.states.specs.Contracts.{Sound}
 use Rattle.judge.specs.declared.Answer.{Answer}
 use Rattle.judge.specs.declared.Answer.the-variants.{Refused}
 use Rattle.judge.specs.declared.Role.{Role}
@@ -45,7 +42,7 @@ use Rattle.judge.specs.Judged.{room-wanted, too-short, room-grounds, jud
 use Rattle.judge.specs.Given.{Passes}
 use Rattle.judge.specs.Refused.{passes-exactly, table-passes, closings-pass, records-within}
 use Rattle.judge.specs.Verdicts.{check-parts, roomy-fine, fine-is, refused-bytes, fine-bytes}
-use Rattle.judge.specs.Visits.{state, out-of, stretches, Known, Ready, Used, Visited}
+use Rattle.judge.specs.Visits.{state, out-of, stretches, Ready, Used, Visited}
 use Rattle.judge.specs.Settled.{role-of, Within, answer-to}
 
 ---- All modes 0 are the drawn flow ----

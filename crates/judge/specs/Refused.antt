@@ -13,7 +13,7 @@ use borrow.Author.Tests.{ltb-false}
 use Rattle.flow.specs.declared.Refusal.{Refusal}
 use Rattle.flow.specs.declared.Check.the-variants.{Fine}
 use Rattle.flow.specs.declared.Check.the-variants as check
-use Rattle.flow.specs.Refusals.{Ground, first, each, count, no-nodes, not-whole, too-many-nodes, unknown-kind, wrong-field, not-lower, wrong-sort, child-taken, nobodys-child, no-records, too-many-records, no-record, wrong-closings, node-grounds, child-grounds, nodes-grounds, table-grounds, value-grounds, values-grounds, closing-grounds, records-grounds, table-check, closings-check, records-check}
+use Rattle.flow.specs.Refusals.{Ground, each, count, no-nodes, not-whole, too-many-nodes, unknown-kind, wrong-field, not-lower, wrong-sort, child-taken, nobodys-child, no-records, too-many-records, no-record, wrong-closings, node-grounds, child-grounds, nodes-grounds, table-grounds, value-grounds, values-grounds, closing-grounds, records-grounds, table-check, closings-check, records-check}
 use Rattle.flow.specs.Tests.{is-true, is-false}
 use Rattle.flow.specs.FirstRefusal.{First, here, later, None, none, more, refused-exactly, fine-exactly, none-append, none-each}
 use Rattle.flow.specs.Children.{FineNode, fine-node}

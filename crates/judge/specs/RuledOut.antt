@@ -1,15 +1,14 @@
 -- 01, "How tight the contracts are": the four judges that the contract rules out, each by an input on which it answers or leaves
 -- something else. The flow is the worked example's, [a÷b;THROWW], in a table of six nodes; all lines follow from the definitions by
 -- computation. Assumes nothing.
-use Prim.Native.Nat.{ℕ, _<_}
+use Prim.Native.Nat.{ℕ}
 use mathlib.Core.Path.{_≡_, refl}
 use mathlib.Core.List.{List, [], _∷_, _++_, map}
 use mathlib.Core.Bool.{xor}
-use lib.ListN.{length, replicate}
-use Rattle.calculus.specs.Search.{visit}
+use lib.ListN.{replicate}
 use Rattle.calculus.specs.Search as search
 use Rattle.flow.specs.Nodes.{fold}
-use Rattle.flow.specs.Records.{records, record-of, is-event-number, is-closing-number}
+use Rattle.flow.specs.Records.{record-of, is-event-number, is-closing-number}
 use Rattle.flow.specs.Refusals.{first, answer, or-else-check, each, no-nodes, not-whole, too-many-nodes, unknown-kind, wrong-field, not-lower, is-child, taken, wrong-sort, child-taken, nobodys-child, no-records, too-many-records, no-record, closings-wanted, closed, wrong-closings, after-closings, node-grounds, child-grounds, nodes-grounds, table-grounds, value-grounds, values-grounds, closing-grounds, records-grounds}
 use Rattle.flow.specs.Draws.{part, drawn, flow-of}
 use Rattle.judge.specs.Judged.{Word, Told, told, verdict, refusal, room-wanted, too-short, room-grounds, judge-grounds, judge-check, answer-of, unless-refused, judged, cleared, unless-refused-bytes, work-after}

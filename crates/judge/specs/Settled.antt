@@ -1,7 +1,7 @@
 -- What the judge's own helpers promise: the role of the root, and the answer that comes of what a search brought back.
 -- Definitions only. Assumes nothing.
 use Prim.Native.Nat.{ℕ, _-_, _≤_}
-use mathlib.Core.Bool.{Bool, true, false, cond}
+use mathlib.Core.Bool.{true, false, cond}
 use mathlib.Core.List.{List}
 use Rattle.calculus.specs.Budget.{Out as Found, spent, back}
 use Rattle.flow.specs.Kinds.{kind, is-standard}

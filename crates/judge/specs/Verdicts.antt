@@ -1,26 +1,24 @@
 -- What the demands rest on: an answer told is a refusal or what the search decided (`refusal-told`, `decided-told`), the judge's
 -- check in its parts (`check-parts`), and flows redrawn want the same closings (`redrawn-closings`). Assumes nothing.
-use Prim.Native.Nat.{ℕ, _+_, _*_, _-_, _<_, _≤_}
+use Prim.Native.Nat.{ℕ, _+_, _-_, _<_, _≤_}
 use mathlib.Core.Path.{_≡_, refl, sym, ap, _∙_, subst}
-use mathlib.Core.Bool.{Bool, true, false, not, cond}
-use mathlib.Core.List.{List, [], _∷_, _++_}
+use mathlib.Core.Bool.{Bool, true, false, cond}
+use mathlib.Core.List.{List, _++_}
 use mathlib.Core.Logic.{_↔_}
-use native.Mathlib.Omega.{arith}
-use lib.Dec.{T, leb, ltb}
-use lib.ListN.{length, length-map}
+use lib.Dec.{T, leb}
+use lib.ListN.{length}
 use borrow.Author.Tests.{le-ltb, leb-true, leb-false}
 use Rattle.calculus.specs.Term.{Std, Cmp}
-use Rattle.calculus.specs.Records.{Record, State, over, std, cmp}
-use Rattle.calculus.specs.Search.{Seen, visit, Verdict, settle}
+use Rattle.calculus.specs.Records.{Record, State, std, cmp}
+use Rattle.calculus.specs.Search.{visit, settle}
 use Rattle.calculus.specs.Search as search
 use Rattle.calculus.specs.Laws.{Redrawn}
-use Rattle.calculus.specs.Redrawn.{Alike, both-accepted, both-rejected, first-undecided, second-undecided, redrawn-alike}
 use Rattle.flow.specs.declared.Refusal.{Refusal}
 use Rattle.flow.specs.declared.Check.{Check}
 use Rattle.flow.specs.declared.Check.the-variants.{Fine}
 use Rattle.flow.specs.declared.Check.the-variants as check
 use Rattle.flow.specs.Kinds.{kind, is-standard}
-use Rattle.flow.specs.Records.{record-of, records}
+use Rattle.flow.specs.Records.{records}
 use Rattle.flow.specs.Refusals.{root, first, or-else-check, table-check, records-check, table-grounds, records-grounds, closing-grounds, wrong-closings, closings-wanted}
 use Rattle.flow.specs.FirstRefusal.{first-append, single-passed}
 use Rattle.flow.specs.Draws.{flow-of}

@@ -1,10 +1,10 @@
 -- What the functions of the counted search promise: the state that a stretch of the work bytes holds in a role, what a search
 -- brings back, and for each function what it asks and what it leaves, as records that the contracts name. Definitions only; the
 -- search itself and its count are defined in the crate calculus (Search, Budget). Assumes nothing.
-use Prim.Native.Nat.{ℕ, _+_, _*_, _<_, _≤_}
+use Prim.Native.Nat.{ℕ, _*_, _<_, _≤_}
 use mathlib.Core.Path.{_≡_}
 use mathlib.Core.Bool.{Bool, false, cond}
-use mathlib.Core.List.{List, [], _∷_}
+use mathlib.Core.List.{List}
 use lib.Dec.{T, eqb, ltb}
 use lib.ListN.{length, getD, take, drop}
 use Rattle.calculus.specs.Term.{Closing, done, withdrawn, failed}
@@ -21,7 +21,6 @@ use Rattle.states.specs.Stored.{stored}
 use Rattle.states.specs.Contracts.{Sound, Kept}
 use Rattle.judge.specs.declared.Role.{Role}
 use Rattle.judge.specs.declared.Role.the-variants.{Standard, Running, Left}
-use Rattle.judge.specs.declared.Trip.{Trip}
 use Rattle.judge.specs.declared.Out.{Out}
 use Rattle.judge.specs.declared.Out.the-variants.{Spent, Back}
 

@@ -3,11 +3,9 @@ use flow::Check;
 use flow::Refusal;
 use tallies::View;
 use tallies::Weight;
-
-
 ghost use mathlib.Core.Path.{_≡_};
 ghost use mathlib.Core.List.{[], _∷_};
-ghost use Prim.Native.Nat.{_+_, _*_, _<_, _≤_, _-_, max};
+ghost use Prim.Native.Nat.{_+_, _*_, _<_, _≤_, max};
 ghost use lib.ListN.{length, getD};
 ghost use lib.Seq.{paste};
 ghost use Rattle.calculus.specs.Records.{Fits, over};
@@ -65,6 +63,7 @@ fn small(number: u16) -> u8
     }
 }
 
+// Whether what is viewed can end by this closing.
 fn ends_by(v: View, number: u16) -> bool
     ensures { λ r. ⌜ r ≡ ends-by v (closing-of number) ⌝ }
 {
@@ -75,6 +74,7 @@ fn ends_by(v: View, number: u16) -> bool
     }
 }
 
+// The last node is the root.
 fn root_of(ns: &[u16]) -> usize
     requires { ⌜ 3 ≤ length (now ns) ⌝ }
     ensures { λ r. ⌜ r ≡ root (now (ns .entry)) ⌝ }
@@ -144,6 +144,7 @@ fn apply(ns: &[u16], number: u16, c: &[u32; 64], t: &mut [u8], role: Role, k: u3
     }
 }
 
+// A closing makes of a part that runs its compensation.
 fn role_after(role: Role, number: u16) -> Role
     ensures { λ r. ⌜ r ≡ role-next role number ⌝ }
 {
@@ -220,6 +221,7 @@ fn visit(ns: &[u16], rs: &[u16], work: &mut [u8], role: Role, left: u32) -> Out
     }
 }
 
+// How many records at most were followed: so far, or by way of a successor, whose own record counts too.
 fn further(far: u32, below: u32) -> u32
     requires { ⌜ below < 4294967295 ⌝ }
     ensures { λ r. ⌜ r ≡ max far (below + 1) ⌝ }
@@ -319,7 +321,11 @@ fn role_of(nodes: &[u16]) -> Role
     ensures { λ r. ⌜ r ≡ role-of (now (nodes .entry)) ⌝ }
 {
     let form = flow::form_at(nodes, nodes.len() / 3 - 1);
-    if form.standard { Role::Standard } else { Role::Running }
+    if form.standard {
+        Role::Standard
+    } else {
+        Role::Running
+    }
 }
 
 // The answer that comes of a search through so many records.

@@ -5,7 +5,6 @@
 use tallies::Tally;
 use tallies::Weight;
 use tallies::Word;
-
 ghost use mathlib.Core.Path.{_≡_};
 ghost use mathlib.Core.Bool.{cond};
 ghost use Prim.Native.Nat.{_+_, _*_, _<_};

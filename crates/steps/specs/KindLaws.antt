@@ -1,9 +1,8 @@
 -- Steps of a part of two by the number of its kind, over terms: which part makes the step, at which place, and what the whole
 -- becomes. The same of the events, of the leaves without steps, of pairs and of compensations of two parts. Assumes nothing.
 use Prim.Native.Nat.{ℕ, _-_, _<_, _≤_}
-use mathlib.Core.Path.{_≡_, refl, sym, _∙_, ap, subst}
+use mathlib.Core.Path.{_≡_, refl, sym, ap, subst}
 use mathlib.Core.Bool.{Bool, true, false, _&&_, cond}
-use mathlib.Core.List.{List}
 use mathlib.Core.Logic.{_≢_, ⊎-elim}
 use native.Mathlib.Omega.{arith}
 use native.Mathlib.Nat.{eq-or-lt-of-le}
@@ -12,7 +11,7 @@ use lib.ListN.{length, List·getD-eq-default}
 use borrow.Author.Tests.{eqb-true, ne-eqb}
 use Rattle.calculus.specs.Term.{done, failed, Std, leaf, ev, skip, throw, yield, seq, blk, skipp, cseq, held}
 use Rattle.calculus.specs.Successors.{steps, comps, csteps}
-use Rattle.flow.specs.Kinds.{Kind, Event, Skip, Throw, Yield, Seq, Alt, Par, Hnd, Blk, Pair, CSeq, CAlt, CPar, Skipp, Throww, Yieldd, Unknown, kinds, kindOf}
+use Rattle.flow.specs.Kinds.{Kind, Event, Seq, Alt, Hnd, Blk, Pair, CSeq, CAlt, CPar, Unknown, kinds, kindOf}
 use Rattle.tallies.specs.Capped.{cap}
 use Rattle.tallies.specs.Counts.{moves, weight, sum-of}
 use Rattle.tallies.specs.Formulas.{movesG, holdG}

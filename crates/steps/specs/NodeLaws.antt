@@ -1,13 +1,13 @@
 -- What holds at a node whose child makes a step, whatever the kinds: the child's part and counts are those from before the node's
 -- mode was set, the other child's part stays, and only what is under the node changes. Assumes nothing.
-use Prim.Native.Nat.{ℕ, _+_, _*_, _<_, _≤_}
+use Prim.Native.Nat.{ℕ, _<_}
 use mathlib.Core.Path.{_≡_, refl, sym, _∙_, ap, subst, subst₂}
 use mathlib.Core.Bool.{Bool, true, false, _&&_}
 use mathlib.Core.List.{List}
 use mathlib.Core.Logic.{_≢_}
 use native.Mathlib.Omega.{arith}
 use lib.Dec.{T, eqb→eq}
-use lib.ListN.{length, getD, set, length-set}
+use lib.ListN.{length, set, length-set}
 use lib.Seq.{getD-set-same, getD-set-other}
 use Rattle.flow.specs.Kinds.{Kind, Event, Skip, Throw, Yield, Seq, Alt, Par, Hnd, Blk, Pair, CSeq, CAlt, CPar, Skipp, Throww, Yieldd, Unknown, kind, one-of, two-of, shape}
 use Rattle.flow.specs.Nodes.{Kid, Under, self, under-kid, Tree, not-under}
@@ -18,7 +18,7 @@ use Rattle.states.specs.Stored.{Right, right, own, stored}
 use Rattle.states.specs.StateLaws.{part-of, part-frame, stored-is, stored-of, stored-frame}
 use Rattle.states.specs.KindFacts.{one-kid, two-kid, apart}
 use Rattle.states.specs.Contracts.{Spot, Kept, Both}
-use Rattle.steps.specs.Turns.{Role, plain, running, undoing, get, nexts, ok, many, Ready, Stepped, Turned, Sets}
+use Rattle.steps.specs.Turns.{Role, plain, running, undoing, get, nexts, ok, many, Ready, Turned, Sets}
 
 -- Tests ------------------------------------------------------------------------------------------------------------------------
 

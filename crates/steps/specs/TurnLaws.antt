@@ -1,6 +1,6 @@
 -- One lemma for each way in which the code hands a step down or makes it. Each takes what the code has learnt, in the code's
 -- order, and concludes Turned, or Stepped where nothing is handed down. Assumes nothing.
-use Prim.Native.Nat.{ℕ, _+_, _*_, _-_, _<_, _≤_}
+use Prim.Native.Nat.{ℕ, _*_, _-_, _<_, _≤_}
 use mathlib.Core.Path.{_≡_, refl, sym, _∙_, ap, subst, subst₂}
 use mathlib.Core.Bool.{Bool, cond}
 use mathlib.Core.List.{List}

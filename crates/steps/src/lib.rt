@@ -2,8 +2,6 @@
 // step is found by the counts that the counting pass left. A node hands its step down to a child, at a place among the child's
 // steps; standard and compensable nodes call each other, and child numbers fall.
 use tallies::Weight;
-
-
 ghost use mathlib.Core.Path.{_≡_};
 ghost use mathlib.Core.Logic.{_≢_};
 ghost use Prim.Native.Nat.{_+_, _*_, _<_, _≤_, _-_};
@@ -59,15 +57,11 @@ fn turn_two(ns: &[u16], a: u16, c: &[u32; 64], t: &mut [u8], i: usize, k: u32, k
 {
     let side = words::live_parts(kind, states::mode_of(t, i));
     if side == words::FIRST {
-        Turn {
-            node: states::first_child(ns, i),
-            at: k,
-        }
+        let f = states::first_child(ns, i);
+        Turn { node: f, at: k }
     } else if side == words::SECOND {
-        Turn {
-            node: states::second_child(ns, i),
-            at: k,
-        }
+        let s = states::second_child(ns, i);
+        Turn { node: s, at: k }
     } else {
         turn_open(ns, a, c, t, i, k, kind)
     }
@@ -89,10 +83,9 @@ fn turn_open(ns: &[u16], a: u16, c: &[u32; 64], t: &mut [u8], i: usize, k: u32, 
         turn_on(ns, a, c, t, i, k)
     } else {
         states::set_mode(t, i, mode_second(kind));
-        Turn {
-            node: states::second_child(ns, i),
-            at: k - n,
-        }
+        let s = states::second_child(ns, i);
+        let past = k - n;
+        Turn { node: s, at: past }
     }
 }
 
@@ -109,23 +102,14 @@ fn turn_on(ns: &[u16], a: u16, c: &[u32; 64], t: &mut [u8], i: usize, k: u32) ->
     let n = count_at(c, f);
     let own = count_at(c, s);
     states::set_mode(t, i, 1);
-    let x = seek::seek(
-        ns,
-        a,
-        t,
-        f,
-        tallies::DONE,
-        Weight {
-            own,
-            moves: 0,
-            able: 0,
-        },
-        k - n,
-    );
-    Turn {
-        node: s,
-        at: x.rest,
-    }
+    let each = Weight {
+        own,
+        moves: 0,
+        able: 0,
+    };
+    let x = seek::seek(ns, a, t, f, tallies::DONE, each, k - n);
+    let rest = x.rest;
+    Turn { node: s, at: rest }
 }
 
 // A compensation of two parts.
@@ -136,15 +120,11 @@ fn turn_left(ns: &[u16], a: u16, c: &[u32; 64], t: &mut [u8], i: usize, k: u32, 
 {
     let side = words::left_parts(kind, states::mode_of(t, i));
     if side == words::FIRST {
-        Turn {
-            node: states::first_child(ns, i),
-            at: k,
-        }
+        let f = states::first_child(ns, i);
+        Turn { node: f, at: k }
     } else if side == words::SECOND {
-        Turn {
-            node: states::second_child(ns, i),
-            at: k,
-        }
+        let s = states::second_child(ns, i);
+        Turn { node: s, at: k }
     } else if kind == 11 {
         turn_back(ns, a, c, t, i, k)
     } else {
@@ -159,16 +139,15 @@ fn turn_back(ns: &[u16], a: u16, c: &[u32; 64], t: &mut [u8], i: usize, k: u32) 
     requires { ⌜ modes (now t) i ≢ 2 ⌝ }
     ensures { λ r. ⌜ Turned (now (ns .entry)) a undoing undoing (now (c .entry)) (now (t .entry)) i k (now (t .exit)) (r .node) (r .at) ⌝ }
 {
-    let s = states::second_child(ns, i);
-    let n = count_at(c, s);
+    let late = states::second_child(ns, i);
+    let early = states::first_child(ns, i);
+    let n = count_at(c, late);
     if k < n {
-        Turn { node: s, at: k }
+        Turn { node: late, at: k }
     } else {
         states::set_mode(t, i, 2);
-        Turn {
-            node: states::first_child(ns, i),
-            at: k - n,
-        }
+        let at = k - n;
+        Turn { node: early, at }
     }
 }
 
@@ -183,10 +162,9 @@ fn turn_beside(ns: &[u16], a: u16, c: &[u32; 64], t: &[u8], i: usize, k: u32) ->
     if k < n {
         Turn { node: f, at: k }
     } else {
-        Turn {
-            node: states::second_child(ns, i),
-            at: k - n,
-        }
+        let s = states::second_child(ns, i);
+        let rest = k - n;
+        Turn { node: s, at: rest }
     }
 }
 
@@ -209,19 +187,12 @@ fn turn_out(
     let f = states::first_child(ns, i);
     let n = count_at(c, f);
     states::set_mode(t, i, 1);
-    let x = seek::seek(
-        ns,
-        a,
-        t,
-        f,
-        tallies::FAILED,
-        Weight {
-            own: 0,
-            moves: 1,
-            able: 0,
-        },
-        k - n,
-    );
+    let each = Weight {
+        own: 0,
+        moves: 1,
+        able: 0,
+    };
+    let x = seek::seek(ns, a, t, f, tallies::FAILED, each, k - n);
     words::count_left(ns, t, a, d, f);
     x.rest
 }

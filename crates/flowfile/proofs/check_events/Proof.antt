@@ -1,50 +1,42 @@
-use Rattle.flowfile.specs.Reading.{event-grounds, events-grounds, unnamed-event}
-use Rattle.flow.specs.FirstRefusal.{each-start, each-held, each-passed, each-over, single-held, single-passed}
-use Rattle.flow.specs.Refusals.{first, each, count}
-use Rattle.flow.specs.declared.Check.the-variants.{Refused}
-use lib.ListN.{length, getD}
+-- `flowfile::check_events` meets its contract: the loop's invariant: the grounds from record i on give what all of them give.
+-- Assumes nothing.
 use Prim.Native.Nat.{_-_, _≤_, _<_}
-use borrow.Author.Needs.{needs}
+use mathlib.Core.Path.{_≡_, ap, sym, _∙_}
 use native.Mathlib.Omega.{arith}
-use mathlib.Core.Path.{_≡_, refl, ap, ap₂, sym, _∙_}
+use borrow.Author.Needs.{needs}
+use lib.ListN.{length, getD}
+use Rattle.flow.specs.FirstRefusal.{each-start, each-held, each-passed, each-over, single-held, single-passed}
+use Rattle.flow.specs.Refusals.{first, each}
+use Rattle.flow.specs.declared.Check.the-variants.{Refused}
+use Rattle.flowfile.specs.Reading.{event-grounds, events-grounds, unnamed-event}
 use Rattle.flowfile.proofs.check_events.Statement.{statement}
 use Rattle.flowfile.proofs.check_events.Tie as tie
-use Rattle.flowfile.proofs.check_events.Reads as reads
-use Rattle.flowfile.proofs.check_events.Lts as lts
-use Rattle.flowfile.proofs.refusal.Reads as refusal-reads
-use Rattle.flowfile.proofs.unnamed_event.Reads as unnamed-event-reads
 
 abbrev Inv-loop : tie.InvT-loop
-Inv-loop records names i₀ i = 
+Inv-loop records names i₀ i =
     (i ≤ length records) × (first (each (event-grounds names records) i (length records - i)) ≡ first (events-grounds names records))
 
 abbrev μ-loop : tie.MeasureT-loop
 μ-loop records names i₀ i = length records - i
 
--- src/lib.rt:396:5
 loop-holds : tie.Need-loop-holds Inv-loop μ-loop
 unfolding events-grounds
 loop-holds c = (omega arith, each-start (event-grounds (c .before .args .names) (c .before .args .records .now)) (length (c .before .args .records .now)))
 
--- src/lib.rt:397:26
 mul-unnamed-event : tie.Need-mul-unnamed-event Inv-loop μ-loop
 mul-unnamed-event c = omega arith
 
--- src/lib.rt:397:26
 shared-slice-read-unnamed-event : tie.Need-shared-slice-read-unnamed-event Inv-loop μ-loop
 shared-slice-read-unnamed-event c = omega arith
 
--- src/lib.rt:397:12
 unnamed-event-requires : tie.Need-unnamed-event-requires Inv-loop μ-loop
 unnamed-event-requires c κs = search needs
 
--- src/lib.rt:398:35
 refusal-requires : tie.Need-refusal-requires Inv-loop μ-loop
 refusal-requires c κs = omega arith
 
--- src/lib.rt:398:13
 returns : tie.Need-returns Inv-loop μ-loop
-returns c = 
+returns c =
     let xs = c .before .before .before .before .before .before .before .args .records .now in
     let k = c .before .before .before .before .before .before .before .args .names in
     let l = c .before .before .before .before .before .loop in
@@ -52,17 +44,14 @@ returns c =
     let e = single-held 20 (l .i) (unnamed-event k (getD xs (l .i) 0)) (sym (c .before .before .unnamed-event .ensures) ∙ c .before .if1 .taken) in
     ap Refused (c .refusal .ensures) ∙ sym (each-held (event-grounds k xs) (l .i) (length xs) h _ e) ∙ l .inv .1
 
--- src/lib.rt:400:9
 add-i : tie.Need-add-i Inv-loop μ-loop
 add-i c = omega arith
 
--- src/lib.rt:396:5
 loop-less : tie.Need-loop-less Inv-loop μ-loop
 loop-less c = omega arith
 
--- src/lib.rt:396:5
 loop-again : tie.Need-loop-again Inv-loop μ-loop
-loop-again c = 
+loop-again c =
     let xs = c .before .before .before .before .before .before .args .records .now in
     let k = c .before .before .before .before .before .before .args .names in
     let l = c .before .before .before .before .loop in
@@ -70,9 +59,8 @@ loop-again c =
     let e = single-passed 20 (l .i) (unnamed-event k (getD xs (l .i) 0)) (sym (c .before .unnamed-event .ensures) ∙ c .if1 .left) in
     (omega arith, sym (each-passed (event-grounds k xs) (l .i) (length xs) h e) ∙ l .inv .1)
 
--- src/lib.rt:391:1
 returns-2 : tie.Need-returns-2 Inv-loop μ-loop
-returns-2 c = 
+returns-2 c =
     let xs = c .before .before .before .args .records .now in
     let k = c .before .before .before .args .names in
     let l = c .before .loop in

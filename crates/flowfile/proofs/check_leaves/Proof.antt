@@ -1,42 +1,34 @@
-use Rattle.flowfile.specs.Reading.{leaf-grounds, leaves-grounds, unnamed-leaf}
+-- `flowfile::check_leaves` meets its contract: the loop's invariant: the grounds from node i on give what all of them give.
+-- Assumes nothing.
+use Prim.Native.Nat.{_-_, _≤_, _<_}
+use mathlib.Core.Path.{_≡_, refl, ap, sym, _∙_}
+use native.Mathlib.Omega.{arith}
 use Rattle.flow.specs.FirstRefusal.{each-start, each-held, each-passed, each-over, single-held, single-passed}
 use Rattle.flow.specs.Refusals.{first, each, count}
 use Rattle.flow.specs.declared.Check.the-variants.{Refused}
-use lib.ListN.{length, getD}
-use Prim.Native.Nat.{_-_, _≤_, _<_}
-use borrow.Author.Needs.{needs}
-use native.Mathlib.Omega.{arith}
-use mathlib.Core.Path.{_≡_, refl, ap, ap₂, sym, _∙_}
+use Rattle.flowfile.specs.Reading.{leaf-grounds, leaves-grounds, unnamed-leaf}
 use Rattle.flowfile.proofs.check_leaves.Statement.{statement}
 use Rattle.flowfile.proofs.check_leaves.Tie as tie
-use Rattle.flowfile.proofs.check_leaves.Reads as reads
-use Rattle.flowfile.proofs.check_leaves.Lts as lts
-use Rattle.flowfile.proofs.refusal.Reads as refusal-reads
-use Rattle.flowfile.proofs.unnamed_leaf.Reads as unnamed-leaf-reads
 
 abbrev Inv-loop : tie.InvT-loop
-Inv-loop nodes names n i₀ i = 
+Inv-loop nodes names n i₀ i =
     (n ≡ count nodes) × (i ≤ count nodes) × (first (each (leaf-grounds names nodes) i (count nodes - i)) ≡ first (leaves-grounds names nodes))
 
 abbrev μ-loop : tie.MeasureT-loop
 μ-loop nodes names n i₀ i = n - i
 
--- src/lib.rt:381:5
 loop-holds : tie.Need-loop-holds Inv-loop μ-loop
 unfolding leaves-grounds
 loop-holds c = (refl, omega arith, each-start (leaf-grounds (c .before .args .names) (c .before .args .nodes .now)) (count (c .before .args .nodes .now)))
 
--- src/lib.rt:382:12
 unnamed-leaf-requires : tie.Need-unnamed-leaf-requires Inv-loop μ-loop
 unnamed-leaf-requires c κs = omega arith
 
--- src/lib.rt:383:35
 refusal-requires : tie.Need-refusal-requires Inv-loop μ-loop
 refusal-requires c κs = omega arith
 
--- src/lib.rt:383:13
 returns : tie.Need-returns Inv-loop μ-loop
-returns c = 
+returns c =
     let xs = c .before .before .before .before .before .before .args .nodes .now in
     let k = c .before .before .before .before .before .before .args .names in
     let l = c .before .before .before .before .loop in
@@ -44,17 +36,14 @@ returns c =
     let e = single-held 19 (l .i) (unnamed-leaf k xs (l .i)) (sym (c .before .before .unnamed-leaf .ensures) ∙ c .before .if1 .taken) in
     ap Refused (c .refusal .ensures) ∙ sym (each-held (leaf-grounds k xs) (l .i) (count xs) h _ e) ∙ l .inv .2
 
--- src/lib.rt:385:9
 add-i : tie.Need-add-i Inv-loop μ-loop
 add-i c = omega arith
 
--- src/lib.rt:381:5
 loop-less : tie.Need-loop-less Inv-loop μ-loop
 loop-less c = omega arith
 
--- src/lib.rt:381:5
 loop-again : tie.Need-loop-again Inv-loop μ-loop
-loop-again c = 
+loop-again c =
     let xs = c .before .before .before .before .before .args .nodes .now in
     let k = c .before .before .before .before .before .args .names in
     let l = c .before .before .before .loop in
@@ -62,9 +51,8 @@ loop-again c =
     let e = single-passed 19 (l .i) (unnamed-leaf k xs (l .i)) (sym (c .before .unnamed-leaf .ensures) ∙ c .if1 .left) in
     (refl, omega arith, sym (each-passed (leaf-grounds k xs) (l .i) (count xs) h e) ∙ l .inv .2)
 
--- src/lib.rt:375:1
 returns-2 : tie.Need-returns-2 Inv-loop μ-loop
-returns-2 c = 
+returns-2 c =
     let xs = c .before .before .before .args .nodes .now in
     let k = c .before .before .before .args .names in
     let l = c .before .loop in

@@ -1,53 +1,43 @@
-use Rattle.flowfile.specs.ItemLaws.{handed-on, has-found, name-there, answered-got, entry-step-bad, entry-machine-bad, entry-got}
+-- `flowfile::entry_at` meets its contract: a step name, then a machine name; a refusal of either is handed on.
+-- Assumes nothing.
+use mathlib.Core.Path.{refl, sym, _∙_}
 use native.Mathlib.Omega.{arith}
-use mathlib.Core.Path.{_≡_, refl, ap, ap₂, sym, _∙_}
 use borrow.Author.Needs.{needs}
+use Rattle.flowfile.specs.ItemLaws.{handed-on, has-found, name-there, answered-got, entry-step-bad, entry-machine-bad, entry-got}
 use Rattle.flowfile.proofs.entry_at.Statement.{statement}
 use Rattle.flowfile.proofs.entry_at.Tie as tie
-use Rattle.flowfile.proofs.entry_at.Reads as reads
-use Rattle.flowfile.proofs.entry_at.Lts as lts
-use Rattle.flowfile.proofs.name_at.Reads as name-at-reads
 
--- src/lib.rt:126:9
 name-at-requires : tie.Need-name-at-requires
 name-at-requires c κs = search needs
 
--- src/lib.rt:127:19
 enum-known-step : tie.Need-enum-known-step
 enum-known-step c = search needs
 
--- src/lib.rt:128:9
 enum-told : tie.Need-enum-told
 enum-told c = search needs
 
--- src/lib.rt:128:9
 returns : tie.Need-returns
 returns c = handed-on _ _ _ _ (λ n p. entry-step-bad _ _) (c .before .before .name-at .ensures) (c .enum-told .given .1)
 
--- src/lib.rt:130:9
 name-at-requires-2 : tie.Need-name-at-requires-2
-name-at-requires-2 c κs = 
+name-at-requires-2 c κs =
     let f = has-found _ _ (sym (c .before .before .before .name-at .ensures) ∙ c .before .step .given .1) in
     let t = name-there _ _ _ (f .is) in
     omega arith
 
--- src/lib.rt:131:19
 enum-known-machine : tie.Need-enum-known-machine
 enum-known-machine c = search needs
 
--- src/lib.rt:132:9
 enum-told-2 : tie.Need-enum-told-2
 enum-told-2 c = search needs
 
--- src/lib.rt:132:9
 returns-2 : tie.Need-returns-2
-returns-2 c = 
+returns-2 c =
     let f = has-found _ _ (sym (c .before .before .before .before .before .before .name-at .ensures) ∙ c .before .before .before .before .step .given .1) in
     handed-on _ _ _ _ (λ n p. entry-machine-bad _ _ (f .is)) (c .before .before .name-at2 .ensures) (c .enum-told2 .given .1)
 
--- src/lib.rt:122:1
 returns-3 : tie.Need-returns-3
-returns-3 c = 
+returns-3 c =
     let f = has-found _ _ (sym (c .before .before .before .before .before .before .before .before .name-at .ensures) ∙ c .before .before .before .before .before .before .step .given .1) in
     let g = has-found _ _ (sym (c .before .before .before .before .name-at2 .ensures) ∙ c .before .before .machine .given .1) in
     answered-got _ _ (f .sized) refl (entry-got _ _ (f .is) (g .is))

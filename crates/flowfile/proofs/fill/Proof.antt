@@ -1,20 +1,17 @@
-use lib.ListN.{set}
+-- `flowfile::fill` meets its contract: the loop's invariant: the first i numbers stand in front, and the rest is the table's.
+-- Assumes nothing.
+use Prim.Native.Nat.{ℕ, _-_, _≤_}
 use mathlib.Core.List.{List}
-use denote.Ref.{now}
-use Prim.Native.Nat.{ℕ}
+use mathlib.Core.Path.{_≡_, refl, ap, ap₂, _∙_}
+use native.Mathlib.Omega.{arith}
 use borrow.Author.Needs.{needs}
-use Rattle.flowfile.specs.SectionLaws.{over-more, over-length}
+use denote.Ref.{now}
+use lib.ListN.{set, length}
 use Rattle.flowfile.specs.Items.{values}
 use Rattle.flowfile.specs.Reading.{over}
-use lib.ListN.{length}
-use Prim.Native.Nat.{_-_, _≤_}
-use native.Mathlib.Omega.{arith}
-use mathlib.Core.Path.{_≡_, refl, ap, ap₂, sym, _∙_}
+use Rattle.flowfile.specs.SectionLaws.{over-more, over-length}
 use Rattle.flowfile.proofs.fill.Statement.{statement}
 use Rattle.flowfile.proofs.fill.Tie as tie
-use Rattle.flowfile.proofs.fill.Reads as reads
-use Rattle.flowfile.proofs.fill.Lts as lts
-use Rattle.flowfile.proofs.word.Reads as word-reads
 
 abbrev Inv-loop : tie.InvT-loop
 Inv-loop file at count table₀ i₀ table i = (i ≤ count) × (table ≡ over (values file i at) table₀)
@@ -22,80 +19,65 @@ Inv-loop file at count table₀ i₀ table i = (i ≤ count) × (table ≡ over 
 abbrev μ-loop : tie.MeasureT-loop
 μ-loop file at count table₀ i₀ table i = count - i
 
--- src/lib.rt:347:5
 loop-holds : tie.Need-loop-holds Inv-loop μ-loop
 unfolding values
 loop-holds c = (omega arith, refl)
 
--- src/lib.rt:348:35
 mul-word : tie.Need-mul-word Inv-loop μ-loop
 mul-word c = omega arith
 
--- src/lib.rt:348:30
 add-word : tie.Need-add-word Inv-loop μ-loop
 add-word c = omega arith
 
--- src/lib.rt:348:25
 shared-slice-read-word : tie.Need-shared-slice-read-word Inv-loop μ-loop
 shared-slice-read-word c = omega arith
 
--- src/lib.rt:348:53
 mul-word-2 : tie.Need-mul-word-2 Inv-loop μ-loop
 mul-word-2 c = omega arith
 
--- src/lib.rt:348:48
 add-word-2 : tie.Need-add-word-2 Inv-loop μ-loop
 add-word-2 c = omega arith
 
--- src/lib.rt:348:48
 add-word-3 : tie.Need-add-word-3 Inv-loop μ-loop
 add-word-3 c = omega arith
 
--- src/lib.rt:348:43
 shared-slice-read-word-2 : tie.Need-shared-slice-read-word-2 Inv-loop μ-loop
 shared-slice-read-word-2 c = omega arith
 
--- src/lib.rt:348:20
 word-requires : tie.Need-word-requires Inv-loop μ-loop
 word-requires c κs = search needs
 
--- src/lib.rt:348:9
 mul-table : tie.Need-mul-table Inv-loop μ-loop
 mul-table c = omega arith
 
--- src/lib.rt:348:9
 slice-write-table : tie.Need-slice-write-table Inv-loop μ-loop
-slice-write-table c = 
+slice-write-table c =
     let s = now (c .before .before .before .before .before .before .before .args .file) in
     let l = c .before .before .before .before .loop in
     omega (arith, ap length (l .inv .1), over-length s (l .i) (c .before .before .before .before .before .before .before .args .at) (now (c .before .before .before .before .before .before .before .args .table)) (omega arith))
 
--- src/lib.rt:349:9
 add-i : tie.Need-add-i Inv-loop μ-loop
 add-i c = omega arith
 
--- src/lib.rt:347:5
 loop-less : tie.Need-loop-less Inv-loop μ-loop
 loop-less c = omega arith
 
--- src/lib.rt:347:5
 loop-again : tie.Need-loop-again Inv-loop μ-loop
-loop-again c = 
+loop-again c =
     let s = now (c .before .before .before .before .before .before .before .args .file) in
-    let l = c .before .before .before .before .loop in
-    (omega arith,
-    ap₂ (λ (xs : List ℕ) (v : ℕ). set xs (l .i) v) (l .inv .1) (c .word .ensures)
-    ∙ over-more s (l .i) (c .before .before .before .before .before .before .before .args .at) (now (c .before .before .before .before .before .before .before .args .table)) (omega arith))
+    let l = c .before .before .before .before .loop in (
+      omega arith,
+      ap₂ (λ (xs : List ℕ) (v : ℕ). set xs (l .i) v) (l .inv .1) (c .word .ensures)
+          ∙ over-more s (l .i) (c .before .before .before .before .before .before .before .args .at) (now (c .before .before .before .before .before .before .before .args .table)) (omega arith),
+    )
 
--- src/lib.rt:342:1
 same-length : tie.Need-same-length Inv-loop μ-loop
-same-length c = 
+same-length c =
     let l = c .before .loop in
     ap length (l .inv .1) ∙ over-length (now (c .before .before .before .before .args .file)) (l .i) (c .before .before .before .before .args .at) (now (c .before .before .before .before .args .table)) (omega arith)
 
--- src/lib.rt:342:1
 returns : tie.Need-returns Inv-loop μ-loop
-returns c = 
+returns c =
     let l = c .before .loop in
     let e : l .i ≡ c .before .before .before .before .args .count = omega arith in
     l .inv .1 ∙ ap (λ (k : ℕ). over (values (now (c .before .before .before .before .args .file)) k (c .before .before .before .before .args .at)) (now (c .before .before .before .before .args .table))) e

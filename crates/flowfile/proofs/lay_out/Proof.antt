@@ -1,63 +1,50 @@
+-- `flowfile::lay_out` meets its contract: each item that is read gives the next its offset, and each refusal is the layout's.
+-- Assumes nothing.
+use mathlib.Core.Path.{ap, sym, _∙_}
+use native.Mathlib.Omega.{arith}
+use borrow.Author.Needs.{needs}
+use denote.Ref.{now}
 use lib.ListN.{length}
+use Rattle.flowfile.specs.ItemLaws.{has-found, bad-found}
 use Rattle.flowfile.specs.LayoutLaws.{has-number, names-there, numbers-there, layout-names-bad, layout-node-count-bad, layout-nodes-bad, layout-record-count-bad, layout-records-bad, layout-got, laid-bad, laid-long, laid-counts}
 use Rattle.flowfile.specs.SectionLaws.{some-count-there, values-length}
-use Rattle.flowfile.specs.ItemLaws.{has-found, bad-found}
-use denote.Ref.{now}
-use native.Mathlib.Omega.{arith}
-use mathlib.Core.Path.{_≡_, refl, ap, ap₂, sym, _∙_}
-use borrow.Author.Needs.{needs}
 use Rattle.flowfile.proofs.lay_out.Statement.{statement}
 use Rattle.flowfile.proofs.lay_out.Tie as tie
-use Rattle.flowfile.proofs.lay_out.Reads as reads
-use Rattle.flowfile.proofs.lay_out.Lts as lts
-use Rattle.flowfile.proofs.numbers_at.Reads as numbers-at-reads
-use Rattle.flowfile.proofs.refusal.Reads as refusal-reads
-use Rattle.flowfile.proofs.scan_names.Reads as scan-names-reads
-use Rattle.flowfile.proofs.some_count_at.Reads as some-count-at-reads
 
--- src/lib.rt:310:23
 scan-names-requires : tie.Need-scan-names-requires
 scan-names-requires c κs = search needs
 
--- src/lib.rt:311:19
 enum-known-got : tie.Need-enum-known-got
 enum-known-got c = search needs
 
--- src/lib.rt:312:19
 enum-known-r : tie.Need-enum-known-r
 enum-known-r c = search needs
 
--- src/lib.rt:312:25
 returns : tie.Need-returns
 returns c = laid-bad _ _ (layout-names-bad _ (bad-found _ _ (sym (c .before .before .before .scan-names .ensures) ∙ c .before .r .given .1)))
 
--- src/lib.rt:314:23
 some-count-at-requires : tie.Need-some-count-at-requires
-some-count-at-requires c κs = 
+some-count-at-requires c κs =
     let s = now (c .before .before .before .before .before .args .file) in
     let a = has-found _ _ (sym (c .before .before .before .scan-names .ensures) ∙ c .before .got .given .1) in
     let ta = names-there s (a .is) in
     omega arith
 
--- src/lib.rt:315:19
 enum-known-got-2 : tie.Need-enum-known-got-2
 enum-known-got-2 c = search needs
 
--- src/lib.rt:316:19
 enum-known-r-2 : tie.Need-enum-known-r-2
 enum-known-r-2 c = search needs
 
--- src/lib.rt:316:25
 returns-2 : tie.Need-returns-2
-returns-2 c = 
+returns-2 c =
     let s = now (c .before .before .before .before .before .before .before .before .before .args .file) in
     let a = has-found _ _ (sym (c .before .before .before .before .before .before .before .scan-names .ensures) ∙ c .before .before .before .before .before .got .given .1) in
     let ta = names-there s (a .is) in
     laid-bad _ _ (layout-node-count-bad _ (a .is) (bad-found _ _ (sym (c .before .before .before .some-count-at .ensures) ∙ c .before .r2 .given .1)))
 
--- src/lib.rt:318:52
 mul-numbers-at : tie.Need-mul-numbers-at
-mul-numbers-at c = 
+mul-numbers-at c =
     let s = now (c .before .before .before .before .before .before .before .before .before .before .args .file) in
     let a = has-found _ _ (sym (c .before .before .before .before .before .before .before .before .scan-names .ensures) ∙ c .before .before .before .before .before .before .got .given .1) in
     let ta = names-there s (a .is) in
@@ -65,9 +52,8 @@ mul-numbers-at c =
     let te = some-count-there s _ _ _ _ e in
     omega arith
 
--- src/lib.rt:318:23
 numbers-at-requires : tie.Need-numbers-at-requires
-numbers-at-requires c κs = 
+numbers-at-requires c κs =
     let s = now (c .before .before .before .before .before .before .before .before .before .before .args .file) in
     let a = has-found _ _ (sym (c .before .before .before .before .before .before .before .before .scan-names .ensures) ∙ c .before .before .before .before .before .before .got .given .1) in
     let ta = names-there s (a .is) in
@@ -75,17 +61,14 @@ numbers-at-requires c κs =
     let te = some-count-there s _ _ _ _ e in
     omega arith
 
--- src/lib.rt:319:19
 enum-known-got-3 : tie.Need-enum-known-got-3
 enum-known-got-3 c = search needs
 
--- src/lib.rt:320:19
 enum-known-r-3 : tie.Need-enum-known-r-3
 enum-known-r-3 c = search needs
 
--- src/lib.rt:320:25
 returns-3 : tie.Need-returns-3
-returns-3 c = 
+returns-3 c =
     let s = now (c .before .before .before .before .before .before .before .before .before .before .before .before .before .before .args .file) in
     let a = has-found _ _ (sym (c .before .before .before .before .before .before .before .before .before .before .before .before .scan-names .ensures) ∙ c .before .before .before .before .before .before .before .before .before .before .got .given .1) in
     let ta = names-there s (a .is) in
@@ -93,9 +76,8 @@ returns-3 c =
     let te = some-count-there s _ _ _ _ e in
     laid-bad _ _ (layout-nodes-bad _ (a .is) e (bad-found _ _ (sym (c .before .before .before .numbers-at .ensures) ∙ c .before .r3 .given .1)))
 
--- src/lib.rt:322:25
 some-count-at-requires-2 : tie.Need-some-count-at-requires-2
-some-count-at-requires-2 c κs = 
+some-count-at-requires-2 c κs =
     let s = now (c .before .before .before .before .before .before .before .before .before .before .before .before .before .before .args .file) in
     let a = has-found _ _ (sym (c .before .before .before .before .before .before .before .before .before .before .before .before .scan-names .ensures) ∙ c .before .before .before .before .before .before .before .before .before .before .got .given .1) in
     let ta = names-there s (a .is) in
@@ -105,17 +87,14 @@ some-count-at-requires-2 c κs =
     let tg = numbers-there s _ _ (omega arith) (g .is) in
     omega arith
 
--- src/lib.rt:323:19
 enum-known-got-4 : tie.Need-enum-known-got-4
 enum-known-got-4 c = search needs
 
--- src/lib.rt:324:19
 enum-known-r-4 : tie.Need-enum-known-r-4
 enum-known-r-4 c = search needs
 
--- src/lib.rt:324:25
 returns-4 : tie.Need-returns-4
-returns-4 c = 
+returns-4 c =
     let s = now (c .before .before .before .before .before .before .before .before .before .before .before .before .before .before .before .before .before .before .args .file) in
     let a = has-found _ _ (sym (c .before .before .before .before .before .before .before .before .before .before .before .before .before .before .before .before .scan-names .ensures) ∙ c .before .before .before .before .before .before .before .before .before .before .before .before .before .before .got .given .1) in
     let ta = names-there s (a .is) in
@@ -125,9 +104,8 @@ returns-4 c =
     let tg = numbers-there s _ _ (omega arith) (g .is) in
     laid-bad _ _ (layout-record-count-bad _ (a .is) e (g .is) (bad-found _ _ (sym (c .before .before .before .some-count-at2 .ensures) ∙ c .before .r4 .given .1)))
 
--- src/lib.rt:326:22
 numbers-at-requires-2 : tie.Need-numbers-at-requires-2
-numbers-at-requires-2 c κs = 
+numbers-at-requires-2 c κs =
     let s = now (c .before .before .before .before .before .before .before .before .before .before .before .before .before .before .before .before .before .before .args .file) in
     let a = has-found _ _ (sym (c .before .before .before .before .before .before .before .before .before .before .before .before .before .before .before .before .scan-names .ensures) ∙ c .before .before .before .before .before .before .before .before .before .before .before .before .before .before .got .given .1) in
     let ta = names-there s (a .is) in
@@ -139,17 +117,14 @@ numbers-at-requires-2 c κs =
     let th = some-count-there s _ _ _ _ h in
     omega arith
 
--- src/lib.rt:327:19
 enum-known-got-5 : tie.Need-enum-known-got-5
 enum-known-got-5 c = search needs
 
--- src/lib.rt:328:19
 enum-known-r-5 : tie.Need-enum-known-r-5
 enum-known-r-5 c = search needs
 
--- src/lib.rt:328:25
 returns-5 : tie.Need-returns-5
-returns-5 c = 
+returns-5 c =
     let s = now (c .before .before .before .before .before .before .before .before .before .before .before .before .before .before .before .before .before .before .before .before .before .before .args .file) in
     let a = has-found _ _ (sym (c .before .before .before .before .before .before .before .before .before .before .before .before .before .before .before .before .before .before .before .before .scan-names .ensures) ∙ c .before .before .before .before .before .before .before .before .before .before .before .before .before .before .before .before .before .before .got .given .1) in
     let ta = names-there s (a .is) in
@@ -161,9 +136,8 @@ returns-5 c =
     let th = some-count-there s _ _ _ _ h in
     laid-bad _ _ (layout-records-bad _ (a .is) e (g .is) h (bad-found _ _ (sym (c .before .before .before .numbers-at2 .ensures) ∙ c .before .r5 .given .1)))
 
--- src/lib.rt:332:33
 refusal-requires : tie.Need-refusal-requires
-refusal-requires c κs = 
+refusal-requires c κs =
     let s = now (c .before .before .before .before .before .before .before .before .before .before .before .before .before .before .before .before .before .before .before .before .before .before .before .args .file) in
     let a = has-found _ _ (sym (c .before .before .before .before .before .before .before .before .before .before .before .before .before .before .before .before .before .before .before .before .before .scan-names .ensures) ∙ c .before .before .before .before .before .before .before .before .before .before .before .before .before .before .before .before .before .before .before .got .given .1) in
     let ta = names-there s (a .is) in
@@ -177,9 +151,8 @@ refusal-requires c κs =
     let tk = numbers-there s _ _ (omega arith) (k .is) in
     omega arith
 
--- src/lib.rt:332:9
 returns-6 : tie.Need-returns-6
-returns-6 c = 
+returns-6 c =
     let s = now (c .before .before .before .before .before .before .before .before .before .before .before .before .before .before .before .before .before .before .before .before .before .before .before .before .args .file) in
     let a = has-found _ _ (sym (c .before .before .before .before .before .before .before .before .before .before .before .before .before .before .before .before .before .before .before .before .before .before .scan-names .ensures) ∙ c .before .before .before .before .before .before .before .before .before .before .before .before .before .before .before .before .before .before .before .before .got .given .1) in
     let ta = names-there s (a .is) in
@@ -193,9 +166,8 @@ returns-6 c =
     let tk = numbers-there s _ _ (omega arith) (k .is) in
     laid-long _ _ (layout-got _ (a .is) e (g .is) h (k .is)) (c .refusal .ensures) (c .before .if1 .taken)
 
--- src/lib.rt:307:1
 returns-7 : tie.Need-returns-7
-returns-7 c = 
+returns-7 c =
     let s = now (c .before .before .before .before .before .before .before .before .before .before .before .before .before .before .before .before .before .before .before .before .before .before .before .args .file) in
     let a = has-found _ _ (sym (c .before .before .before .before .before .before .before .before .before .before .before .before .before .before .before .before .before .before .before .before .before .scan-names .ensures) ∙ c .before .before .before .before .before .before .before .before .before .before .before .before .before .before .before .before .before .before .before .got .given .1) in
     let ta = names-there s (a .is) in

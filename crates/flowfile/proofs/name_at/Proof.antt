@@ -1,77 +1,59 @@
-use denote.Ref.{now}
-use Rattle.flowfile.specs.ItemLaws.{answered-got, name-length}
-use mathlib.Core.Path.{_≡_, refl, ap, ap₂, sym, _∙_}
+-- `flowfile::name_at` meets its contract: the length byte, its range, the bytes.
+-- Assumes nothing.
+use mathlib.Core.Path.{sym, _∙_}
 use native.Mathlib.Omega.{arith}
-use Rattle.flowfile.specs.ItemLaws.{answered-bad, name-short, name-low, name-high, name-cut, name-got}
-use Rattle.flowfile.specs.Items.{answered}
 use borrow.Author.Needs.{needs}
+use denote.Ref.{now}
+use Rattle.flowfile.specs.ItemLaws.{answered-got, name-length, answered-bad, name-short, name-low, name-high, name-cut, name-got}
+use Rattle.flowfile.specs.Items.{answered}
 use Rattle.flowfile.proofs.name_at.Statement.{statement}
 use Rattle.flowfile.proofs.name_at.Tie as tie
-use Rattle.flowfile.proofs.name_at.Reads as reads
-use Rattle.flowfile.proofs.name_at.Lts as lts
-use Rattle.flowfile.proofs.refusal.Reads as refusal-reads
-use Rattle.flowfile.proofs.wide.Reads as wide-reads
 
--- src/lib.rt:100:21
 add-if1 : tie.Need-add-if1
 add-if1 c = search needs
 
--- src/lib.rt:101:26
 refusal-requires : tie.Need-refusal-requires
 refusal-requires c κs = search needs
 
--- src/lib.rt:101:9
 returns : tie.Need-returns
 returns c = answered-bad _ _ (c .refusal .ensures) (name-short _ _ _ (c .before .if1 .taken))
 
--- src/lib.rt:103:18
 shared-slice-read-wide : tie.Need-shared-slice-read-wide
 shared-slice-read-wide c = search needs
 
--- src/lib.rt:103:9
 wide-requires : tie.Need-wide-requires
 wide-requires c κs = search needs
 
--- src/lib.rt:105:26
 refusal-requires-2 : tie.Need-refusal-requires-2
 refusal-requires-2 c κs = search needs
 
--- src/lib.rt:105:9
 returns-2 : tie.Need-returns-2
 returns-2 c = answered-bad _ _ (c .refusal2 .ensures) (name-low _ _ _ (omega arith) (omega arith))
 
--- src/lib.rt:108:26
 refusal-requires-3 : tie.Need-refusal-requires-3
 refusal-requires-3 c κs = search needs
 
--- src/lib.rt:108:9
 returns-3 : tie.Need-returns-3
 returns-3 c = answered-bad _ _ (c .refusal3 .ensures) (name-high _ _ _ (omega arith) (omega arith))
 
--- src/lib.rt:110:16
 add-from : tie.Need-add-from
 add-from c = search needs
 
--- src/lib.rt:111:22
 cast-end : tie.Need-cast-end
 cast-end c = search needs
 
--- src/lib.rt:111:15
 add-end : tie.Need-add-end
 add-end c = search needs
 
--- src/lib.rt:113:26
 refusal-requires-4 : tie.Need-refusal-requires-4
 refusal-requires-4 c κs = search needs
 
--- src/lib.rt:113:9
 returns-4 : tie.Need-returns-4
 returns-4 c = answered-bad _ _ (c .refusal4 .ensures) (name-cut _ _ _ (omega arith) (omega arith) (omega arith) (omega arith))
 
--- src/lib.rt:95:1
 returns-5 : tie.Need-returns-5
 unfolding answered
-returns-5 c = 
+returns-5 c =
     let s = now (c .before .before .before .before .before .before .before .args .file) in
     let at = c .before .before .before .before .before .before .before .args .c .at in
     answered-got _ _ (c .before .before .before .wide .ensures ∙ sym (name-length s at (omega arith))) (omega arith)

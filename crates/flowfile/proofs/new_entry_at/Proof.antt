@@ -1,59 +1,47 @@
-use Rattle.flowfile.specs.SectionLaws.{new-entry-bad, new-entry-met, new-entry-got}
-use Rattle.flowfile.specs.ItemLaws.{entry-there}
+-- `flowfile::new_entry_at` meets its contract: an entry, and 18 where it is one of the earlier ones.
+-- Assumes nothing.
+use mathlib.Core.Path.{refl, ap, sym, _∙_}
+use borrow.Author.Needs.{needs}
+use denote.Ref.{now}
+use Rattle.flowfile.specs.Format.{Entry}
+use Rattle.flowfile.specs.ItemLaws.{entry-there, handed-on, has-found, answered-bad, answered-got}
 use Rattle.flowfile.specs.Items.{entries-at}
 use Rattle.flowfile.specs.Reading.{met}
-use Rattle.flowfile.specs.Format.{Entry}
-use denote.Ref.{now}
-use Rattle.flowfile.specs.ItemLaws.{handed-on, has-found, answered-bad, answered-got}
-use native.Mathlib.Omega.{arith}
-use mathlib.Core.Path.{_≡_, refl, ap, ap₂, sym, _∙_}
-use borrow.Author.Needs.{needs}
+use Rattle.flowfile.specs.SectionLaws.{new-entry-bad, new-entry-met, new-entry-got}
 use Rattle.flowfile.proofs.new_entry_at.Statement.{statement}
 use Rattle.flowfile.proofs.new_entry_at.Tie as tie
-use Rattle.flowfile.proofs.new_entry_at.Reads as reads
-use Rattle.flowfile.proofs.new_entry_at.Lts as lts
-use Rattle.flowfile.proofs.entry_at.Reads as entry-at-reads
-use Rattle.flowfile.proofs.met_before.Reads as met-before-reads
-use Rattle.flowfile.proofs.refusal.Reads as refusal-reads
 
--- src/lib.rt:218:9
 entry-at-requires : tie.Need-entry-at-requires
 entry-at-requires c κs = search needs
 
 enum-told : tie.Need-enum-told
 enum-told c = search needs
 
--- src/lib.rt:220:9
 enum-told-2 : tie.Need-enum-told-2
 enum-told-2 c = search needs
 
--- src/lib.rt:220:9
 returns : tie.Need-returns
 returns c = handed-on _ _ _ _ (λ n p. new-entry-bad _ _ _) (c .before .before .entry-at .ensures) (c .enum-told2 .given .1)
 
--- src/lib.rt:222:8
 met-before-requires : tie.Need-met-before-requires
-met-before-requires c κs = 
+met-before-requires c κs =
     let f = has-found _ _ (sym (c .before .before .entry-at .ensures) ∙ c .enum-told .given .1) in
     let t = entry-there _ _ (f .is) in
     record { start = c .before .before .before .before .pre .1; whole = t .inside }
 
--- src/lib.rt:223:26
 refusal-requires : tie.Need-refusal-requires
 refusal-requires c κs = search needs
 
--- src/lib.rt:223:9
 returns-2 : tie.Need-returns-2
-returns-2 c = 
+returns-2 c =
     let f = has-found _ _ (sym (c .before .before .before .before .before .entry-at .ensures) ∙ c .before .before .before .enum-told .given .1) in
     let t = entry-there _ _ (f .is) in
     let es = entries-at (now (c .before .before .before .before .before .before .before .args .file)) (c .before .before .before .before .before .before .before .args .earlier) 2 in
     let m = ap (λ (e : Entry). met e es) (t .is) ∙ sym (c .before .before .met-before .ensures) ∙ c .before .if1 .taken in
     answered-bad _ _ (c .refusal .ensures) (new-entry-met _ _ _ (f .is) m)
 
--- src/lib.rt:213:1
 returns-3 : tie.Need-returns-3
-returns-3 c = 
+returns-3 c =
     let f = has-found _ _ (sym (c .before .before .before .before .entry-at .ensures) ∙ c .before .before .enum-told .given .1) in
     let t = entry-there _ _ (f .is) in
     let es = entries-at (now (c .before .before .before .before .before .before .args .file)) (c .before .before .before .before .before .before .args .earlier) 2 in

@@ -1,15 +1,14 @@
-use Rattle.flowfile.specs.SectionLaws.{numbers-stop-at, numbers-got, number-there, values-length}
-use Rattle.flowfile.specs.ItemLaws.{handed-on, has-found, answered-got}
-use lib.ListN.{length}
-use borrow.Author.Needs.{needs}
+-- `flowfile::numbers_at` meets its contract: the loop's invariant: the first i numbers stand whole, and the cursor is behind them.
+-- Assumes nothing.
 use Prim.Native.Nat.{_+_, _*_, _-_, _≤_}
+use mathlib.Core.Path.{_≡_, sym, _∙_}
 use native.Mathlib.Omega.{arith}
-use mathlib.Core.Path.{_≡_, refl, ap, ap₂, sym, _∙_}
+use borrow.Author.Needs.{needs}
+use lib.ListN.{length}
+use Rattle.flowfile.specs.ItemLaws.{handed-on, has-found, answered-got}
+use Rattle.flowfile.specs.SectionLaws.{numbers-stop-at, numbers-got, number-there, values-length}
 use Rattle.flowfile.proofs.numbers_at.Statement.{statement}
 use Rattle.flowfile.proofs.numbers_at.Tie as tie
-use Rattle.flowfile.proofs.numbers_at.Reads as reads
-use Rattle.flowfile.proofs.numbers_at.Lts as lts
-use Rattle.flowfile.proofs.number_at.Reads as number-at-reads
 
 abbrev Inv-loop : tie.InvT-loop
 Inv-loop file count next₀ i₀ next i = (next .at ≡ next₀ .at + 2 * i) × (i ≤ count) × (next₀ .at + 2 * i ≤ length file)
@@ -17,46 +16,37 @@ Inv-loop file count next₀ i₀ next i = (next .at ≡ next₀ .at + 2 * i) × 
 abbrev μ-loop : tie.MeasureT-loop
 μ-loop file count next₀ i₀ next i = count - i
 
--- src/lib.rt:290:5
 loop-holds : tie.Need-loop-holds Inv-loop μ-loop
 loop-holds c = omega arith
 
--- src/lib.rt:291:13
 number-at-requires : tie.Need-number-at-requires Inv-loop μ-loop
 number-at-requires c κs = omega arith
 
--- src/lib.rt:292:23
 enum-known-item : tie.Need-enum-known-item Inv-loop μ-loop
 enum-known-item c = search needs
 
--- src/lib.rt:293:13
 enum-told : tie.Need-enum-told Inv-loop μ-loop
 enum-told c = search needs
 
--- src/lib.rt:293:13
 returns : tie.Need-returns Inv-loop μ-loop
-returns c = 
+returns c =
     handed-on _ _ _ _ (λ n p. numbers-stop-at _ (c .before .before .before .before .loop .i) _ _ _ (omega arith) (omega arith) (omega arith))
     (c .before .before .number-at .ensures) (c .enum-told .given .1)
 
--- src/lib.rt:296:9
 add-i : tie.Need-add-i Inv-loop μ-loop
 add-i c = omega arith
 
--- src/lib.rt:290:5
 loop-less : tie.Need-loop-less Inv-loop μ-loop
 loop-less c = omega arith
 
--- src/lib.rt:290:5
 loop-again : tie.Need-loop-again Inv-loop μ-loop
-loop-again c = 
+loop-again c =
     let f = has-found _ _ (sym (c .before .before .before .before .number-at .ensures) ∙ c .before .before .item .given .1) in
     let t = number-there _ _ (f .is) in
     omega arith
 
--- src/lib.rt:284:1
 returns-2 : tie.Need-returns-2 Inv-loop μ-loop
-returns-2 c = 
+returns-2 c =
     let i : c .before .loop .i ≡ c .before .before .before .args .count = omega arith in
     answered-got _ _ (sym (values-length _ _ _)) (omega arith) (numbers-got _ _ _ (omega arith))
 

@@ -1,61 +1,47 @@
-use lib.ListN.{length}
-use Rattle.flowfile.specs.declared.Reading.the-variants.{Refused}
-use Rattle.flowfile.specs.ReaderLaws.{counts-there, reading-short, reading-laid, laid-refused, read-as, read-refused, read-faulty, read-fine}
+-- `flowfile::read` meets its contract: each return is one case of `reading`; the tables are written in the last one only.
+-- Assumes nothing.
 use mathlib.Core.Logic.{inl, inr}
-use mathlib.Core.List.{List}
-use denote.Ref.{now}
-use Prim.Native.Nat.{ℕ}
+use mathlib.Core.Path.{refl, ap, sym, _∙_}
 use native.Mathlib.Omega.{arith}
-use mathlib.Core.Path.{_≡_, refl, ap, ap₂, sym, _∙_}
 use borrow.Author.Needs.{needs}
+use denote.Ref.{now}
+use lib.ListN.{length}
+use Rattle.flowfile.specs.ReaderLaws.{counts-there, reading-short, reading-laid, laid-refused, read-as, read-refused, read-faulty, read-fine}
+use Rattle.flowfile.specs.declared.Reading.the-variants.{Refused}
 use Rattle.flowfile.proofs.read.Statement.{statement}
 use Rattle.flowfile.proofs.read.Tie as tie
-use Rattle.flowfile.proofs.read.Reads as reads
-use Rattle.flowfile.proofs.read.Lts as lts
-use Rattle.flowfile.proofs.check_numbers.Reads as check-numbers-reads
-use Rattle.flowfile.proofs.fill.Reads as fill-reads
-use Rattle.flowfile.proofs.lay_out.Reads as lay-out-reads
-use Rattle.flowfile.proofs.refusal.Reads as refusal-reads
 
--- src/lib.rt:449:33
 refusal-requires : tie.Need-refusal-requires
 refusal-requires c κs = search needs
 
--- src/lib.rt:449:9
 returns : tie.Need-returns
-returns c = 
+returns c =
     let s = now (c .before .before .before .before .before .args .file) in
     let ns = now (c .before .before .before .before .before .args .nodes) in
     let rs = now (c .before .before .before .before .before .args .records) in
     read-as s ns rs (reading-short s (length ns) (length rs) (inl (omega arith))) (ap Refused (c .refusal .ensures)) refl refl
 
--- src/lib.rt:452:33
 refusal-requires-2 : tie.Need-refusal-requires-2
 refusal-requires-2 c κs = search needs
 
--- src/lib.rt:452:9
 returns-2 : tie.Need-returns-2
-returns-2 c = 
+returns-2 c =
     let s = now (c .before .before .before .before .before .before .args .file) in
     let ns = now (c .before .before .before .before .before .before .args .nodes) in
     let rs = now (c .before .before .before .before .before .before .args .records) in
     read-as s ns rs (reading-short s (length ns) (length rs) (inr (omega arith))) (ap Refused (c .refusal2 .ensures)) refl refl
 
--- src/lib.rt:454:9
 lay-out-requires : tie.Need-lay-out-requires
 lay-out-requires c κs = search needs
 
--- src/lib.rt:455:23
 enum-known-reading : tie.Need-enum-known-reading
 enum-known-reading c = search needs
 
--- src/lib.rt:456:9
 enum-told : tie.Need-enum-told
 enum-told c = search needs
 
--- src/lib.rt:456:9
 returns-3 : tie.Need-returns-3
-returns-3 c = 
+returns-3 c =
     let s = now (c .before .before .before .before .before .before .before .before .args .file) in
     let ns = now (c .before .before .before .before .before .before .before .before .args .nodes) in
     let rs = now (c .before .before .before .before .before .before .before .before .args .records) in
@@ -63,83 +49,67 @@ returns-3 c =
     (reading-laid s (length ns) (length rs) (omega arith) (omega arith) ∙ laid-refused s _ (sym (c .before .before .lay-out .ensures) ∙ c .enum-told .given .1))
     (c .enum-told .given .1) refl refl
 
--- src/lib.rt:458:17
 cast-n : tie.Need-cast-n
 cast-n c = search needs
 
--- src/lib.rt:458:13
 mul-n : tie.Need-mul-n
 mul-n c = search needs
 
--- src/lib.rt:459:13
 cast-k : tie.Need-cast-k
 cast-k c = search needs
 
--- src/lib.rt:460:35
 mul-records-at : tie.Need-mul-records-at
 mul-records-at c = search needs
 
--- src/lib.rt:460:22
 sub-records-at : tie.Need-sub-records-at
-sub-records-at c = 
+sub-records-at c =
     let t = counts-there _ _ (sym (c .before .before .before .before .before .lay-out .ensures) ∙ c .before .before .before .reading .given .1) in
     omega (arith, t .room)
 
--- src/lib.rt:461:20
 sub-nodes-at : tie.Need-sub-nodes-at
-sub-nodes-at c = 
+sub-nodes-at c =
     let t = counts-there _ _ (sym (c .before .before .before .before .before .lay-out .ensures) ∙ c .before .before .before .reading .given .1) in
     omega (arith, t .room)
 
--- src/lib.rt:461:37
 mul-nodes-at : tie.Need-mul-nodes-at
 mul-nodes-at c = search needs
 
--- src/lib.rt:461:20
 sub-nodes-at-2 : tie.Need-sub-nodes-at-2
-sub-nodes-at-2 c = 
+sub-nodes-at-2 c =
     let t = counts-there _ _ (sym (c .before .before .before .before .before .lay-out .ensures) ∙ c .before .before .before .reading .given .1) in
     omega (arith, t .room)
 
--- src/lib.rt:462:11
 check-numbers-requires : tie.Need-check-numbers-requires
-check-numbers-requires c κs = 
+check-numbers-requires c κs =
     let t = counts-there _ _ (sym (c .before .before .before .before .before .lay-out .ensures) ∙ c .before .before .before .reading .given .1) in
     t .placed
 
--- src/lib.rt:464:37
 enum-told-2 : tie.Need-enum-told-2
 enum-told-2 c = search needs
 
--- src/lib.rt:464:13
 fill-requires : tie.Need-fill-requires
-fill-requires c κs = 
+fill-requires c κs =
     let t = counts-there _ _ (sym (c .before .before .before .before .before .before .before .before .before .lay-out .ensures) ∙ c .before .before .before .before .before .before .before .reading .given .1) in
     let p = t .placed in
     (omega arith, omega arith)
 
--- src/lib.rt:465:13
 fill-requires-2 : tie.Need-fill-requires-2
-fill-requires-2 c κs = 
+fill-requires-2 c κs =
     let t = counts-there _ _ (sym (c .before .before .before .before .before .before .before .before .before .before .before .before .before .lay-out .ensures) ∙ c .before .before .before .before .before .before .before .before .before .before .before .reading .given .1) in
     let p = t .placed in
     (omega arith, omega arith)
 
--- src/lib.rt:468:24
 enum-known-r : tie.Need-enum-known-r
 enum-known-r c = search needs
 
--- src/lib.rt:445:1
 same-length : tie.Need-same-length
 same-length c = search needs
 
--- src/lib.rt:445:1
 same-length-2 : tie.Need-same-length-2
 same-length-2 c = search needs
 
--- src/lib.rt:445:1
 returns-4 : tie.Need-returns-4
-returns-4 c = 
+returns-4 c =
     let s = now (c .before .before .before .before .before .before .before .before .before .before .before .before .before .before .before .before .before .before .before .before .before .before .args .file) in
     let ns = now (c .before .before .before .before .before .before .before .before .before .before .before .before .before .before .before .before .before .before .before .before .before .before .args .nodes) in
     let rs = now (c .before .before .before .before .before .before .before .before .before .before .before .before .before .before .before .before .before .before .before .before .before .before .args .records) in
@@ -147,9 +117,8 @@ returns-4 c =
     let q = read-fine _ _ t ns rs (omega arith) (omega arith) (c .before .before .before .before .before .before .before .before .before .before .check-numbers .ensures) (c .before .before .before .before .before .before .before .before .enum-told2 .given .1) in
     read-as s ns rs q refl (c .before .before .before .before .before .before .fill .ensures) (c .before .before .fill2 .ensures)
 
--- src/lib.rt:445:1
 returns-5 : tie.Need-returns-5
-returns-5 c = 
+returns-5 c =
     let s = now (c .before .before .before .before .before .before .before .before .before .before .before .before .before .before .before .args .file) in
     let ns = now (c .before .before .before .before .before .before .before .before .before .before .before .before .before .before .before .args .nodes) in
     let rs = now (c .before .before .before .before .before .before .before .before .before .before .before .before .before .before .before .args .records) in

@@ -1,14 +1,14 @@
+-- `flowfile::same` meets its contract: the loop's invariant: the two names are the same exactly if what is left of them is.
+-- Assumes nothing.
+use Prim.Native.Nat.{_-_, _≤_}
+use mathlib.Core.Path.{_≡_, refl, sym, _∙_}
+use native.Mathlib.Omega.{arith}
 use denote.Ref.{now}
+use lib.ListN.{length, drop}
 use Rattle.flowfile.specs.NameLaws.{same-length, same-here, same-not, same-end}
 use Rattle.flowfile.specs.Reading.{same}
-use lib.ListN.{length, drop}
-use Prim.Native.Nat.{_+_, _-_, _≤_}
-use native.Mathlib.Omega.{arith}
-use mathlib.Core.Path.{_≡_, refl, ap, ap₂, sym, _∙_}
 use Rattle.flowfile.proofs.same.Statement.{statement}
 use Rattle.flowfile.proofs.same.Tie as tie
-use Rattle.flowfile.proofs.same.Reads as reads
-use Rattle.flowfile.proofs.same.Lts as lts
 
 abbrev Inv-loop : tie.InvT-loop
 Inv-loop a b i₀ i = (i ≤ length a) × (length a ≡ length b) × (same a b ≡ same (drop i a) (drop i b))
@@ -16,47 +16,38 @@ Inv-loop a b i₀ i = (i ≤ length a) × (length a ≡ length b) × (same a b �
 abbrev μ-loop : tie.MeasureT-loop
 μ-loop a b i₀ i = length a - i
 
--- src/lib.rt:146:9
 returns : tie.Need-returns Inv-loop μ-loop
 returns c = sym (same-length _ _ (c .if1 .taken))
 
--- src/lib.rt:149:5
 loop-holds : tie.Need-loop-holds Inv-loop μ-loop
 loop-holds c = (omega arith, omega arith, refl)
 
--- src/lib.rt:150:12
 shared-slice-read-if2 : tie.Need-shared-slice-read-if2 Inv-loop μ-loop
 shared-slice-read-if2 c = omega arith
 
--- src/lib.rt:150:20
 shared-slice-read-if2-2 : tie.Need-shared-slice-read-if2-2 Inv-loop μ-loop
 shared-slice-read-if2-2 c = omega arith
 
--- src/lib.rt:151:13
 returns-2 : tie.Need-returns-2 Inv-loop μ-loop
-returns-2 c = 
+returns-2 c =
     let a = now (c .before .before .before .before .before .before .args .a) in
     let b = now (c .before .before .before .before .before .before .args .b) in
     sym (c .before .before .before .before .loop .inv .2 ∙ same-not a b (c .before .before .before .before .loop .i) (omega arith) (omega arith) (c .if2 .taken))
 
--- src/lib.rt:153:9
 add-i : tie.Need-add-i Inv-loop μ-loop
 add-i c = omega arith
 
--- src/lib.rt:149:5
 loop-less : tie.Need-loop-less Inv-loop μ-loop
 loop-less c = omega arith
 
--- src/lib.rt:149:5
 loop-again : tie.Need-loop-again Inv-loop μ-loop
-loop-again c = 
+loop-again c =
     let a = now (c .before .before .before .before .before .before .args .a) in
     let b = now (c .before .before .before .before .before .before .args .b) in
     (omega arith, omega arith, c .before .before .before .before .loop .inv .2 ∙ same-here a b (c .before .before .before .before .loop .i) (omega arith) (omega arith) (c .if2 .left))
 
--- src/lib.rt:142:1
 returns-3 : tie.Need-returns-3 Inv-loop μ-loop
-returns-3 c = 
+returns-3 c =
     let a = now (c .before .before .before .args .a) in
     let b = now (c .before .before .before .args .b) in
     sym (c .before .loop .inv .2 ∙ same-end a b (c .before .loop .i) (omega arith) (omega arith))

@@ -1,42 +1,33 @@
+-- `flowfile::same_entry` meets its contract: both names, the machine names only where the step names are the same.
+-- Assumes nothing.
+use Prim.Native.Nat.{ℕ}
+use mathlib.Core.Path.{ap₂, sym, _∙_}
+use borrow.Author.Needs.{needs}
+use denote.Ref.{now}
 use Rattle.flowfile.specs.Items.{name-at}
 use Rattle.flowfile.specs.Reading.{same, same-entry}
-use denote.Ref.{now}
-use Prim.Native.Nat.{ℕ}
-use native.Mathlib.Omega.{arith}
-use mathlib.Core.Path.{_≡_, refl, ap, ap₂, sym, _∙_}
-use borrow.Author.Needs.{needs}
 use Rattle.flowfile.proofs.same_entry.Statement.{statement}
 use Rattle.flowfile.proofs.same_entry.Tie as tie
-use Rattle.flowfile.proofs.same_entry.Reads as reads
-use Rattle.flowfile.proofs.same_entry.Lts as lts
-use Rattle.flowfile.proofs.end_of_name.Reads as end-of-name-reads
-use Rattle.flowfile.proofs.same_name.Reads as same-name-reads
 
--- src/lib.rt:188:8
 same-name-requires : tie.Need-same-name-requires
 same-name-requires c κs = search needs
 
--- src/lib.rt:189:25
 end-of-name-requires : tie.Need-end-of-name-requires
 end-of-name-requires c κs = search needs
 
--- src/lib.rt:189:47
 end-of-name-requires-2 : tie.Need-end-of-name-requires-2
 end-of-name-requires-2 c κs = search needs
 
--- src/lib.rt:189:9
 same-name-requires-2 : tie.Need-same-name-requires-2
 same-name-requires-2 c κs = (rw (c .before .end-of-name .ensures) (c .before .before .before .before .before .pre .0), rw (c .end-of-name2 .ensures) (c .before .before .before .before .before .pre .1))
 
--- src/lib.rt:184:1
 returns : tie.Need-returns
 unfolding same-entry
-returns c = 
+returns c =
     let s = now (c .before .before .before .before .before .before .args .file) in
     let t = sym (c .before .before .before .before .same-name .ensures) ∙ c .before .before .before .if1 .taken in
     rw t (c .same-name2 .ensures ∙ ap₂ (λ (m n : ℕ). same (name-at s m) (name-at s n)) (c .before .before .end-of-name .ensures) (c .before .end-of-name2 .ensures))
 
--- src/lib.rt:184:1
 returns-2 : tie.Need-returns-2
 unfolding same-entry
 returns-2 c = rw (sym (c .before .same-name .ensures) ∙ c .if1 .left)

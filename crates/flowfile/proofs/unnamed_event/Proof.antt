@@ -1,11 +1,10 @@
-use Rattle.flowfile.specs.Reading.{unnamed-event}
+-- `flowfile::unnamed_event` meets its contract: the two tests are the definition's.
+-- Assumes nothing.
 use mathlib.Core.Path.{refl}
+use Rattle.flowfile.specs.Reading.{unnamed-event}
 use Rattle.flowfile.proofs.unnamed_event.Statement.{statement}
 use Rattle.flowfile.proofs.unnamed_event.Tie as tie
-use Rattle.flowfile.proofs.unnamed_event.Reads as reads
-use Rattle.flowfile.proofs.unnamed_event.Lts as lts
 
--- src/lib.rt:368:1
 returns : tie.Need-returns
 unfolding unnamed-event
 returns c = refl

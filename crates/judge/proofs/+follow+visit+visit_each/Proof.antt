@@ -1,8 +1,8 @@
 -- The counted search meets its contract: `visit` enters a state, `visit_each` goes through its successors, `follow` into one of
 -- them. The recursion's measure is three for each record that is left. The loop's invariant: the state's own stretch is kept, and
 -- what comes of all successors is what comes of those still to be tried (Turn). Assumes nothing.
-use Prim.Native.Nat.{ℕ, _+_, _-_, _*_, _≤_, _<_}
-use mathlib.Core.Path.{_≡_, refl, sym, ap, _∙_}
+use Prim.Native.Nat.{ℕ, _+_, _-_, _*_, _<_}
+use mathlib.Core.Path.{_≡_, refl, _∙_}
 use native.Mathlib.Omega.{arith}
 use lib.ListN.{length, drop, getD, length-drop}
 use borrow.Author.Needs.{needs}

@@ -3,7 +3,6 @@ use Prim.Native.Nat.{ℕ, _≤_, _-_, _*_}
 use mathlib.Core.Path.{_≡_, ap, _∙_}
 use native.Mathlib.Omega.{arith}
 use native.Mathlib.Nat.{le-antisymm}
-use lib.ListN.{length}
 use lib.Seq.{paste, paste-zero}
 use Rattle.judge.proofs.Stretches.{copy-more, copy-length}
 use Rattle.judge.proofs.copy_down.Statement.{statement}

@@ -2,7 +2,7 @@
 -- and so the node has made it. The measure is twice the node's number, and one more for a standard node, which may be a block.
 -- Assumes nothing.
 use native.Mathlib.Omega.{arith}
-use mathlib.Core.Path.{_≡_, sym, _∙_, ap}
+use mathlib.Core.Path.{sym, _∙_, ap}
 use borrow.Author.Needs.{needs}
 use Rattle.states.specs.State.{counts}
 use Rattle.steps.specs.Turns.{plain, running, undoing, Ready}

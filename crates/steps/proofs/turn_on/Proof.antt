@@ -1,7 +1,7 @@
 -- `steps::turn_on` meets its contract: a compensation of PP is chosen by what is left of the place, and QQ makes the step. Assumes nothing.
 use Rattle.steps.specs.TurnLaws.{on-spot, on-room, turned-on}
 use Rattle.states.specs.State.{counts}
-use mathlib.Core.Path.{_≡_, _∙_, ap}
+use mathlib.Core.Path.{_∙_, ap}
 use native.Mathlib.Omega.{arith}
 use borrow.Author.Needs.{needs}
 use Rattle.steps.proofs.turn_on.Statement.{statement}

@@ -2,7 +2,7 @@
 use Rattle.steps.specs.TurnLaws.{open-first, open-second, on-drawn}
 use Rattle.steps.specs.Turns.{role-of, Ready, Turned}
 use Rattle.states.specs.State.{modes, counts}
-use mathlib.Core.Path.{_≡_, sym, _∙_, ap, subst}
+use mathlib.Core.Path.{sym, _∙_, ap, subst}
 use native.Mathlib.Omega.{arith}
 use borrow.Author.Needs.{needs}
 use Rattle.steps.proofs.turn_open.Statement.{statement}

@@ -1,7 +1,7 @@
 -- `steps::turn_out` meets its contract: a compensation is chosen by what is left of the place, and it is counted. Assumes nothing.
 use Rattle.steps.specs.TurnLaws.{leave-start, leaves-room, leaves-spot, leaves-turned}
 use Rattle.states.specs.State.{counts}
-use mathlib.Core.Path.{_≡_, _∙_, ap}
+use mathlib.Core.Path.{_∙_, ap}
 use native.Mathlib.Omega.{arith}
 use borrow.Author.Needs.{needs}
 use Rattle.steps.proofs.turn_out.Statement.{statement}
