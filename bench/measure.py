@@ -15,11 +15,8 @@ FLOWS = ["paraa", "choice", "yield", "undo"]
 CLOSINGS = {61441: "done", 61442: "withdrawn", 61443: "failed"}
 ALLOWANCE = 20_000_000
 NOTE = """
-The judge is timed as a process that reads cases and writes lines. "other", where it is there, is an unproved implementation of an
-earlier design in Rust, timed inside itself; it keeps a cursor where the judge counts. The judge is ahead on the flows with choices
-and compensations. On paraa, where a state has up to nine successors and nothing else to find out, it reaches about 0.8 of that:
-the copy of the modes for each successor and the counting of the finished leaves are what is left, and leaving out finished parts
-would want one more mode for each kind of part.
+The judge is timed as a process that reads cases and writes lines, less the time of a process that judges nothing. "other", where it
+is there, is timed inside itself.
 """
 
 
