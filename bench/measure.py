@@ -2,13 +2,13 @@
 """States per second on the stored flows: the proved judge, the independent implementation, and the transition rules in Prolog.
 
 Every figure is of one run on the same files. The judge is timed inside `replay`, on cases repeated in one process; the time of a
-process that judges nothing is taken off. Prints a table and keeps it in RESULTS.md beside this file.
-usage: measure.py REPLAY INDEPENDENT [OTHER]
-  REPLAY       the proved program replay
+process that judges nothing is taken off. Prints a table and keeps it in RESULTS.md beside this file; not so on another processor
+than the one that Rattle's programs are compiled for, where the judge runs under an emulator and its time says nothing.
+usage: measure.py INDEPENDENT [OTHER]
   INDEPENDENT  the independent implementation, which has a subcommand `bench FILE`
   OTHER        one more program with `bench FILE ..`, printing lines that end in '.. M states/s' (optional)
 """
-import pathlib, re, struct, subprocess, sys, tempfile, time
+import pathlib, platform, re, struct, subprocess, sys, tempfile, time
 
 HERE = pathlib.Path(__file__).resolve().parent
 FLOWS = ["paraa", "choice", "yield", "undo"]
@@ -53,7 +53,7 @@ def timed(program, stdin):
     best, out = float("inf"), b""
     for _ in range(5):
         t = time.perf_counter()
-        out = subprocess.run([program], input=stdin, stdout=subprocess.PIPE, check=True).stdout
+        out = subprocess.run(program, input=stdin, stdout=subprocess.PIPE, check=True).stdout
         best = min(best, time.perf_counter() - t)
     return best, out.decode()
 
@@ -84,7 +84,8 @@ def bench(program, path):
 
 
 def main():
-    replay, independent, other = sys.argv[1], sys.argv[2], sys.argv[3] if len(sys.argv) > 3 else None
+    replay = subprocess.run([HERE.parent / "scripts" / "run", "--words", "replay"], stdout=subprocess.PIPE, check=True).stdout.decode().splitlines()
+    independent, other = sys.argv[1], sys.argv[2] if len(sys.argv) > 2 else None
     head = ["flow", "nodes", "states", "judge", "independent", "Prolog"] + (["other"] if other else [])
     rows = []
     for name in FLOWS:
@@ -97,8 +98,11 @@ def main():
         rows.append(row + ([f"{bench(other, path) / 1e6:.2f}"] if other else []))
     table = "\n".join("| " + " | ".join(r) + " |" for r in [head, ["---"] * len(head)] + rows)
     text = f"# States per second, in millions\n\nOne run, all programs on the same files (`bench/flows`), best of five.\n\n{table}\n{NOTE}"
-    (HERE / "RESULTS.md").write_text(text)
     print(text)
+    if platform.machine() == "x86_64":
+        (HERE / "RESULTS.md").write_text(text)
+    else:
+        print("The judge ran under an emulator: its column says nothing of its speed, and the table is not kept.")
 
 
 main()

@@ -12,9 +12,9 @@ use std::time::Duration;
 /// A line that takes longer counts as missing.
 const PATIENCE: Duration = Duration::from_secs(120);
 
-/// Compares so many cases and then everything that is no case. The text says what was seen, or the first
-/// difference.
-pub fn compare(cases: u64, seed: u64, replay: &str) -> Result<String, String> {
+/// Compares so many cases and then everything that is no case; `replay` is the command that runs it. The text says
+/// what was seen, or the first difference.
+pub fn compare(cases: u64, seed: u64, replay: &[&str]) -> Result<String, String> {
     let totals = compare_cases(cases, seed, replay)?;
     let bad = malformed();
     compare_empty(replay)?;
@@ -22,10 +22,11 @@ pub fn compare(cases: u64, seed: u64, replay: &str) -> Result<String, String> {
     Ok(format!("{}{} malformed cases\nno difference, seed {seed}\n", totals.show(), bad.len()))
 }
 
-fn start(replay: &str) -> Result<Child, String> {
-    let mut command = Command::new(replay);
-    command.stdin(Stdio::piped()).stdout(Stdio::piped());
-    command.spawn().map_err(|e| format!("cannot run {replay}: {e}"))
+fn start(replay: &[&str]) -> Result<Child, String> {
+    let (program, arguments) = replay.split_first().ok_or("no command")?;
+    let mut command = Command::new(program);
+    command.args(arguments).stdin(Stdio::piped()).stdout(Stdio::piped());
+    command.spawn().map_err(|e| format!("cannot run {program}: {e}"))
 }
 
 /// The lines that a child prints, each as soon as it is there; the channel closes with its output.
@@ -42,7 +43,7 @@ fn lines_of(child: &mut Child) -> Receiver<String> {
     receiver
 }
 
-fn compare_cases(cases: u64, seed: u64, replay: &str) -> Result<Totals, String> {
+fn compare_cases(cases: u64, seed: u64, replay: &[&str]) -> Result<Totals, String> {
     let mut child = start(replay)?;
     let lines = lines_of(&mut child);
     let mut input = child.stdin.take().expect("a pipe");
@@ -87,7 +88,7 @@ fn end(mut child: Child) {
 }
 
 /// All lines that a program prints for an input.
-fn all_lines(replay: &str, input: &[u8]) -> Result<Vec<String>, String> {
+fn all_lines(replay: &[&str], input: &[u8]) -> Result<Vec<String>, String> {
     let mut child = start(replay)?;
     let lines = lines_of(&mut child);
     // A program that ends early does not read the rest.
@@ -100,7 +101,7 @@ fn all_lines(replay: &str, input: &[u8]) -> Result<Vec<String>, String> {
     Ok(all)
 }
 
-fn compare_empty(replay: &str) -> Result<(), String> {
+fn compare_empty(replay: &[&str]) -> Result<(), String> {
     let lines = all_lines(replay, &[])?;
     if lines.is_empty() {
         Ok(())
@@ -110,7 +111,7 @@ fn compare_empty(replay: &str) -> Result<(), String> {
 }
 
 /// A good case is answered, the malformed one is called bad, and nothing after it is answered.
-fn compare_malformed(replay: &str, malformed: &Malformed) -> Result<(), String> {
+fn compare_malformed(replay: &[&str], malformed: &Malformed) -> Result<(), String> {
     let good = good_case();
     let answer = good.answer(9).expect("two states");
     let mut input = [good.bytes(), malformed.bytes.clone()].concat();

@@ -11,7 +11,7 @@ use std::process::ExitCode;
 
 const USAGE: &str = "usage:
   oracle cases N SEED OUT_STDIN OUT_STDOUT   N cases for replay and the lines it must print
-  oracle compare N SEED PATH_TO_REPLAY       run replay on N cases; stop at the first difference
+  oracle compare N SEED COMMAND ..           run replay by this command on N cases; stop at the first difference
   oracle selfcheck N SEED                    the oracle against trace sets and laws, N flows each
   oracle samples DIR                         write the sample files and expected.txt
   oracle line FILE                           the line that the program prints for a flow file
@@ -36,7 +36,7 @@ fn run(arguments: &[String]) -> Result<String, String> {
     let words: Vec<&str> = arguments.iter().map(String::as_str).collect();
     match words[..] {
         ["cases", n, seed, stdin, stdout] => cases(number(n)?, number(seed)?, stdin, stdout),
-        ["compare", n, seed, replay] => compare(number(n)?, number(seed)?, replay),
+        ["compare", n, seed, ref replay @ ..] => compare(number(n)?, number(seed)?, replay),
         ["selfcheck", n, seed] => selfcheck(number(n)?, number(seed)?),
         ["samples", folder] => samples::write(folder).map_err(|e| format!("{folder}: {e}\n")),
         ["line", file] => {
