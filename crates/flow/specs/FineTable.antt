@@ -9,6 +9,7 @@ use native.Mathlib.Omega.{arith}
 use lib.Dec.{T, eqb, ltb, eqb→eq, eqb-refl}
 use lib.ListN.{length, List·getD-eq-default}
 use borrow.Author.Tests.{eqb-true, eqb-false, ltb-true, ltb-false, not-false}
+use Rattle.calculus.specs.Members.{or-in-left, or-in-right, and-in, and-left, and-right}
 use Rattle.flow.specs.declared.Check.the-variants.{Fine}
 use Rattle.flow.specs.Nodes.{Kid, kid1, kid2, Tree}
 use Rattle.flow.specs.Kinds.{Kind, Unknown, kindOf, kids, kind, one-of, two-of, shape, is-standard, of-standard}
@@ -26,7 +27,7 @@ pub record FineTable (ns : List ℕ) : Type 0 where
   pub child : (i : ℕ) → i + 1 < count ns → nobodys-child ns i ≡ false
 
 module _ (ns : List ℕ) where
-  fine-child : (i : ℕ) → None (child-grounds ns i) → nobodys-child ns i ≡ false
+  pub fine-child : (i : ℕ) → None (child-grounds ns i) → nobodys-child ns i ≡ false
   unfolding child-grounds
   fine-child i (more t n) = is-false (nobodys-child ns i) t
 
@@ -51,35 +52,15 @@ module _ (ns : List ℕ) where
 
 ---- Children ----
 
-or-one : (a b : Bool) → T a → T (a || b)
-or-one true b t = tt
-or-one false b t = absurd t
-
-or-two : (a b : Bool) → T b → T (a || b)
-or-two true b t = tt
-or-two false b t = t
-
-and-both : (a b : Bool) → T a → T b → T (a && b)
-and-both true b t u = u
-and-both false b t u = absurd t
-
-one-of-both : (a b : Bool) → T (a && b) → T a
-one-of-both true b t = tt
-one-of-both false b t = t
-
-two-of-both : (a b : Bool) → T (a && b) → T b
-two-of-both true b t = t
-two-of-both false b t = absurd t
-
 module _ (ns : List ℕ) where
   kid-child : (j c : ℕ) → Kid (shape ns) j c → T (is-child ns j c)
   unfolding is-child
   kid-child j c (kid1 t e) =
-      or-one (has-one ns j && eqb (one-of ns j) c) (has-two ns j && eqb (two-of ns j) c)
-      (and-both (has-one ns j) (eqb (one-of ns j) c) t (subst (λ (x : ℕ). T (eqb (one-of ns j) x)) (sym e) (eqb-refl (one-of ns j))))
+      or-in-left (has-one ns j && eqb (one-of ns j) c) (has-two ns j && eqb (two-of ns j) c)
+      (and-in (has-one ns j) (eqb (one-of ns j) c) t (subst (λ (x : ℕ). T (eqb (one-of ns j) x)) (sym e) (eqb-refl (one-of ns j))))
   kid-child j c (kid2 t e) =
-      or-two (has-one ns j && eqb (one-of ns j) c) (has-two ns j && eqb (two-of ns j) c)
-      (and-both (has-two ns j) (eqb (two-of ns j) c) t (subst (λ (x : ℕ). T (eqb (two-of ns j) x)) (sym e) (eqb-refl (two-of ns j))))
+      or-in-right (has-one ns j && eqb (one-of ns j) c) (has-two ns j && eqb (two-of ns j) c)
+      (and-in (has-two ns j) (eqb (two-of ns j) c) t (subst (λ (x : ℕ). T (eqb (two-of ns j) x)) (sym e) (eqb-refl (two-of ns j))))
 
   -- a child of a node below n is taken
   pub kid-taken : (n j c : ℕ) → j < n → Kid (shape ns) j c → T (taken ns n c)
@@ -88,15 +69,15 @@ module _ (ns : List ℕ) where
   kid-taken (suc n) j c h k = by (eqb j n) refl (λ l. kid-taken n j c l k)
     where
       by : (b : Bool) → eqb j n ≡ b → (j < n → T (taken ns n c)) → T (taken ns n c || is-child ns n c)
-      by true e rec = or-two (taken ns n c) (is-child ns n c) (subst (λ (x : ℕ). T (is-child ns x c)) (eqb-true j n e) (kid-child j c k))
-      by false e rec = or-one (taken ns n c) (is-child ns n c) (rec (omega (arith, eqb-false j n e)))
+      by true e rec = or-in-right (taken ns n c) (is-child ns n c) (subst (λ (x : ℕ). T (is-child ns x c)) (eqb-true j n e) (kid-child j c k))
+      by false e rec = or-in-left (taken ns n c) (is-child ns n c) (rec (omega (arith, eqb-false j n e)))
 
   child-kid : (j c : ℕ) → T (is-child ns j c) → Kid (shape ns) j c
   unfolding is-child
   child-kid j c t = by (has-one ns j) refl (eqb (one-of ns j) c) refl t
     where
       two : T (has-two ns j && eqb (two-of ns j) c) → Kid (shape ns) j c
-      two t = kid2 (one-of-both (has-two ns j) (eqb (two-of ns j) c) t) (sym (eqb→eq (two-of ns j) c (two-of-both (has-two ns j) (eqb (two-of ns j) c) t)))
+      two t = kid2 (and-left (has-two ns j) (eqb (two-of ns j) c) t) (sym (eqb→eq (two-of ns j) c (and-right (has-two ns j) (eqb (two-of ns j) c) t)))
 
       by : (a : Bool) → has-one ns j ≡ a → (b : Bool) → eqb (one-of ns j) c ≡ b → T ((a && b) || (has-two ns j && eqb (two-of ns j) c)) → Kid (shape ns) j c
       by true p true q t = kid1 (subst T (sym p) tt) (sym (eqb-true (one-of ns j) c q))

@@ -8,6 +8,7 @@ pub mod Forms
 pub mod Draws
 -- Theorems.
 pub mod Tests
+pub mod EachKind
 pub mod FirstRefusal
 pub mod ExactlyWhen
 pub mod Children

@@ -123,7 +123,7 @@ module _ (ns rs : List ℕ) where
 
 -- 12: each is an event or a closing
 module _ (rs : List ℕ) where
-  value-fine : (i : ℕ) → None (value-grounds rs i) → no-record (getD rs i 0) ≡ false
+  pub value-fine : (i : ℕ) → None (value-grounds rs i) → no-record (getD rs i 0) ≡ false
   unfolding value-grounds
   value-fine i (None.more t n) = is-false (no-record (getD rs i 0)) t
 

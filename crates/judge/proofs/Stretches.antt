@@ -17,9 +17,10 @@ use Rattle.flow.specs.Refusals.{count, root}
 use Rattle.states.specs.State.{modes, counts}
 use Rattle.states.specs.StateLaws.{part-frame, stored-frame}
 use Rattle.states.specs.Contracts.{Sound, Kept}
+use Rattle.states.specs.Roles.{ok}
 use Rattle.judge.specs.declared.Role.{Role}
 use Rattle.judge.specs.declared.Role.the-variants.{Standard, Running, Left}
-use Rattle.judge.specs.Visits.{state, stretches, Used, RightCounts}
+use Rattle.judge.specs.Visits.{live, state, stretches, Used, RightCounts}
 
 -- Lists that agree from a place on ---------------------------------------------------------------------------------------
 
@@ -149,9 +150,7 @@ module _ (ns : List ℕ) (sound : Sound ns) (some : 3 ≤ length ns) where
     state-same Left = ap (λ x. std (x .left)) (part-frame ns (modes t) (modes t′) (root ns) (λ j u. same j (below u)))
 
     pub right-same : (role : Role) (a : ℕ) (c : List ℕ) → RightCounts ns role a t c → RightCounts ns role a t′ c
-    right-same Standard a c r = subst (λ x. T (x .std)) (stored-frame ns a (modes t) (modes t′) (counts c) (counts c) (root ns) (λ j u. same j (below u)) (λ j u. refl)) r
-    right-same Running a c r = subst (λ x. T (x .run)) (stored-frame ns a (modes t) (modes t′) (counts c) (counts c) (root ns) (λ j u. same j (below u)) (λ j u. refl)) r
-    right-same Left a c r = subst (λ x. T (x .left)) (stored-frame ns a (modes t) (modes t′) (counts c) (counts c) (root ns) (λ j u. same j (below u)) (λ j u. refl)) r
+    right-same role a c r = subst (λ x. T (ok (live role) x)) (stored-frame ns a (modes t) (modes t′) (counts c) (counts c) (root ns) (λ j u. same j (below u)) (λ j u. refl)) r
 
   pub used-modes : (m : ℕ) (t t′ : List ℕ) → Used (count ns) m t t′ → (j : ℕ) → j < count ns → getD t j 0 ≡ getD t′ j 0
   used-modes m t t′ u j h =

@@ -17,6 +17,8 @@ use Rattle.flow.specs.Refusals.{Ground, each, count, no-nodes, not-whole, too-m
 use Rattle.flow.specs.Tests.{is-true, is-false}
 use Rattle.flow.specs.FirstRefusal.{First, here, later, None, none, more, refused-exactly, fine-exactly, none-append, none-each}
 use Rattle.flow.specs.Children.{FineNode, fine-node}
+use Rattle.flow.specs.FineTable.{fine-child}
+use Rattle.flow.specs.RecordsFit.{value-fine}
 use Rattle.judge.specs.Judged.{too-short, room-grounds, judge-grounds, judge-check}
 use Rattle.judge.specs.Given.{SizePasses, ToNode, NodesPass, TablePasses, CountPasses, ValuesPass, RecordsPass, Passes, Given, given-1, given-2, given-3, given-4, given-5, given-6, given-7, given-8, given-9, given-10, given-11, given-12, given-13, given-14}
 
@@ -97,10 +99,6 @@ module _ (ns : List ℕ) where
   unfolding child-grounds
   child-none i e = more (fails e) none
 
-  none-child : (i : ℕ) → None (child-grounds ns i) → nobodys-child ns i ≡ false
-  unfolding child-grounds
-  none-child i (more t n) = is-false (nobodys-child ns i) t
-
   abbrev every-node : List Ground
   every-node = each (node-grounds ns) 0 (count ns)
 
@@ -129,7 +127,7 @@ module _ (ns : List ℕ) where
           size = record { some = is-false (no-nodes ns) a; whole = is-false (not-whole ns) b; few = is-false (too-many-nodes ns) c };
           each = none-nodes (m .0);
         };
-        child = λ j h. none-child j (none-each (child-grounds ns) 0 (count ns - 1) j (m .1) (omega arith) (omega arith));
+        child = λ j h. fine-child ns j (none-each (child-grounds ns) 0 (count ns - 1) j (m .1) (omega arith) (omega arith));
       }
 
   pub table-passes : TablePasses ns → table-check ns ≡ Fine
@@ -141,17 +139,13 @@ module _ (rs : List ℕ) where
   unfolding value-grounds
   value-none i e = more (fails e) none
 
-  none-value : (i : ℕ) → None (value-grounds rs i) → no-record (getD rs i 0) ≡ false
-  unfolding value-grounds
-  none-value i (more t n) = is-false (no-record (getD rs i 0)) t
-
   values-none : ((j : ℕ) → j < length rs → no-record (getD rs j 0) ≡ false) → None (values-grounds rs)
   unfolding values-grounds
   values-none n = none-all (value-grounds rs) 0 (length rs) (λ j lo hi. value-none j (n j (omega arith)))
 
   none-values : None (values-grounds rs) → (j : ℕ) → j < length rs → no-record (getD rs j 0) ≡ false
   unfolding values-grounds
-  none-values n j h = none-value j (none-each (value-grounds rs) 0 (length rs) j n (omega arith) (omega arith))
+  none-values n j h = value-fine rs j (none-each (value-grounds rs) 0 (length rs) j n (omega arith) (omega arith))
 
 module _ (ns rs : List ℕ) where
   pub closings-pass : wrong-closings ns rs ≡ false → closings-check ns rs ≡ Fine
@@ -220,7 +214,7 @@ module _ (ns rs : List ℕ) (room : ℕ) where
     children-row : NodesPass ns → First r (every-child ns) → Row r
     children-row n f =
         let q = first-at (child-grounds ns) 0 (count ns - 1) f in
-        child-row (q .at) n (λ j h. none-child ns j (q .before j (omega arith) h)) (omega (arith, q .high)) (q .found)
+        child-row (q .at) n (λ j h. fine-child ns j (q .before j (omega arith) h)) (omega (arith, q .high)) (q .found)
 
     table-row : First r (table-grounds ns) → Row r
     unfolding table-grounds nodes-grounds
@@ -245,7 +239,7 @@ module _ (ns rs : List ℕ) (room : ℕ) where
     unfolding values-grounds
     values-row p f =
         let q = first-at (value-grounds rs) 0 (length rs) f in
-        value-row (q .at) p (λ j h. none-value rs j (q .before j (omega arith) h)) (omega (arith, q .high)) (q .found)
+        value-row (q .at) p (λ j h. value-fine rs j (q .before j (omega arith) h)) (omega (arith, q .high)) (q .found)
 
     closing-row : ValuesPass ns rs → First r (closing-grounds ns rs) → Row r
     unfolding closing-grounds

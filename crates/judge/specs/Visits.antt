@@ -18,6 +18,7 @@ use Rattle.tallies.specs.Places.{At}
 use Rattle.tallies.specs.declared.View.{View}
 use Rattle.states.specs.State.{part, modes, counts}
 use Rattle.states.specs.Stored.{stored}
+use Rattle.states.specs.Roles.{Role as Live, plain, running, undoing, ok}
 use Rattle.states.specs.Contracts.{Sound, Kept}
 use Rattle.judge.specs.declared.Role.{Role}
 use Rattle.judge.specs.declared.Role.the-variants.{Standard, Running, Left}
@@ -25,6 +26,12 @@ use Rattle.judge.specs.declared.Out.{Out}
 use Rattle.judge.specs.declared.Out.the-variants.{Spent, Back}
 
 -- States ----------------------------------------------------------------------------------------------------------------
+
+-- the role that the root's part has in the states below
+abbrev pub live : Role → Live
+live Standard = plain
+live Running = running
+live Left = undoing
 
 -- what the stretch t holds, where the root has this role
 unfoldable pub state : List ℕ → Role → List ℕ → State
@@ -109,9 +116,7 @@ Inner Left r = r < done-number
 
 -- the counts of the root's role are right
 abbrev pub RightCounts : List ℕ → Role → ℕ → List ℕ → List ℕ → Type 0
-RightCounts ns Standard a t c = T (stored ns a (modes t) (counts c) (root ns) .std)
-RightCounts ns Running a t c = T (stored ns a (modes t) (counts c) (root ns) .run)
-RightCounts ns Left a t c = T (stored ns a (modes t) (counts c) (root ns) .left)
+RightCounts ns role a t c = T (ok (live role) (stored ns a (modes t) (counts c) (root ns)))
 
 -- how many successors, capped
 abbrev pub successor-count : List ℕ → Role → ℕ → List ℕ → ℕ

@@ -4,16 +4,15 @@ use Prim.Native.Nat.{ℕ, _+_, _*_, _-_, _<_, _≤_}
 use mathlib.Core.Path.{_≡_, refl, sym, _∙_, ap, subst}
 use mathlib.Core.Bool.{Bool, true, not, _&&_, cond}
 use mathlib.Core.List.{List, map}
-use mathlib.Core.Logic.{_≢_, ⊎-elim}
+use mathlib.Core.Logic.{_≢_}
 use native.Mathlib.Omega.{arith}
-use native.Mathlib.Nat.{eq-or-lt-of-le}
 use lib.Dec.{eqb}
-use lib.ListN.{length, getD, set, length-set, List·getD-eq-default}
-use lib.Seq.{getD-set-same}
+use lib.ListN.{length, getD, set}
 use borrow.Author.Tests.{ne-eqb}
 use Rattle.calculus.specs.Term.{done, withdrawn, Std, Cmp, skip, seq, par, pair, cseq, calt, cpar, held}
 use Rattle.calculus.specs.Successors.{eqc, only, ends, comps}
-use Rattle.flow.specs.Kinds.{Kind, Unknown, kinds, kindOf, one-of, two-of}
+use Rattle.flow.specs.Kinds.{Kind, kindOf, one-of, two-of}
+use Rattle.flow.specs.EachKind.{unknown, each-kind}
 use Rattle.tallies.specs.Capped.{cap}
 use Rattle.tallies.specs.Counts.{sum-of, moves, view, tally, word, weight}
 use Rattle.tallies.specs.CountsLaws.{tally-only, weight-total}
@@ -26,9 +25,11 @@ use Rattle.tallies.specs.declared.Word.{Word}
 use Rattle.tallies.specs.declared.Weight.{Weight}
 use Rattle.states.specs.State.{Part, build, part, modes}
 use Rattle.states.specs.StateLaws.{part-is}
-use Rattle.states.specs.Contracts.{Spot, Kept, CountedStd, CountedLeft, Chosen, weight-of}
+use Rattle.states.specs.Roles.{plain, undoing}
+use Rattle.states.specs.Contracts.{Spot, Kept, Sets, Counted, Chosen, weight-of}
+use Rattle.states.specs.ChildLaws.{set-sets, lower-spot, same-room, kept-set, kept-part, kid-lower, kept-kid, same-part, spot-down}
 use Rattle.seek.specs.Asked.{Fallen, runs, left, own-of, Wanted, Below, Marked, followed, Follows, Followed, PairChosen}
-use Rattle.seek.specs.NodeLaws.{set-part, kept-kid, kept-set, kept-part, Fork, first-kid, second-kid, sides-apart, node-is, kid-lower, room-is, sought-is, spot-below, marked-kept, marked-part}
+use Rattle.seek.specs.NodeLaws.{Fork, first-kid, second-kid, sides-apart, node-is, room-is, sought-is, marked-kept, marked-part}
 
 -- What is weighed ---------------------------------------------------------------------------------------------------------------
 
@@ -41,9 +42,6 @@ module _ (a : ℕ) (g : Weight) where
   own-weighed pp w e f d = rw eqc-done (weighed (only (not (eqb w 0)) (comps pp (closing w))) (f ∙ ap (whenT (not (eqb w 0))) e ∙ sym (tally-only a (not (eqb w 0)) (comps pp (closing w)))) d)
 
 -- Parts that become SKIP ----------------------------------------------------------------------------------------------------
-
-from : (P : ℕ → Type 0) (n : ℕ) → P n → ((k : ℕ) → n < k → P k) → (k : ℕ) → n ≤ k → P k
-from P n p next k l = ⊎-elim (λ e. subst P e p) (λ h. next k h) (eq-or-lt-of-le l)
 
 module _ (m e : ℕ) (x y : Part) where
   record Lone (k : Kind) : Type 0 where
@@ -60,14 +58,11 @@ module _ (m e : ℕ) (x y : Part) where
 
   other : (k : ℕ) → Other k
   unfolding build
-  other k =
-      from Other 0 (λ a b c d. lone refl refl) (from Other 1 (λ a b c d. lone refl refl) (from Other 2 (λ a b c d. lone refl refl)
-      (from Other 3 (λ a b c d. lone refl refl) (from Other 4 (λ a b c d. lone refl refl) (from Other 5 (λ a b c d. lone refl refl)
-      (from Other 6 (λ a b c d. lone refl refl) (from Other 7 (λ a b c d. lone refl refl) (from Other 8 (λ a b c d. lone refl refl)
-      (from Other 9 (λ a b c d. lone refl refl)
-      (from Other 10 (λ a b c d. absurd (a refl)) (from Other 11 (λ a b c d. absurd (b refl)) (from Other 12 (λ a b c d. absurd (c refl)) (from Other 13 (λ a b c d. absurd (d refl))
-      (from Other 14 (λ a b c d. lone refl refl) (from Other 15 (λ a b c d. lone refl refl) (from Other 16 (λ a b c d. lone refl refl)
-      (λ k h a b c d. subst Lone (sym (List·getD-eq-default kinds Unknown {n = k} (omega arith))) (lone refl refl)))))))))))))))))) k (omega arith)
+  other =
+      each-kind Other (λ a b c d. lone refl refl) (λ a b c d. lone refl refl) (λ a b c d. lone refl refl) (λ a b c d. lone refl refl) (λ a b c d. lone refl refl)
+      (λ a b c d. lone refl refl) (λ a b c d. lone refl refl) (λ a b c d. lone refl refl) (λ a b c d. lone refl refl) (λ a b c d. lone refl refl)
+      (λ a b c d. absurd (a refl)) (λ a b c d. absurd (b refl)) (λ a b c d. absurd (c refl)) (λ a b c d. absurd (d refl))
+      (λ a b c d. lone refl refl) (λ a b c d. lone refl refl) (λ a b c d. lone refl refl) (λ k h a b c d. subst Lone (sym (unknown k h)) (lone refl refl))
 
 pub other-chosen : {ns t : List ℕ} {a i w : ℕ} {g : Weight} {j : ℕ} → Wanted ns t a i w g j → getD ns (3 * i) 0 ≢ 10 → getD ns (3 * i) 0 ≢ 11 → getD ns (3 * i) 0 ≢ 12 → getD ns (3 * i) 0 ≢ 13
     → Chosen ns t a i (closing w) g j t j 0 true
@@ -92,31 +87,28 @@ module _ {ns t : List ℕ} {i : ℕ} (spot : Spot ns t i) (k : getD ns (3 * i) 0
   pair-runs = ap (λ p. p .run) (node-is pair-fork (modes t) refl)
 
   module _ (m : ℕ) {t′ : List ℕ} (e : t′ ≡ set t i m) where
-    pair-mode : modes t′ i ≡ m
-    pair-mode = ap (λ z. modes z i) e ∙ getD-set-same t i m 0 (spot .room)
-
-    pair-kept : Kept ns i (modes t) (modes t′)
-    pair-kept = subst (λ z. Kept ns i (modes t) (modes z)) (sym e) (kept-set ns t i m)
+    pair-sets : Sets t i m t′
+    pair-sets = set-sets (spot .room) e
 
     pub pair-spot : {s : ℕ} → s ≡ two-of ns i → Spot ns t′ s
-    pair-spot d = let l = kid-lower ns (spot .node .sound .tree) (second-kid pair-fork) in spot-below ns spot (omega arith) (ap length e ∙ length-set t i m)
+    pair-spot d = subst (Spot ns t′) (sym d) (spot-down ns (spot .node .sound .tree) (second-kid pair-fork) pair-sets spot)
 
-  pub pair-done : {a w j : ℕ} {t′ : List ℕ} → t′ ≡ set t i 1 → w ≡ 0 → {s : ℕ} → s ≡ two-of ns i → {c c′ : List ℕ} {v : View} → CountedStd ns t′ a s c c′ v → PairChosen ns t a i (closing w) j t′ j (v .moves) (v .done)
+  pub pair-done : {a w j : ℕ} {t′ : List ℕ} → t′ ≡ set t i 1 → w ≡ 0 → {s : ℕ} → s ≡ two-of ns i → {c c′ : List ℕ} {v : View} → Counted ns a plain t′ s c c′ v → PairChosen ns t a i (closing w) j t′ j (v .moves) (v .done)
   unfolding build
   pair-done {a} {w} {t′} e o d {v} h g room =
-      let q : part ns (modes t′) (two-of ns i) ≡ part ns (modes t) (two-of ns i) = ap (λ z. part ns (modes z) (two-of ns i)) e ∙ set-part ns (spot .node .sound .tree) (second-kid pair-fork) t 1 in
-      let l : left ns t′ i ≡ part ns (modes t) (two-of ns i) .std = ap (λ p. p .left) (node-is pair-fork (modes t′) (pair-mode 1 e)) ∙ ap (λ p. p .std) q in
+      let q : part ns (modes t′) (two-of ns i) ≡ part ns (modes t) (two-of ns i) = same-part ns (spot .node .sound .tree) (second-kid pair-fork) (pair-sets 1 e) in
+      let l : left ns t′ i ≡ part ns (modes t) (two-of ns i) .std = ap (λ p. p .left) (node-is pair-fork (modes t′) (pair-sets 1 e .here)) ∙ ap (λ p. p .std) q in
       let u : v ≡ view a (part ns (modes t) (two-of ns i) .std) = h .seen ∙ ap (λ z. view a (part ns (modes t′) z .std)) d ∙ ap (λ p. view a (p .std)) q in
       record {
         sought = sought-is a g (closing w) (sym pair-runs) (sym l) (seek-pair a g _ _ (ap closing o) u (room-is a g (closing w) pair-runs room));
-        kept = pair-kept 1 e;
+        kept = kept-set ns (pair-sets 1 e);
       }
 
   pub pair-other : {a w j : ℕ} {t′ : List ℕ} → t′ ≡ set t i 2 → w ≢ 0 → PairChosen ns t a i (closing w) j t′ j 0 true
   unfolding build
   pair-other {a} {w} {t′} e n g room = record {
-    sought = sought-is a g (closing w) (sym pair-runs) (sym (ap (λ p. p .left) (node-is pair-fork (modes t′) (pair-mode 2 e)))) (seek-pair-skip a g _ _ (closing w) (closing-other w n) (room-is a g (closing w) pair-runs room));
-    kept = pair-kept 2 e;
+    sought = sought-is a g (closing w) (sym pair-runs) (sym (ap (λ p. p .left) (node-is pair-fork (modes t′) (pair-sets 2 e .here)))) (seek-pair-skip a g _ _ (closing w) (closing-other w n) (room-is a g (closing w) pair-runs room));
+    kept = kept-set ns (pair-sets 2 e);
   }
 
 -- PP□QQ ---------------------------------------------------------------------------------------------------------------------
@@ -227,7 +219,7 @@ module _ {ns t : List ℕ} {a i w : ℕ} {g : Weight} {j : ℕ} (h : Wanted ns t
       ap (λ p. p .run) (node-is held-fork (modes t) refl)
       ∙ (λ x. cond (ne-eqb (modes t i) 0 n₀ x) (cseq (runs ns t (one-of ns i)) (runs ns t (two-of ns i))) (held (runs ns t (two-of ns i)) (left ns t (one-of ns i))))
 
-  pub held-follows : {f : ℕ} → f ≡ one-of ns i → {c c′ : List ℕ} {v : View} → CountedLeft ns t a f c c′ v → Follows ns t a i w g j (v .moves) (v .done)
+  pub held-follows : {f : ℕ} → f ≡ one-of ns i → {c c′ : List ℕ} {v : View} → Counted ns a undoing t f c c′ v → Follows ns t a i w g j (v .moves) (v .done)
   held-follows ef {v} x =
       let u : v ≡ view a (left ns t (one-of ns i)) = x .seen ∙ ap (λ z. view a (left ns t z)) ef in
       record { spot = h .spot; kind = k; closes = h .closes; counted = view-moves a _ u; ended = view-able a _ u; room = seek-held-room a g _ _ (closing w) (room-is a g (closing w) held-runs (h .room)) }
@@ -269,18 +261,18 @@ module _ {ns t : List ℕ} {a i w : ℕ} {g : Weight} {j f : ℕ} (h : Wanted ns
     both-room = seek-both-room a g _ _ (closing w) d cseq-room le refl after-is
 
     pub both-spot : Spot ns t f
-    both-spot = let l = kid-lower ns (run-fork .tree) (first-kid run-fork) in spot-below ns (h .spot) (omega arith) refl
+    both-spot = lower-spot (h .spot) (kid-lower ns (run-fork .tree) (first-kid run-fork))
 
     module _ {t₁ : List ℕ} {r n : ℕ} {b : Bool} (x : Chosen ns t a f done g₁ (j - c) t₁ r n b) where
       -- what the first has become is read off the new modes, and the second is as it was
       both-list : map (λ x. seq x (left ns t₁ f)) (comps (runs ns t (two-of ns i)) (closing w)) ≡ followed ns t₁ i (closing w)
       both-list =
-          let q : part ns (modes t₁) (two-of ns i) ≡ part ns (modes t) (two-of ns i) = kept-part ns f (two-of ns i) (sides-apart run-fork) (x .kept) in
+          let q : part ns (modes t₁) (two-of ns i) ≡ part ns (modes t) (two-of ns i) = kept-part ns f (sides-apart run-fork) (x .kept) in
           λ z. map (λ x. seq x (left ns t₁ (ef z))) (comps (sym q z .run) (closing w))
 
       pub both-follows : length t₁ ≡ length t → Follows ns t₁ a i w g r n b
       both-follows l = record {
-        spot = spot-below ns (h .spot) (omega arith) l;
+        spot = same-room (h .spot) l;
         kind = k;
         closes = h .closes;
         counted = x .sought .counted ∙ ap (λ z. cap (moves a (left ns t₁ z))) ef;
@@ -313,7 +305,7 @@ module _ {ns t : List ℕ} {a i w : ℕ} {g : Weight} {j f s : ℕ} (h : Wanted 
 
     module _ {t₁ : List ℕ} {r₁ n₁ : ℕ} {b₁ : Bool} (c₁ : Chosen ns t a f (closing x) g₁ r t₁ r₁ n₁ b₁) {g₂ : Weight} (e₂ : g₂ ≡ withinG g n₁ b₁) {y r₂ : ℕ} (fy : Fallen (total (fittingT q (closing w) (closing x) done) g₂) (total (fittingT q (closing w) (closing x) withdrawn) g₂) r₁ y r₂) where
       second-same : part ns (modes t₁) s ≡ part ns (modes t) s
-      second-same = kept-part ns f s (sides-apart par-fork) (c₁ .kept)
+      second-same = kept-part ns f (sides-apart par-fork) (c₁ .kept)
 
       pub par-second-room : r₂ < weight-of ns t₁ a s (closing y) g₂
       par-second-room = room-is a g₂ (closing y) (ap (λ p. p .run) (sym second-same)) (seek-par-second-room a g _ _ (closing w) ep eq cpar-room refl refl (fx .falls) e₁ (c₁ .sought) e₂ refl refl (fy .falls))
@@ -321,7 +313,7 @@ module _ {ns t : List ℕ} {a i w : ℕ} {g : Weight} {j f s : ℕ} (h : Wanted 
       pub par-chosen : {t₂ : List ℕ} {r₃ n₂ : ℕ} {b₂ : Bool} → Chosen ns t₁ a s (closing y) g₂ r₂ t₂ r₃ n₂ b₂ → Chosen ns t a i (closing w) g j t₂ r₃ (cap (n₁ + n₂)) (b₁ && b₂)
       unfolding build
       par-chosen {t₂} c₂ =
-          let z : part ns (modes t₂) f ≡ part ns (modes t₁) f = kept-part ns s f (λ k u v. sides-apart par-fork k v u) (c₂ .kept) in
+          let z : part ns (modes t₂) f ≡ part ns (modes t₁) f = kept-part ns s (λ k u v. sides-apart par-fork k v u) (c₂ .kept) in
           let l : par (left ns t₁ f) (left ns t₂ s) ≡ left ns t₂ i = ap (λ p. par (p .left) (left ns t₂ s)) (sym z) ∙ sym (ap (λ p. p .left) (node-is par-fork (modes t₂) refl)) in
           record {
             sought = sought-is a g (closing w) (sym cpar-runs) l (seek-par a g _ _ (closing w) ep eq cpar-room refl refl (fx .falls) e₁ (c₁ .sought) e₂ refl refl (fy .falls) (sought-is a g₂ (closing y) (ap (λ p. p .run) second-same) refl (c₂ .sought)));

@@ -9,18 +9,17 @@ use lib.Dec.{T}
 use lib.ListN.{length, getD}
 use mathlib.Core.Logic.{_≢_}
 use Rattle.calculus.specs.Term.{Closing}
-use Rattle.calculus.specs.Successors.{steps, comps, csteps}
+use Rattle.calculus.specs.Successors.{comps}
 use Rattle.flow.specs.Kinds.{shape}
 use Rattle.flow.specs.Nodes.{Under, Tree}
 use Rattle.tallies.specs.Capped.{cap}
-use Rattle.tallies.specs.Counts.{sum-of, view, word, weight}
+use Rattle.tallies.specs.Counts.{sum-of, weight}
 use Rattle.tallies.specs.Places.{At}
 use Rattle.tallies.specs.Sought.{Sought}
-use Rattle.tallies.specs.declared.View.{View}
-use Rattle.tallies.specs.declared.Word.{Word}
 use Rattle.tallies.specs.declared.Weight.{Weight}
 use Rattle.states.specs.State.{part, modes, counts}
 use Rattle.states.specs.Stored.{stored}
+use Rattle.states.specs.Roles.{Role, get, nexts, many, Seen, look, ok}
 
 -- a table that checks 1 to 9 passed
 pub record Sound (ns : List ℕ) : Type 0 where
@@ -37,6 +36,12 @@ pub record Spot (ns t : List ℕ) (i : ℕ) : Type 0 where
   pub node : Node ns i
   pub room : i < length t
 
+-- t′ is t, but for number i, which is n
+pub record Sets (t : List ℕ) (i n : ℕ) (t′ : List ℕ) : Type 0 where
+  pub here : getD t′ i 0 ≡ n
+  pub others : (j : ℕ) → j ≢ i → getD t′ j 0 ≡ getD t j 0
+  pub long : length t′ ≡ length t
+
 -- a node with a first child, and with two
 pub record First (ns : List ℕ) (i : ℕ) : Type 0 where
   pub low : 5 ≤ getD ns (3 * i) 0
@@ -52,23 +57,6 @@ module _ (ns : List ℕ) where
   abbrev pub Kept : ℕ → (ℕ → ℕ) → (ℕ → ℕ) → Type 0
   Kept i d d′ = (j : ℕ) → (Under (shape ns) i j → ⊥) → d′ j ≡ d j
 
-  -- the counting pass: modes t, event a, counts c before and c′ after, answer v
-  module _ (t : List ℕ) (a i : ℕ) (c c′ : List ℕ) where
-    pub record CountedStd (v : View) : Type 0 where
-      pub seen : v ≡ view a (part ns (modes t) i .std)
-      pub right : T (stored ns a (modes t) (counts c′) i .std)
-      pub kept : Kept i (counts c) (counts c′)
-
-    pub record CountedLeft (v : View) : Type 0 where
-      pub seen : v ≡ view a (part ns (modes t) i .left)
-      pub right : T (stored ns a (modes t) (counts c′) i .left)
-      pub kept : Kept i (counts c) (counts c′)
-
-    pub record CountedRun (v : Word) : Type 0 where
-      pub seen : v ≡ word a (part ns (modes t) i .run)
-      pub right : T (stored ns a (modes t) (counts c′) i .run)
-      pub kept : Kept i (counts c) (counts c′)
-
   -- how much all compensations of node i by w weigh
   abbrev pub weight-of : List ℕ → ℕ → ℕ → Closing → Weight → ℕ
   weight-of t a i w g = cap (sum-of (weight a g) (comps (part ns (modes t) i .run) w))
@@ -79,16 +67,20 @@ module _ (ns : List ℕ) where
     pub sought : Sought a g (comps (part ns (modes t) i .run) w) j (part ns (modes t′) i .left) rest steps able
     pub kept : Kept i (modes t) (modes t′)
 
-  -- a step is made: modes t before and t′ after, event a, the step's place k
-  module _ (t : List ℕ) (a i k : ℕ) (t′ : List ℕ) where
-    pub record SteppedStd : Type 0 where
-      pub goes : At (steps (part ns (modes t) i .std) a) k (part ns (modes t′) i .std)
-      pub kept : Kept i (modes t) (modes t′)
+module _ (ns : List ℕ) (a : ℕ) where
+  -- the counting pass in a role: the event a, modes t, counts c before and c′ after, answer v
+  pub record Counted (r : Role) (t : List ℕ) (i : ℕ) (c c′ : List ℕ) (v : Seen r) : Type 0 where
+    pub seen : v ≡ look r a (get r (part ns (modes t) i))
+    pub right : T (ok r (stored ns a (modes t) (counts c′) i))
+    pub kept : Kept ns i (counts c) (counts c′)
 
-    pub record SteppedRun : Type 0 where
-      pub goes : At (csteps (part ns (modes t) i .run) a) k (part ns (modes t′) i .run)
-      pub kept : Kept i (modes t) (modes t′)
+  -- node i of modes t has a step by a at place k, and the counts c under it are right
+  pub record Ready (r : Role) (c t : List ℕ) (i k : ℕ) : Type 0 where
+    pub spot : Spot ns t i
+    pub right : T (ok r (stored ns a (modes t) (counts c) i))
+    pub room : k < many r a (part ns (modes t) i)
 
-    pub record SteppedLeft : Type 0 where
-      pub goes : At (steps (part ns (modes t) i .left) a) k (part ns (modes t′) i .left)
-      pub kept : Kept i (modes t) (modes t′)
+  -- it makes that step: modes t before and t′ after
+  pub record Stepped (r : Role) (t : List ℕ) (i k : ℕ) (t′ : List ℕ) : Type 0 where
+    pub goes : At (nexts r (get r (part ns (modes t) i)) a) k (get r (part ns (modes t′) i))
+    pub kept : Kept ns i (modes t) (modes t′)

@@ -3,15 +3,16 @@
 use Prim.Native.Nat.{ℕ, _-_, _<_, _≤_}
 use mathlib.Core.Path.{_≡_, refl, sym, ap, subst}
 use mathlib.Core.Bool.{Bool, true, false, _&&_, cond}
-use mathlib.Core.Logic.{_≢_, ⊎-elim}
+use mathlib.Core.Logic.{_≢_}
 use native.Mathlib.Omega.{arith}
-use native.Mathlib.Nat.{eq-or-lt-of-le}
 use lib.Dec.{T, eqb}
-use lib.ListN.{length, List·getD-eq-default}
+use lib.ListN.{length}
 use borrow.Author.Tests.{eqb-true, ne-eqb}
 use Rattle.calculus.specs.Term.{done, failed, Std, leaf, ev, skip, throw, yield, seq, blk, skipp, cseq, held}
 use Rattle.calculus.specs.Successors.{steps, comps, csteps}
-use Rattle.flow.specs.Kinds.{Kind, Event, Seq, Alt, Hnd, Blk, Pair, CSeq, CAlt, CPar, Unknown, kinds, kindOf}
+use Rattle.calculus.specs.Members.{and-left, and-right}
+use Rattle.flow.specs.Kinds.{Kind, Event, Seq, Alt, Hnd, Blk, Pair, CSeq, CAlt, CPar, Unknown, kindOf}
+use Rattle.flow.specs.EachKind.{from, unknown, each-kind}
 use Rattle.tallies.specs.Capped.{cap}
 use Rattle.tallies.specs.Counts.{moves, weight, sum-of}
 use Rattle.tallies.specs.Formulas.{movesG, holdG}
@@ -19,14 +20,12 @@ use Rattle.tallies.specs.Places.{At, Finds}
 use Rattle.tallies.specs.StepLaws.{at-ev, no-skip-step, no-throw-step, no-yield-step, at-seq-first, at-hnd-first, at-alt-first, at-par-first, seq-room, at-seq-second, hnd-room, at-hnd-second, alt-room, at-alt-second, par-room, at-par-second, at-blk-first, blk-room, blk-rest, at-blk-second, at-pair, pair-room, at-held, held-room, at-cseq-first, cseq-room, cseq-rest, at-cseq-second, at-calt-first, at-cpar-first, calt-room, at-calt-second, cpar-room, at-cpar-second}
 use Rattle.states.specs.State.{Part, build}
 use Rattle.states.specs.Stored.{Right, right}
+use Rattle.states.specs.Roles.{Role, plain, running, undoing, get, nexts, many, ok}
 use Rattle.words.specs.Sides.{live, pairL}
-use Rattle.steps.specs.Turns.{Role, plain, running, undoing, get, nexts, ok, many, role-of, first-mode, second-mode}
-use Rattle.steps.specs.NodeLaws.{Like, like-same, and-right, and-both}
+use Rattle.steps.specs.Turns.{role-of, first-mode, second-mode}
+use Rattle.steps.specs.NodeLaws.{Like, like-same}
 
 -- Numbers of kinds -------------------------------------------------------------------------------------------------------------
-
-from : (P : ℕ → Type 0) (n : ℕ) → P n → ((k : ℕ) → n < k → P k) → (k : ℕ) → n ≤ k → P k
-from P n p next k l = ⊎-elim (λ e. subst P e p) (λ h. next k h) (eq-or-lt-of-le l)
 
 pub data Two : ℕ → Type 0 where
   is5 : Two 5
@@ -44,6 +43,9 @@ pub two-kind : (k : ℕ) → 5 ≤ k → IfTwo k
 two-kind =
     from IfTwo 5 (λ h n m. is5) (from IfTwo 6 (λ h n m. is6) (from IfTwo 7 (λ h n m. is7) (from IfTwo 8 (λ h n m. is8) (from IfTwo 9 (λ h n m. absurd (n refl)) (from IfTwo 10 (λ h n m. absurd (m refl))
     (from IfTwo 11 (λ h n m. is11) (from IfTwo 12 (λ h n m. is12) (from IfTwo 13 (λ h n m. is13) (λ k l h n m. absurd (omega arith))))))))))
+
+both-of-two : (x y : Bool) → T (x && y) → T x × T y
+both-of-two x y t = (and-left x y t, and-right x y t)
 
 -- Which parts are live says all of the mode ------------------------------------------------------------------------------------
 
@@ -101,13 +103,13 @@ sequence-drawn m h = go (eqb m 0) refl h
 
 pub both-right : {k : ℕ} → Two k → (o x y : Right) → T (ok (role-of k) (right (kindOf k) 0 o x y)) → T (ok (role-of k) x) × T (ok (role-of k) y)
 unfolding right
-both-right is5 o x y t = and-both (x .std) (y .std) (and-right (o .std) _ t)
-both-right is6 o x y t = and-both (x .std) (y .std) (and-right (o .std) _ t)
-both-right is7 o x y t = and-both (x .std) (y .std) (and-right (o .std) _ t)
-both-right is8 o x y t = and-both (x .std) (y .std) (and-right (o .std) _ t)
-both-right is11 o x y t = and-both (x .run) (y .run) (and-right (o .run) _ t)
-both-right is12 o x y t = and-both (x .run) (y .run) (and-right (o .run) _ t)
-both-right is13 o x y t = and-both (x .run) (y .run) (and-right (o .run) _ t)
+both-right is5 o x y t = both-of-two (x .std) (y .std) (and-right (o .std) _ t)
+both-right is6 o x y t = both-of-two (x .std) (y .std) (and-right (o .std) _ t)
+both-right is7 o x y t = both-of-two (x .std) (y .std) (and-right (o .std) _ t)
+both-right is8 o x y t = both-of-two (x .std) (y .std) (and-right (o .std) _ t)
+both-right is11 o x y t = both-of-two (x .run) (y .run) (and-right (o .run) _ t)
+both-right is12 o x y t = both-of-two (x .run) (y .run) (and-right (o .run) _ t)
+both-right is13 o x y t = both-of-two (x .run) (y .run) (and-right (o .run) _ t)
 
 module _ (a e : ℕ) where
   pub first-goes : {k : ℕ} → Two k → (x y : Part) (l : ℕ) (x′ : Part) → At (nexts (role-of k) (get (role-of k) x) a) l (get (role-of k) x′)
@@ -261,11 +263,11 @@ beside-like m = record { parts = λ e x y. refl; rights = λ o x y. refl }
 
 pub back-right : (o x y : Right) → T (ok undoing (right CSeq 0 o x y)) → T (ok undoing y) × T (ok undoing x)
 unfolding right
-back-right o x y t = and-both (y .left) (x .left) (and-right (o .left) _ t)
+back-right o x y t = both-of-two (y .left) (x .left) (and-right (o .left) _ t)
 
 pub beside-right : (o x y : Right) → T (ok undoing (right CPar 0 o x y)) → T (ok undoing x) × T (ok undoing y)
 unfolding right
-beside-right o x y t = and-both (x .left) (y .left) (and-right (o .left) _ t)
+beside-right o x y t = both-of-two (x .left) (y .left) (and-right (o .left) _ t)
 
 module _ (a e : ℕ) (x y : Part) (l : ℕ) where
   pub back-first-goes : (y′ : Part) → At (nexts undoing (get undoing y) a) l (get undoing y′) → At (nexts undoing (get undoing (build CSeq 0 e x y)) a) l (get undoing (build CSeq 0 e x y′))
@@ -396,33 +398,19 @@ module _ (a m e : ℕ) (x y : Part) (l : ℕ) where
   abbrev Within-kind : Role → ℕ → Type 0
   Within-kind r k = l < many r a (build (kindOf k) m e x y)
 
-  unknown : (r : Role) (k : ℕ) → 17 ≤ k → Within-kind r k → l < many r a (build Unknown m e x y)
-  unknown r k h g = subst (λ n. l < many r a (build n m e x y)) (List·getD-eq-default kinds Unknown h) g
+  of-unknown : (r : Role) (k : ℕ) → 17 ≤ k → Within-kind r k → l < many r a (build Unknown m e x y)
+  of-unknown r k h g = subst (λ n. l < many r a (build n m e x y)) (unknown k h) g
 
   abbrev Idle-plain : ℕ → Type 0
   Idle-plain k = k ≢ 1 → (5 ≤ k → k ≤ 9 → ⊥) → Within-kind plain k → ⊥
 
   pub no-plain : (k : ℕ) → Idle-plain k
   unfolding build moves
-  no-plain k =
-      from Idle-plain 0 (λ n f h. no-skip-step a h)
-      (from Idle-plain 1 (λ n f h. n refl)
-      (from Idle-plain 2 (λ n f h. no-skip-step a h)
-      (from Idle-plain 3 (λ n f h. no-throw-step a h)
-      (from Idle-plain 4 (λ n f h. no-yield-step a h)
-      (from Idle-plain 5 (λ n f h. f (omega arith) (omega arith))
-      (from Idle-plain 6 (λ n f h. f (omega arith) (omega arith))
-      (from Idle-plain 7 (λ n f h. f (omega arith) (omega arith))
-      (from Idle-plain 8 (λ n f h. f (omega arith) (omega arith))
-      (from Idle-plain 9 (λ n f h. f (omega arith) (omega arith))
-      (from Idle-plain 10 (λ n f h. no-skip-step a h)
-      (from Idle-plain 11 (λ n f h. no-skip-step a h)
-      (from Idle-plain 12 (λ n f h. no-skip-step a h)
-      (from Idle-plain 13 (λ n f h. no-skip-step a h)
-      (from Idle-plain 14 (λ n f h. no-skip-step a h)
-      (from Idle-plain 15 (λ n f h. no-skip-step a h)
-      (from Idle-plain 16 (λ n f h. no-skip-step a h)
-      (λ k l n f h. no-skip-step a (unknown plain k l h)))))))))))))))))) k (omega arith)
+  no-plain =
+      each-kind Idle-plain (λ n f h. no-skip-step a h) (λ n f h. n refl) (λ n f h. no-skip-step a h) (λ n f h. no-throw-step a h) (λ n f h. no-yield-step a h)
+      (λ n f h. f (omega arith) (omega arith)) (λ n f h. f (omega arith) (omega arith)) (λ n f h. f (omega arith) (omega arith)) (λ n f h. f (omega arith) (omega arith)) (λ n f h. f (omega arith) (omega arith))
+      (λ n f h. no-skip-step a h) (λ n f h. no-skip-step a h) (λ n f h. no-skip-step a h) (λ n f h. no-skip-step a h) (λ n f h. no-skip-step a h) (λ n f h. no-skip-step a h) (λ n f h. no-skip-step a h)
+      (λ k l n f h. no-skip-step a (of-unknown plain k l h))
 
   no-skipp-step : l < cap (length (csteps skipp a)) → ⊥
   no-skipp-step h = no-skip-step a (pair-room a skip skip h)
@@ -432,47 +420,17 @@ module _ (a m e : ℕ) (x y : Part) (l : ℕ) where
 
   pub no-running : (k : ℕ) → Idle-inner running k
   unfolding build moves
-  no-running k =
-      from (Idle-inner running) 0 (λ f h. no-skipp-step h)
-      (from (Idle-inner running) 1 (λ f h. no-skipp-step h)
-      (from (Idle-inner running) 2 (λ f h. no-skipp-step h)
-      (from (Idle-inner running) 3 (λ f h. no-skipp-step h)
-      (from (Idle-inner running) 4 (λ f h. no-skipp-step h)
-      (from (Idle-inner running) 5 (λ f h. no-skipp-step h)
-      (from (Idle-inner running) 6 (λ f h. no-skipp-step h)
-      (from (Idle-inner running) 7 (λ f h. no-skipp-step h)
-      (from (Idle-inner running) 8 (λ f h. no-skipp-step h)
-      (from (Idle-inner running) 9 (λ f h. no-skipp-step h)
-      (from (Idle-inner running) 10 (λ f h. f (omega arith) (omega arith))
-      (from (Idle-inner running) 11 (λ f h. f (omega arith) (omega arith))
-      (from (Idle-inner running) 12 (λ f h. f (omega arith) (omega arith))
-      (from (Idle-inner running) 13 (λ f h. f (omega arith) (omega arith))
-      (from (Idle-inner running) 14 (λ f h. no-skipp-step h)
-      (from (Idle-inner running) 15 (λ f h. no-throw-step a (pair-room a throw skip h))
-      (from (Idle-inner running) 16 (λ f h. no-yield-step a (pair-room a yield skip h))
-      (λ k l f h. no-skipp-step (unknown running k l h)))))))))))))))))) k (omega arith)
+  no-running =
+      each-kind (Idle-inner running) (λ f h. no-skipp-step h) (λ f h. no-skipp-step h) (λ f h. no-skipp-step h) (λ f h. no-skipp-step h) (λ f h. no-skipp-step h) (λ f h. no-skipp-step h) (λ f h. no-skipp-step h) (λ f h. no-skipp-step h) (λ f h. no-skipp-step h) (λ f h. no-skipp-step h)
+      (λ f h. f (omega arith) (omega arith)) (λ f h. f (omega arith) (omega arith)) (λ f h. f (omega arith) (omega arith)) (λ f h. f (omega arith) (omega arith))
+      (λ f h. no-skipp-step h) (λ f h. no-throw-step a (pair-room a throw skip h)) (λ f h. no-yield-step a (pair-room a yield skip h)) (λ k l f h. no-skipp-step (of-unknown running k l h))
 
   pub no-undoing : (k : ℕ) → Idle-inner undoing k
   unfolding build moves
-  no-undoing k =
-      from (Idle-inner undoing) 0 (λ f h. no-skip-step a h)
-      (from (Idle-inner undoing) 1 (λ f h. no-skip-step a h)
-      (from (Idle-inner undoing) 2 (λ f h. no-skip-step a h)
-      (from (Idle-inner undoing) 3 (λ f h. no-skip-step a h)
-      (from (Idle-inner undoing) 4 (λ f h. no-skip-step a h)
-      (from (Idle-inner undoing) 5 (λ f h. no-skip-step a h)
-      (from (Idle-inner undoing) 6 (λ f h. no-skip-step a h)
-      (from (Idle-inner undoing) 7 (λ f h. no-skip-step a h)
-      (from (Idle-inner undoing) 8 (λ f h. no-skip-step a h)
-      (from (Idle-inner undoing) 9 (λ f h. no-skip-step a h)
-      (from (Idle-inner undoing) 10 (λ f h. f (omega arith) (omega arith))
-      (from (Idle-inner undoing) 11 (λ f h. f (omega arith) (omega arith))
-      (from (Idle-inner undoing) 12 (λ f h. f (omega arith) (omega arith))
-      (from (Idle-inner undoing) 13 (λ f h. f (omega arith) (omega arith))
-      (from (Idle-inner undoing) 14 (λ f h. no-skip-step a h)
-      (from (Idle-inner undoing) 15 (λ f h. no-skip-step a h)
-      (from (Idle-inner undoing) 16 (λ f h. no-skip-step a h)
-      (λ k l f h. no-skip-step a (unknown undoing k l h)))))))))))))))))) k (omega arith)
+  no-undoing =
+      each-kind (Idle-inner undoing) (λ f h. no-skip-step a h) (λ f h. no-skip-step a h) (λ f h. no-skip-step a h) (λ f h. no-skip-step a h) (λ f h. no-skip-step a h) (λ f h. no-skip-step a h) (λ f h. no-skip-step a h) (λ f h. no-skip-step a h) (λ f h. no-skip-step a h) (λ f h. no-skip-step a h)
+      (λ f h. f (omega arith) (omega arith)) (λ f h. f (omega arith) (omega arith)) (λ f h. f (omega arith) (omega arith)) (λ f h. f (omega arith) (omega arith))
+      (λ f h. no-skip-step a h) (λ f h. no-skip-step a h) (λ f h. no-skip-step a h) (λ k l f h. no-skip-step a (of-unknown undoing k l h))
 
   -- a pair whose compensation is not left
   pub no-left-pair : m ≢ 1 → l < many undoing a (build Pair m e x y) → ⊥

@@ -1,5 +1,5 @@
--- What holds at a node whose child makes a step, whatever the kinds: the child's part and counts are those from before the node's
--- mode was set, the other child's part stays, and only what is under the node changes. Assumes nothing.
+-- What holds at a node whose child makes a step, whatever the kinds: modes that its kind does not tell apart (`Like`), its own count,
+-- and how a step of a child is one of the node (`turned`). Assumes nothing.
 use Prim.Native.Nat.{ℕ, _<_}
 use mathlib.Core.Path.{_≡_, refl, sym, _∙_, ap, subst, subst₂}
 use mathlib.Core.Bool.{Bool, true, false, _&&_}
@@ -7,43 +7,19 @@ use mathlib.Core.List.{List}
 use mathlib.Core.Logic.{_≢_}
 use native.Mathlib.Omega.{arith}
 use lib.Dec.{T, eqb→eq}
-use lib.ListN.{length, set, length-set}
-use lib.Seq.{getD-set-same, getD-set-other}
+use lib.ListN.{length}
+use Rattle.calculus.specs.Members.{and-left}
 use Rattle.flow.specs.Kinds.{Kind, Event, Skip, Throw, Yield, Seq, Alt, Par, Hnd, Blk, Pair, CSeq, CAlt, CPar, Skipp, Throww, Yieldd, Unknown, kind, one-of, two-of, shape}
-use Rattle.flow.specs.Nodes.{Kid, Under, self, under-kid, Tree, not-under}
+use Rattle.flow.specs.Nodes.{Kid, Tree}
 use Rattle.tallies.specs.Capped.{cap}
 use Rattle.tallies.specs.Places.{At}
 use Rattle.states.specs.State.{Part, build, part, modes, counts}
 use Rattle.states.specs.Stored.{Right, right, own, stored}
-use Rattle.states.specs.StateLaws.{part-of, part-frame, stored-is, stored-of, stored-frame}
-use Rattle.states.specs.KindFacts.{one-kid, two-kid, apart}
-use Rattle.states.specs.Contracts.{Spot, Kept, Both}
-use Rattle.steps.specs.Turns.{Role, plain, running, undoing, get, nexts, ok, many, Ready, Turned, Sets}
-
--- Tests ------------------------------------------------------------------------------------------------------------------------
-
-pub and-left : (a b : Bool) → T (a && b) → T a
-and-left true b t = tt
-and-left false b t = t
-
-pub and-right : (a b : Bool) → T (a && b) → T b
-and-right true b t = t
-and-right false b t = absurd t
-
-pub and-both : (a b : Bool) → T (a && b) → T a × T b
-and-both true b t = (tt, t)
-and-both false b t = absurd t
-
--- A mode is set ----------------------------------------------------------------------------------------------------------------
-
-pub set-sets : {t t′ : List ℕ} {i m : ℕ} → i < length t → t′ ≡ set t i m → Sets t i m t′
-set-sets {t} {t′} {i} {m} h e =
-    let w : Sets t i m (set t i m) = record { long = length-set t i m; here = getD-set-same t i m 0 h; others = λ j n. getD-set-other t i j m 0 n } in
-    subst (λ z. Sets t i m z) (sym e) w
-
--- it is what it was
-pub sets-none : {t : List ℕ} {i m : ℕ} → modes t i ≡ m → Sets t i m t
-sets-none e = record { long = refl; here = e; others = λ j n. refl }
+use Rattle.states.specs.StateLaws.{part-of, stored-is, stored-of}
+use Rattle.states.specs.Roles.{Role, plain, running, undoing, get, nexts, many, ok}
+use Rattle.states.specs.Contracts.{Kept, Both, Sets, Ready}
+use Rattle.states.specs.ChildLaws.{same-part, same-stored, spot-down, mode-after, kept-up, beside-part, kid-one, kid-two, one-off-two, two-off-one}
+use Rattle.steps.specs.Turns.{Turned}
 
 -- Modes that a kind does not tell apart ----------------------------------------------------------------------------------------
 
@@ -98,42 +74,6 @@ module _ (ns : List ℕ) (tree : Tree (shape ns)) (a : ℕ) (m c : ℕ → ℕ) 
   own-count plain t = eqb→eq _ _ (owns (kind ns i) (m i) (own ns a m c i) (stored ns a m c (one-of ns i)) (stored ns a m c (two-of ns i)) .std (subst (λ z. T (z .std)) (stored-is ns tree a m c i) t))
   own-count running t = eqb→eq _ _ (owns (kind ns i) (m i) (own ns a m c i) (stored ns a m c (one-of ns i)) (stored ns a m c (two-of ns i)) .run (subst (λ z. T (z .run)) (stored-is ns tree a m c i) t))
   own-count undoing t = eqb→eq _ _ (owns (kind ns i) (m i) (own ns a m c i) (stored ns a m c (one-of ns i)) (stored ns a m c (two-of ns i)) .left (subst (λ z. T (z .left)) (stored-is ns tree a m c i) t))
-
--- A child ----------------------------------------------------------------------------------------------------------------------
-
-module _ (ns : List ℕ) (tree : Tree (shape ns)) {i g : ℕ} (kid : Kid (shape ns) i g) {t : List ℕ} {m : ℕ} {t′ : List ℕ} (w : Sets t i m t′) where
-  differs : {j : ℕ} → Under (shape ns) g j → j ≢ i
-  differs u e = not-under (shape ns) tree kid (subst (λ z. Under (shape ns) g z) e u)
-
-  pub same-part : part ns (modes t′) g ≡ part ns (modes t) g
-  same-part = part-frame ns (modes t′) (modes t) g (λ j u. w .others j (differs u))
-
-  pub same-stored : (a : ℕ) (c : List ℕ) → stored ns a (modes t′) (counts c) g ≡ stored ns a (modes t) (counts c) g
-  same-stored a c = stored-frame ns a (modes t′) (modes t) (counts c) (counts c) g (λ j u. w .others j (differs u)) (λ j u. refl)
-
-  pub spot-down : Spot ns t i → Spot ns t′ g
-  spot-down s =
-      let l = tree .lower i g kid in
-      let e = w .long in
-      record { node = record { sound = s .node .sound; inside = omega (arith, s .node .inside) }; room = omega (arith, s .room) }
-
-  module _ (t″ : List ℕ) (k : Kept ns g (modes t′) (modes t″)) where
-    pub mode-after : modes t″ i ≡ m
-    mode-after = k i (not-under (shape ns) tree kid) ∙ w .here
-
-    pub kept-up : Kept ns i (modes t) (modes t″)
-    kept-up = λ j n. k j (λ u. n (under-kid (shape ns) kid u)) ∙ w .others j (λ e. n (self e))
-
-    -- the other child stays
-    module _ {h : ℕ} (kid′ : Kid (shape ns) i h) (off : (j : ℕ) → Under (shape ns) g j → Under (shape ns) h j → ⊥) where
-      stays : (j : ℕ) → Under (shape ns) h j → modes t″ j ≡ modes t j
-      stays j u = k j (λ v. off j v u) ∙ w .others j (λ e. not-under (shape ns) tree kid′ (subst (λ z. Under (shape ns) h z) e u))
-
-      pub beside-part : part ns (modes t″) h ≡ part ns (modes t) h
-      beside-part = part-frame ns (modes t″) (modes t) h stays
-
-      pub beside-stored : (a : ℕ) (c : List ℕ) → stored ns a (modes t″) (counts c) h ≡ stored ns a (modes t) (counts c) h
-      beside-stored a c = stored-frame ns a (modes t″) (modes t) (counts c) (counts c) h stays (λ j u. refl)
 
 -- A step is handed down --------------------------------------------------------------------------------------------------------
 
@@ -190,24 +130,15 @@ module _ {ns : List ℕ} {a : ℕ} {r : Role} {c t : List ℕ} {i k : ℕ} (h : 
 
   -- the same where both children are there
   module _ (b : Both ns i) where
-    abbrev pub kid-one : Kid (shape ns) i (one-of ns i)
-    kid-one = one-kid ns tree-of i (b .low) (b .high)
-
-    abbrev pub kid-two : Kid (shape ns) i (two-of ns i)
-    kid-two = two-kid ns tree-of i (b .low) (b .high) (b .two)
-
-    pub one-off-two : (j : ℕ) → Under (shape ns) (one-of ns i) j → Under (shape ns) (two-of ns i) j → ⊥
-    one-off-two j u v = apart ns tree-of i (b .low) (b .high) (b .two) u v
-
     module _ (q : Role) {m : ℕ} {t′ : List ℕ} (w : Sets t i m t′) {v′ : ℕ} (d′ : Like r n m v′) where
       pub turned-first : T (ok q (stored ns a (modes t) (counts c) (one-of ns i))) → (l : ℕ) → l < many q a first
           → ((x : Part) → At (nexts q (get q first) a) l (get q x) → At (nexts r (get r before) a) k (get r (build n v′ (one-of ns i) x second)))
           → Turned ns a r q c t i k t′ (one-of ns i) l
-      turned-first good l room goes = turned q w d′ kid-one good l room
-          (λ t″ s u. subst (λ z. At (nexts r (get r before) a) k (get r (build n v′ (one-of ns i) (part ns (modes t″) (one-of ns i)) z))) (sym (beside-part ns tree-of kid-one w t″ s kid-two one-off-two)) (goes (part ns (modes t″) (one-of ns i)) u))
+      turned-first good l room goes = turned q w d′ (kid-one ns tree-of b) good l room
+          (λ t″ s u. subst (λ z. At (nexts r (get r before) a) k (get r (build n v′ (one-of ns i) (part ns (modes t″) (one-of ns i)) z))) (sym (beside-part ns tree-of (kid-one ns tree-of b) w t″ s (kid-two ns tree-of b) (one-off-two ns tree-of b))) (goes (part ns (modes t″) (one-of ns i)) u))
 
       pub turned-second : T (ok q (stored ns a (modes t) (counts c) (two-of ns i))) → (l : ℕ) → l < many q a second
           → ((y : Part) → At (nexts q (get q second) a) l (get q y) → At (nexts r (get r before) a) k (get r (build n v′ (one-of ns i) first y)))
           → Turned ns a r q c t i k t′ (two-of ns i) l
-      turned-second good l room goes = turned q w d′ kid-two good l room
-          (λ t″ s u. subst (λ z. At (nexts r (get r before) a) k (get r (build n v′ (one-of ns i) z (part ns (modes t″) (two-of ns i))))) (sym (beside-part ns tree-of kid-two w t″ s kid-one (λ j u v. one-off-two j v u))) (goes (part ns (modes t″) (two-of ns i)) u))
+      turned-second good l room goes = turned q w d′ (kid-two ns tree-of b) good l room
+          (λ t″ s u. subst (λ z. At (nexts r (get r before) a) k (get r (build n v′ (one-of ns i) z (part ns (modes t″) (two-of ns i))))) (sym (beside-part ns tree-of (kid-two ns tree-of b) w t″ s (kid-one ns tree-of b) (two-off-one ns tree-of b))) (goes (part ns (modes t″) (two-of ns i)) u))

@@ -12,7 +12,7 @@ use borrow.Author.Tests.{lt-ltb, le-ltb}
 use Rattle.calculus.specs.Term.{done, failed}
 use Rattle.calculus.specs.Successors.{comps, csteps}
 use Rattle.flow.specs.Kinds.{Kind, Event, Blk, Pair, CSeq, kindOf, kind, one-of, two-of, shape}
-use Rattle.flow.specs.Nodes.{Kid, self, Tree}
+use Rattle.flow.specs.Nodes.{Kid, Tree}
 use Rattle.tallies.specs.Capped.{cap}
 use Rattle.tallies.specs.Counts.{weight, sum-of}
 use Rattle.tallies.specs.Formulas.{movesG, holdG}
@@ -21,18 +21,17 @@ use Rattle.tallies.specs.declared.View.{View}
 use Rattle.states.specs.State.{part, modes, counts}
 use Rattle.states.specs.Stored.{stored}
 use Rattle.states.specs.KindFacts.{one-kid}
-use Rattle.states.specs.Contracts.{Spot, Kept, Both, Chosen, CountedLeft, SteppedStd, SteppedRun, SteppedLeft, weight-of}
+use Rattle.states.specs.Roles.{Role, plain, running, undoing, many, ok}
+use Rattle.states.specs.Contracts.{Spot, Kept, Both, Sets, Chosen, Counted, Ready, Stepped, weight-of}
+use Rattle.states.specs.ChildLaws.{set-sets, sets-none, kept-set, same-part, spot-down, same-room, mode-after, kept-up, beside-part, beside-stored, kid-one, kid-two, one-off-two, two-off-one, both-of}
 use Rattle.words.specs.Sides.{live, pairL}
-use Rattle.steps.specs.Turns.{Role, plain, running, undoing, ok, many, role-of, Ready, Stepped, Turned, Sets, Twofold, Twofold-inner, first-mode, second-mode}
-use Rattle.steps.specs.NodeLaws.{set-sets, sets-none, Like, like-same, own-count, same-part, spot-down, mode-after, kept-up, beside-part, beside-stored, node-room, node-right, goes-of, turned, kid-one, kid-two, one-off-two, turned-first, turned-second}
+use Rattle.steps.specs.Turns.{role-of, Turned, Twofold, Twofold-inner, first-mode, second-mode}
+use Rattle.steps.specs.NodeLaws.{Like, like-same, own-count, node-room, node-right, goes-of, turned, turned-first, turned-second}
 use Rattle.steps.specs.KindLaws.{Two, two-kind, as-live, both-live, sequence-drawn, both-right, first-goes, second-room, second-goes, ByFirst, BySecond, first-alone, second-alone, Inner, inner-kind, left-first-alone, left-second-alone, left-back, left-beside, back-like, beside-like, back-right, beside-right, back-first-goes, beside-first-goes, back-room, back-second-goes, beside-room, beside-second-goes, pair-right, pair-first-room, pair-goes, left-pair-right, left-pair-room, left-pair-goes, out-like, inside-right, out-right, inside-goes, out-room, out-goes, leave-room, leave-rest, leave-goes, hold-room, hold-rest, hold-goes, event-goes, no-plain, no-running, no-undoing, no-left-pair}
 
 -- The number of a kind ---------------------------------------------------------------------------------------------------------
 
 module _ {ns : List ℕ} {i : ℕ} where
-  pub both-of : {k : ℕ} → k ≡ getD ns (3 * i) 0 → 5 ≤ k → k ≤ 13 → k ≢ 9 → Both ns i
-  both-of e l h n = record { low = omega arith; high = omega arith; two = λ z. n (e ∙ z) }
-
   two : {k : ℕ} → Twofold ns i k → Two k
   two {k} s = two-kind k (s .low) (s .high) (s .no-block) (s .no-pair)
 
@@ -134,10 +133,10 @@ module _ {ns : List ℕ} {a : ℕ} {c t : List ℕ} {i k : ℕ} (h : Ready ns a 
   on-tree = h .spot .node .sound .tree
 
   abbrev on-one : Kid (shape ns) i (one-of ns i)
-  on-one = kid-one h on-kind on-like on-both
+  on-one = kid-one ns on-tree on-both
 
   abbrev on-two : Kid (shape ns) i (two-of ns i)
-  on-two = kid-two h on-kind on-like on-both
+  on-two = kid-two ns on-tree on-both
 
   module _ {f : ℕ} (e : f ≡ one-of ns i) {s : ℕ} (e′ : s ≡ two-of ns i) {x : ℕ} (dx : x ≡ counts c f) {y : ℕ} (dy : y ≡ counts c s) {t₁ : List ℕ} (w : t₁ ≡ set t i 1) (g : x ≤ k) where
     on-first : x ≡ many running a (part ns (modes t) (one-of ns i))
@@ -169,20 +168,20 @@ module _ {ns : List ℕ} {a : ℕ} {c t : List ℕ} {i k : ℕ} (h : Ready ns a 
       on-mode = sets-none (mode-after ns on-tree on-one on-sets t₂ on-kept)
 
       on-beside : part ns (modes t₂) (two-of ns i) ≡ part ns (modes t) (two-of ns i)
-      on-beside = beside-part ns on-tree on-one on-sets t₂ on-kept on-two (one-off-two h on-kind on-like on-both)
+      on-beside = beside-part ns on-tree on-one on-sets t₂ on-kept on-two (one-off-two ns on-tree on-both)
 
       on-turned : Turned ns a running running c t i k t₂ (two-of ns i) rest
       on-turned = record {
         lower = on-tree .lower i (two-of ns i) on-two;
         ready = record {
-          spot = let z = on-sets .long in spot-down ns on-tree on-two on-mode (record { node = h .spot .node; room = omega (arith, h .spot .room) });
-          right = subst (λ z. T (ok running z)) (sym (beside-stored ns on-tree on-one on-sets t₂ on-kept on-two (one-off-two h on-kind on-like on-both) a c)) (on-good .1);
+          spot = spot-down ns on-tree on-two on-mode (same-room (h .spot) (long ∙ on-sets .long));
+          right = subst (λ z. T (ok running z)) (sym (beside-stored ns on-tree on-one on-sets t₂ on-kept on-two (one-off-two ns on-tree on-both) a c)) (on-good .1);
           room = subst (λ z. rest < many running a z) (sym on-beside) (hold-rest a (one-of ns i) _ _ x k on-first g (node-room h on-kind on-like) y on-second on-found);
         };
         back = λ t₃ z. record {
           goes = goes-of h on-kind on-like t₃ (mode-after ns on-tree on-two on-mode t₃ (z .kept)) (like-same running CSeq refl)
               (hold-goes a (one-of ns i) _ _ x k on-first g (node-room h on-kind on-like) y on-second on-found (part ns (modes t₃) (one-of ns i)) (part ns (modes t₃) (two-of ns i))
-              (ap (λ u. u .left) (beside-part ns on-tree on-two on-mode t₃ (z .kept) on-one (λ j u u′. one-off-two h on-kind on-like on-both j u′ u)))
+              (ap (λ u. u .left) (beside-part ns on-tree on-two on-mode t₃ (z .kept) on-one (two-off-one ns on-tree on-both)))
               (subst (λ u. At (csteps (u .run) a) rest (part ns (modes t₃) (two-of ns i) .run)) on-beside (z .goes)));
           kept = λ j n. kept-up ns on-tree on-two on-mode t₃ (z .kept) j n ∙ kept-up ns on-tree on-one on-sets t₂ on-kept j n;
         };
@@ -335,12 +334,12 @@ module _ {ns : List ℕ} {a : ℕ} {c t : List ℕ} {i k : ℕ} (h : Ready ns a 
         leave-mode = sets-none (mode-after ns blk-tree blk-one leave-sets t₂ leave-kept)
 
         leave-spot : Spot ns t₂ (one-of ns i)
-        leave-spot = let z = leave-sets .long in spot-down ns blk-tree blk-one leave-mode (record { node = h .spot .node; room = omega (arith, h .spot .room) })
+        leave-spot = spot-down ns blk-tree blk-one leave-mode (same-room (h .spot) (long ∙ leave-sets .long))
 
         pub leaves-spot : Spot ns t₂ f
         leaves-spot = subst (λ z. Spot ns t₂ z) (sym e) leave-spot
 
-        pub leaves-turned : {b b′ : List ℕ} {y : View} → CountedLeft ns t₂ a f b b′ y → Turned ns a plain undoing b′ t i k t₂ (one-of ns i) rest
+        pub leaves-turned : {b b′ : List ℕ} {y : View} → Counted ns a undoing t₂ f b b′ y → Turned ns a plain undoing b′ t i k t₂ (one-of ns i) rest
         leaves-turned {b} {b′} {y} m = record {
           lower = blk-tree .lower i (one-of ns i) blk-one;
           ready = record {
@@ -364,7 +363,7 @@ module _ {ns : List ℕ} {a : ℕ} {c t : List ℕ} {i k : ℕ} where
       let s : Sets t i 1 t′ = set-sets (h .spot .room) w in
       record {
         goes = goes-of h (ap kindOf is) p t′ (s .here) (like-same plain Event refl) (event-goes a (one-of ns i) _ _ _ _ (modes t i) (node-room h (ap kindOf is) p));
-        kept = λ j n. s .others j (λ e. n (self e));
+        kept = kept-set ns s;
       }
 
   pub plain-idle : Ready ns a plain c t i k → {n : ℕ} → n ≡ getD ns (3 * i) 0 → n ≢ 1 → (5 ≤ n → n ≤ 9 → ⊥) → ⊥
@@ -397,24 +396,3 @@ module _ {ns : List ℕ} {a : ℕ} {c t : List ℕ} {i k : ℕ} where
 
     pub turned-at : {r q : Role} {f : ℕ} → f ≡ j → Turned ns a r q c t i k t′ j l → Turned ns a r q c t i k t′ f l
     turned-at {r} {q} e x = subst (λ z. Turned ns a r q c t i k t′ z l) (sym e) x
-
--- The contracts of the three steps ---------------------------------------------------------------------------------------------
-
-module _ {ns : List ℕ} {a : ℕ} {t : List ℕ} {i k : ℕ} {t′ : List ℕ} where
-  pub to-std : Stepped ns a plain t i k t′ → SteppedStd ns t a i k t′
-  to-std s = record { goes = s .goes; kept = s .kept }
-
-  pub of-std : SteppedStd ns t a i k t′ → Stepped ns a plain t i k t′
-  of-std s = record { goes = s .goes; kept = s .kept }
-
-  pub to-run : Stepped ns a running t i k t′ → SteppedRun ns t a i k t′
-  to-run s = record { goes = s .goes; kept = s .kept }
-
-  pub of-run : SteppedRun ns t a i k t′ → Stepped ns a running t i k t′
-  of-run s = record { goes = s .goes; kept = s .kept }
-
-  pub to-left : Stepped ns a undoing t i k t′ → SteppedLeft ns t a i k t′
-  to-left s = record { goes = s .goes; kept = s .kept }
-
-  pub of-left : SteppedLeft ns t a i k t′ → Stepped ns a undoing t i k t′
-  of-left s = record { goes = s .goes; kept = s .kept }

@@ -5,16 +5,13 @@ use tallies::Weight;
 ghost use mathlib.Core.Path.{_≡_};
 ghost use mathlib.Core.Logic.{_≢_};
 ghost use Prim.Native.Nat.{_+_, _*_, _<_, _≤_, _-_};
-ghost use lib.Dec.{T};
-ghost use lib.ListN.{length, getD};
-ghost use Rattle.calculus.specs.Successors.{steps, csteps};
+ghost use lib.ListN.{getD};
 ghost use Rattle.flow.specs.Kinds.{one-of, two-of};
-ghost use Rattle.tallies.specs.Capped.{cap};
-ghost use Rattle.states.specs.State.{part, modes, counts};
-ghost use Rattle.states.specs.Stored.{stored};
-ghost use Rattle.states.specs.Contracts.{Spot, SteppedStd, SteppedRun, SteppedLeft};
+ghost use Rattle.states.specs.State.{modes, counts};
+ghost use Rattle.states.specs.Roles.{plain, running, undoing};
+ghost use Rattle.states.specs.Contracts.{Ready, Stepped};
 ghost use Rattle.words.specs.Sides.{live, pairL};
-ghost use Rattle.steps.specs.Turns.{plain, running, undoing, role-of, Ready, Turned, Twofold, Twofold-inner, first-mode, second-mode};
+ghost use Rattle.steps.specs.Turns.{role-of, Turned, Twofold, Twofold-inner, first-mode, second-mode};
 
 // Where a step goes on: a child, and the place among the child's steps.
 struct Turn {
@@ -198,10 +195,8 @@ fn turn_out(
 }
 
 pub fn step_std(ns: &[u16], a: u16, c: &[u32; 64], t: &mut [u8], i: usize, k: u32)
-    requires { ⌜ Spot (now ns) (now t) i ⌝ }
-    requires { ⌜ T (stored (now ns) a (modes (now t)) (counts (now c)) i .std) ⌝ }
-    requires { ⌜ k < cap (length (steps (part (now ns) (modes (now t)) i .std) a)) ⌝ }
-    ensures { λ r. ⌜ SteppedStd (now (ns .entry)) (now (t .entry)) a i k (now (t .exit)) ⌝ }
+    requires { ⌜ Ready (now ns) a plain (now c) (now t) i k ⌝ }
+    ensures { λ r. ⌜ Stepped (now (ns .entry)) a plain (now (t .entry)) i k (now (t .exit)) ⌝ }
 {
     let kind = flow::kind_at(ns, i);
     match kind {
@@ -218,7 +213,7 @@ pub fn step_std(ns: &[u16], a: u16, c: &[u32; 64], t: &mut [u8], i: usize, k: u3
 fn step_block(ns: &[u16], a: u16, c: &[u32; 64], t: &mut [u8], i: usize, k: u32)
     requires { ⌜ Ready (now ns) a plain (now c) (now t) i k ⌝ }
     requires { ⌜ getD (now ns) (3 * i) 0 ≡ 9 ⌝ }
-    ensures { λ r. ⌜ SteppedStd (now (ns .entry)) (now (t .entry)) a i k (now (t .exit)) ⌝ }
+    ensures { λ r. ⌜ Stepped (now (ns .entry)) a plain (now (t .entry)) i k (now (t .exit)) ⌝ }
 {
     let f = states::first_child(ns, i);
     if states::mode_of(t, i) != 0 {
@@ -233,10 +228,8 @@ fn step_block(ns: &[u16], a: u16, c: &[u32; 64], t: &mut [u8], i: usize, k: u32)
 }
 
 pub fn step_run(ns: &[u16], a: u16, c: &[u32; 64], t: &mut [u8], i: usize, k: u32)
-    requires { ⌜ Spot (now ns) (now t) i ⌝ }
-    requires { ⌜ T (stored (now ns) a (modes (now t)) (counts (now c)) i .run) ⌝ }
-    requires { ⌜ k < cap (length (csteps (part (now ns) (modes (now t)) i .run) a)) ⌝ }
-    ensures { λ r. ⌜ SteppedRun (now (ns .entry)) (now (t .entry)) a i k (now (t .exit)) ⌝ }
+    requires { ⌜ Ready (now ns) a running (now c) (now t) i k ⌝ }
+    ensures { λ r. ⌜ Stepped (now (ns .entry)) a running (now (t .entry)) i k (now (t .exit)) ⌝ }
 {
     let kind = flow::kind_at(ns, i);
     match kind {
@@ -250,10 +243,8 @@ pub fn step_run(ns: &[u16], a: u16, c: &[u32; 64], t: &mut [u8], i: usize, k: u3
 }
 
 pub fn step_left(ns: &[u16], a: u16, c: &[u32; 64], t: &mut [u8], i: usize, k: u32)
-    requires { ⌜ Spot (now ns) (now t) i ⌝ }
-    requires { ⌜ T (stored (now ns) a (modes (now t)) (counts (now c)) i .left) ⌝ }
-    requires { ⌜ k < cap (length (steps (part (now ns) (modes (now t)) i .left) a)) ⌝ }
-    ensures { λ r. ⌜ SteppedLeft (now (ns .entry)) (now (t .entry)) a i k (now (t .exit)) ⌝ }
+    requires { ⌜ Ready (now ns) a undoing (now c) (now t) i k ⌝ }
+    ensures { λ r. ⌜ Stepped (now (ns .entry)) a undoing (now (t .entry)) i k (now (t .exit)) ⌝ }
 {
     let kind = flow::kind_at(ns, i);
     match kind {

@@ -1,26 +1,22 @@
 -- What each kind of node makes of its parts, by its number: which of them are live (`choose`), the node's term and the rightness
--- of its counts from theirs (`std-two`, `left-two`, `run-two`), and the same of a node without live parts. Assumes nothing.
+-- of its counts from theirs (`two-parts`), and the same of a node without live parts. Assumes nothing.
 use Prim.Native.Nat.{ℕ, _<_, _≤_}
-use mathlib.Core.Path.{_≡_, refl, _∙_, ap, subst}
+use mathlib.Core.Path.{_≡_, refl, _∙_, ap}
 use mathlib.Core.Bool.{Bool, true, false, _&&_, cond, and-comm}
-use mathlib.Core.Logic.{_≢_, ⊎-elim}
+use mathlib.Core.Logic.{_≢_}
 use native.Mathlib.Omega.{arith}
-use native.Mathlib.Nat.{eq-or-lt-of-le}
 use lib.Dec.{T, eqb}
-use lib.ListN.{List·getD-eq-default}
 use borrow.Author.Tests.{ne-eqb}
 use Rattle.calculus.specs.Term.{leaf, Std, Cmp, skip, ev, seq, alt, par, hnd, calt, cpar, skipp}
-use Rattle.flow.specs.Kinds.{Unknown, kinds, kindOf, kind}
+use Rattle.flow.specs.Kinds.{kindOf}
+use Rattle.flow.specs.EachKind.{from, unknown, each-kind}
 use Rattle.tallies.specs.Formulas.{skipV, evV, seqV, altV, parV, hndV, caltW, cparW, skippW}
 use Rattle.tallies.specs.Counts.{view, word}
 use Rattle.tallies.specs.CountsLaws.{view-skip, view-throw, view-yield, view-ev, view-seq, view-alt, view-par, view-hnd, word-calt, word-cpar, word-skipp, word-throww, word-yieldd}
-use Rattle.states.specs.State.{Part, build, part, counts}
+use Rattle.states.specs.State.{Part, build}
 use Rattle.states.specs.Stored.{Right, right}
+use Rattle.states.specs.Roles.{Role, plain, running, undoing, Term, get, Seen, look, ok}
 use Rattle.words.specs.Sides.{live, leafV, pairV, pairL, leftV, leafW, pairR}
-
-pub T-and : (a b : Bool) → T a → T b → T (a && b)
-T-and true b t u = u
-T-and false b t u = absurd t
 
 -- Which parts are live -----------------------------------------------------------------------------------------------------
 
@@ -68,29 +64,45 @@ module _ {A B : Type 0} (f : A → B) where
 
 -- What a kind makes of its parts, by its number ----------------------------------------------------------------------------
 
-from : (P : ℕ → Type 0) (n : ℕ) → P n → ((k : ℕ) → n < k → P k) → (k : ℕ) → n ≤ k → P k
-from P n p next k l = ⊎-elim (λ e. subst P e p) (λ h. next k h) (eq-or-lt-of-le l)
+-- the kinds of two parts in each role, which of the parts are live, and what is seen of both
+abbrev pub OfTwo : Role → ℕ → Type 0
+OfTwo plain k = (5 ≤ k) × (k ≤ 8)
+OfTwo running k = (12 ≤ k) × (k ≤ 13)
+OfTwo undoing k = (11 ≤ k) × (k ≤ 13)
 
-unknown : (k : ℕ) → 17 ≤ k → kindOf k ≡ Unknown
-unknown k l = List·getD-eq-default kinds Unknown l
+abbrev pub side : Role → ℕ → ℕ → ℕ
+side plain k m = live k m
+side running k m = live k m
+side undoing k m = pairL k m
 
-each-kind : (P : ℕ → Type 0) → P 0 → P 1 → P 2 → P 3 → P 4 → P 5 → P 6 → P 7 → P 8 → P 9 → P 10 → P 11 → P 12 → P 13 → P 14 → P 15 → P 16 → ((k : ℕ) → 17 ≤ k → P k) → (k : ℕ) → P k
-each-kind P a b c d e f g h i j k l m n o p q r x =
-    from P 0 a (from P 1 b (from P 2 c (from P 3 d (from P 4 e (from P 5 f (from P 6 g (from P 7 h (from P 8 i (from P 9 j (from P 10 k (from P 11 l (from P 12 m (from P 13 n (from P 14 o (from P 15 p (from P 16 q r)))))))))))))))) x (omega arith)
+abbrev pub both-seen : (r : Role) → ℕ → Seen r → Seen r → Seen r
+both-seen plain k p q = pairV k p q
+both-seen running k p q = pairR k p q
+both-seen undoing k p q = leftV k p q
+
+pub two-kids : (r : Role) {k : ℕ} → OfTwo r k → (5 ≤ k) × ((k ≤ 13) × (k ≢ 9))
+two-kids plain h = (h .0, (omega arith, λ e. omega arith))
+two-kids running h = (omega arith, (h .1, λ e. omega arith))
+two-kids undoing h = (omega arith, (h .1, λ e. omega arith))
 
 -- the terms of two live parts, and what is seen of them
 module _ (p q : Part) where
-  abbrev pub std-pair : ℕ → Std
+  abbrev std-pair : ℕ → Std
   std-pair k = cond (eqb k 5) (seq (p .std) (q .std)) (cond (eqb k 6) (alt (p .std) (q .std)) (cond (eqb k 7) (par (p .std) (q .std)) (hnd (p .std) (q .std))))
 
-  abbrev pub left-pair : ℕ → Std
+  abbrev left-pair : ℕ → Std
   left-pair k = cond (eqb k 11) (seq (q .left) (p .left)) (par (p .left) (q .left))
 
-  abbrev pub run-pair : ℕ → Cmp
+  abbrev run-pair : ℕ → Cmp
   run-pair k = cond (eqb k 12) (calt (p .run) (q .run)) (cpar (p .run) (q .run))
 
+  abbrev pub both-term : (r : Role) → ℕ → Term r
+  both-term plain k = std-pair k
+  both-term running k = run-pair k
+  both-term undoing k = left-pair k
+
   module _ (a : ℕ) where
-    pub std-pair-seen : (k : ℕ) → view a (std-pair k) ≡ pairV k (view a (p .std)) (view a (q .std))
+    std-pair-seen : (k : ℕ) → view a (std-pair k) ≡ pairV k (view a (p .std)) (view a (q .std))
     unfolding pairV
     std-pair-seen k = by (eqb k 5) (eqb k 6) (eqb k 7)
       where
@@ -101,7 +113,7 @@ module _ (p q : Part) where
         by false false true = view-par a (p .std) (q .std)
         by false false false = view-hnd a (p .std) (q .std)
 
-    pub left-pair-seen : (k : ℕ) → view a (left-pair k) ≡ leftV k (view a (p .left)) (view a (q .left))
+    left-pair-seen : (k : ℕ) → view a (left-pair k) ≡ leftV k (view a (p .left)) (view a (q .left))
     unfolding leftV
     left-pair-seen k = by (eqb k 11)
       where
@@ -109,7 +121,7 @@ module _ (p q : Part) where
         by true = view-seq a (q .left) (p .left)
         by false = view-par a (p .left) (q .left)
 
-    pub run-pair-seen : (k : ℕ) → word a (run-pair k) ≡ pairR k (word a (p .run)) (word a (q .run))
+    run-pair-seen : (k : ℕ) → word a (run-pair k) ≡ pairR k (word a (p .run)) (word a (q .run))
     unfolding pairR
     run-pair-seen k = by (eqb k 12)
       where
@@ -117,37 +129,42 @@ module _ (p q : Part) where
         by true = word-calt a (p .run) (q .run)
         by false = word-cpar a (p .run) (q .run)
 
+    pub both-looks : (r : Role) (k : ℕ) → look r a (both-term r k) ≡ both-seen r k (look r a (get r p)) (look r a (get r q))
+    both-looks plain k = std-pair-seen k
+    both-looks running k = run-pair-seen k
+    both-looks undoing k = left-pair-seen k
+
 module _ (m e : ℕ) (p q : Part) (o x y : Right) where
-  abbrev StdTwo : ℕ → Type 0
-  StdTwo k = (build (kindOf k) m e p q .std ≡ choose (live k m) (std-pair p q k) (p .std) (q .std)) × (right (kindOf k) m o x y .std ≡ (o .std && choose (live k m) (x .std && y .std) (x .std) (y .std)))
+  abbrev TwoParts : Role → ℕ → Type 0
+  TwoParts r k = (get r (build (kindOf k) m e p q) ≡ choose (side r k m) (both-term p q r k) (get r p) (get r q))
+      × (ok r (right (kindOf k) m o x y) ≡ (ok r o && choose (side r k m) (ok r x && ok r y) (ok r x) (ok r y)))
 
-  abbrev LeftTwo : ℕ → Type 0
-  LeftTwo k = (build (kindOf k) m e p q .left ≡ choose (pairL k m) (left-pair p q k) (p .left) (q .left)) × (right (kindOf k) m o x y .left ≡ (o .left && choose (pairL k m) (x .left && y .left) (x .left) (y .left)))
-
-  abbrev RunTwo : ℕ → Type 0
-  RunTwo k = (build (kindOf k) m e p q .run ≡ choose (live k m) (run-pair p q k) (p .run) (q .run)) × (right (kindOf k) m o x y .run ≡ (o .run && choose (live k m) (x .run && y .run) (x .run) (y .run)))
-
-  pub std-two : (k : ℕ) → 5 ≤ k → k ≤ 8 → StdTwo k
+  std-two : (k : ℕ) → 5 ≤ k → k ≤ 8 → TwoParts plain k
   unfolding build right live
   std-two k l h =
-      from (λ k. k ≤ 8 → StdTwo k) 5 (λ h. (both-or-second _ (p .std) (q .std) (eqb m 0), ap (λ z. o .std && z) (both-or-second (x .std && y .std) (x .std) (y .std) (eqb m 0))))
-      (from (λ k. k ≤ 8 → StdTwo k) 6 (λ h. (both-or-one _ (p .std) (q .std) (eqb m 0) (eqb m 1), ap (λ z. o .std && z) (both-or-one (x .std && y .std) (x .std) (y .std) (eqb m 0) (eqb m 1))))
-      (from (λ k. k ≤ 8 → StdTwo k) 7 (λ h. (refl, refl))
-      (from (λ k. k ≤ 8 → StdTwo k) 8 (λ h. (both-or-second _ (p .std) (q .std) (eqb m 0), ap (λ z. o .std && z) (both-or-second (x .std && y .std) (x .std) (y .std) (eqb m 0))))
+      from (λ k. k ≤ 8 → TwoParts plain k) 5 (λ h. (both-or-second _ (p .std) (q .std) (eqb m 0), ap (λ z. o .std && z) (both-or-second (x .std && y .std) (x .std) (y .std) (eqb m 0))))
+      (from (λ k. k ≤ 8 → TwoParts plain k) 6 (λ h. (both-or-one _ (p .std) (q .std) (eqb m 0) (eqb m 1), ap (λ z. o .std && z) (both-or-one (x .std && y .std) (x .std) (y .std) (eqb m 0) (eqb m 1))))
+      (from (λ k. k ≤ 8 → TwoParts plain k) 7 (λ h. (refl, refl))
+      (from (λ k. k ≤ 8 → TwoParts plain k) 8 (λ h. (both-or-second _ (p .std) (q .std) (eqb m 0), ap (λ z. o .std && z) (both-or-second (x .std && y .std) (x .std) (y .std) (eqb m 0))))
       (λ k l h. absurd (omega arith))))) k l h
 
-  pub left-two : (k : ℕ) → 11 ≤ k → k ≤ 13 → LeftTwo k
+  left-two : (k : ℕ) → 11 ≤ k → k ≤ 13 → TwoParts undoing k
   unfolding build right pairL
-  left-two k l h = from (λ k. k ≤ 13 → LeftTwo k) 11 (λ h. (first-or-both _ (p .left) (q .left) (eqb m 2), ap (λ z. o .left && cond (eqb m 2) (x .left) z) (and-comm (y .left) (x .left)) ∙ ap (λ z. o .left && z) (first-or-both (x .left && y .left) (x .left) (y .left) (eqb m 2))))
-      (from (λ k. k ≤ 13 → LeftTwo k) 12 (λ h. (first-or-second _ (p .left) (q .left) (eqb m 1), ap (λ z. o .left && z) (first-or-second (x .left && y .left) (x .left) (y .left) (eqb m 1))))
-      (from (λ k. k ≤ 13 → LeftTwo k) 13 (λ h. (refl, refl))
+  left-two k l h = from (λ k. k ≤ 13 → TwoParts undoing k) 11 (λ h. (first-or-both _ (p .left) (q .left) (eqb m 2), ap (λ z. o .left && cond (eqb m 2) (x .left) z) (and-comm (y .left) (x .left)) ∙ ap (λ z. o .left && z) (first-or-both (x .left && y .left) (x .left) (y .left) (eqb m 2))))
+      (from (λ k. k ≤ 13 → TwoParts undoing k) 12 (λ h. (first-or-second _ (p .left) (q .left) (eqb m 1), ap (λ z. o .left && z) (first-or-second (x .left && y .left) (x .left) (y .left) (eqb m 1))))
+      (from (λ k. k ≤ 13 → TwoParts undoing k) 13 (λ h. (refl, refl))
       (λ k l h. absurd (omega arith)))) k l h
 
-  pub run-two : (k : ℕ) → 12 ≤ k → k ≤ 13 → RunTwo k
+  run-two : (k : ℕ) → 12 ≤ k → k ≤ 13 → TwoParts running k
   unfolding build right live
-  run-two k l h = from (λ k. k ≤ 13 → RunTwo k) 12 (λ h. (both-or-one _ (p .run) (q .run) (eqb m 0) (eqb m 1), ap (λ z. o .run && z) (both-or-one (x .run && y .run) (x .run) (y .run) (eqb m 0) (eqb m 1))))
-      (from (λ k. k ≤ 13 → RunTwo k) 13 (λ h. (refl, refl))
+  run-two k l h = from (λ k. k ≤ 13 → TwoParts running k) 12 (λ h. (both-or-one _ (p .run) (q .run) (eqb m 0) (eqb m 1), ap (λ z. o .run && z) (both-or-one (x .run && y .run) (x .run) (y .run) (eqb m 0) (eqb m 1))))
+      (from (λ k. k ≤ 13 → TwoParts running k) 13 (λ h. (refl, refl))
       (λ k l h. absurd (omega arith))) k l h
+
+  pub two-parts : (r : Role) (k : ℕ) → OfTwo r k → TwoParts r k
+  two-parts plain k h = std-two k (h .0) (h .1)
+  two-parts running k h = run-two k (h .0) (h .1)
+  two-parts undoing k h = left-two k (h .0) (h .1)
 
   -- a part without live children
   abbrev StdLeaf : ℕ → ℕ → Type 0

@@ -1,20 +1,11 @@
 -- What the small functions of the counting pass answer: which parts of a node are live, and a node's view or word from its
 -- parts', by the number of its kind. Definitions only. Assumes nothing.
 use Prim.Native.Nat.{ℕ}
-use mathlib.Core.Path.{_≡_}
 use mathlib.Core.Bool.{Bool, cond}
-use mathlib.Core.List.{List}
-use mathlib.Core.Logic.{_≢_}
 use lib.Dec.{eqb}
 use Rattle.tallies.specs.Formulas.{skipV, throwV, yieldV, evV, seqV, altV, parV, hndV, skippW, throwwW, yielddW, caltW, cparW}
 use Rattle.tallies.specs.declared.View.{View}
 use Rattle.tallies.specs.declared.Word.{Word}
-use Rattle.states.specs.State.{counts}
-
--- counts c, with n at i, are c′
-pub record Noted (c : List ℕ) (i n : ℕ) (c′ : List ℕ) : Type 0 where
-  pub at : counts c′ i ≡ n
-  pub others : (j : ℕ) → j ≢ i → counts c′ j ≡ counts c j
 
 -- 0 both, 1 the first only, 2 the second only
 unfoldable pub live : ℕ → ℕ → ℕ

@@ -7,8 +7,9 @@ use tallies::Word;
 ghost use mathlib.Core.Path.{_≡_};
 ghost use Prim.Native.Nat.{_*_, _<_, _≤_};
 ghost use lib.ListN.{length, getD};
-ghost use Rattle.states.specs.Contracts.{Spot, CountedStd, CountedRun, CountedLeft};
-ghost use Rattle.words.specs.Sides.{Noted, live, leafV, pairV, pairL, leftV, leafW, pairR};
+ghost use Rattle.states.specs.Roles.{plain, running, undoing};
+ghost use Rattle.states.specs.Contracts.{Spot, Sets, Counted};
+ghost use Rattle.words.specs.Sides.{live, leafV, pairV, pairL, leftV, leafW, pairR};
 
 // Which parts of a standard or a running part of two are live.
 pub const BOTH: u8 = 0;
@@ -39,7 +40,7 @@ pub fn live_parts(kind: u16, mode: u8) -> u8
 // A count is written, through a slice, which knows its length.
 fn put(c: &mut [u32], i: usize, n: u32)
     requires { ⌜ i < length (now c) ⌝ }
-    ensures { λ _. ⌜ Noted (now (c .entry)) i n (now (c .exit)) ⌝ }
+    ensures { λ _. ⌜ Sets (now (c .entry)) i n (now (c .exit)) ⌝ }
 {
     c[i] = n;
 }
@@ -48,7 +49,7 @@ fn put(c: &mut [u32], i: usize, n: u32)
 fn note(c: &mut [u32; 64], i: usize, v: View) -> View
     requires { ⌜ i < 64 ⌝ }
     ensures { λ r. ⌜ r ≡ v ⌝ }
-    ensures noted { λ r. ⌜ Noted (now (c .entry)) i (v .moves) (now (c .exit)) ⌝ }
+    ensures noted { λ r. ⌜ Sets (now (c .entry)) i (v .moves) (now (c .exit)) ⌝ }
 {
     put(c, i, v.moves);
     v
@@ -57,7 +58,7 @@ fn note(c: &mut [u32; 64], i: usize, v: View) -> View
 fn note_word(c: &mut [u32; 64], i: usize, v: Word) -> Word
     requires { ⌜ i < 64 ⌝ }
     ensures { λ r. ⌜ r ≡ v ⌝ }
-    ensures noted { λ r. ⌜ Noted (now (c .entry)) i (v .moves) (now (c .exit)) ⌝ }
+    ensures noted { λ r. ⌜ Sets (now (c .entry)) i (v .moves) (now (c .exit)) ⌝ }
 {
     put(c, i, v.moves);
     v
@@ -95,7 +96,7 @@ fn pair_view(kind: u16, p: View, q: View) -> View
 
 pub fn count_std(ns: &[u16], t: &[u8], a: u16, c: &mut [u32; 64], i: usize) -> View
     requires { ⌜ Spot (now ns) (now t) i ⌝ }
-    ensures { λ r. ⌜ CountedStd (now (ns .entry)) (now (t .entry)) a i (now (c .entry)) (now (c .exit)) r ⌝ }
+    ensures { λ r. ⌜ Counted (now (ns .entry)) a plain (now (t .entry)) i (now (c .entry)) (now (c .exit)) r ⌝ }
 {
     let kind = flow::kind_at(ns, i);
     match kind {
@@ -111,7 +112,7 @@ pub fn count_std(ns: &[u16], t: &[u8], a: u16, c: &mut [u32; 64], i: usize) -> V
 fn count_two(ns: &[u16], t: &[u8], a: u16, c: &mut [u32; 64], i: usize, kind: u16) -> View
     requires { ⌜ Spot (now ns) (now t) i ⌝ }
     requires { ⌜ (kind ≡ getD (now ns) (3 * i) 0) × ((5 ≤ kind) × (kind ≤ 8)) ⌝ }
-    ensures { λ r. ⌜ CountedStd (now (ns .entry)) (now (t .entry)) a i (now (c .entry)) (now (c .exit)) r ⌝ }
+    ensures { λ r. ⌜ Counted (now (ns .entry)) a plain (now (t .entry)) i (now (c .entry)) (now (c .exit)) r ⌝ }
 {
     let side = live_parts(kind, states::mode_of(t, i));
     let f = states::first_child(ns, i);
@@ -132,7 +133,7 @@ fn count_two(ns: &[u16], t: &[u8], a: u16, c: &mut [u32; 64], i: usize, kind: u1
 fn count_block(ns: &[u16], t: &[u8], a: u16, c: &mut [u32; 64], i: usize) -> View
     requires { ⌜ Spot (now ns) (now t) i ⌝ }
     requires { ⌜ getD (now ns) (3 * i) 0 ≡ 9 ⌝ }
-    ensures { λ r. ⌜ CountedStd (now (ns .entry)) (now (t .entry)) a i (now (c .entry)) (now (c .exit)) r ⌝ }
+    ensures { λ r. ⌜ Counted (now (ns .entry)) a plain (now (t .entry)) i (now (c .entry)) (now (c .exit)) r ⌝ }
 {
     let f = states::first_child(ns, i);
     if states::mode_of(t, i) == 0 {
@@ -146,7 +147,7 @@ fn count_block(ns: &[u16], t: &[u8], a: u16, c: &mut [u32; 64], i: usize) -> Vie
 
 pub fn count_left(ns: &[u16], t: &[u8], a: u16, c: &mut [u32; 64], i: usize) -> View
     requires { ⌜ Spot (now ns) (now t) i ⌝ }
-    ensures { λ r. ⌜ CountedLeft (now (ns .entry)) (now (t .entry)) a i (now (c .entry)) (now (c .exit)) r ⌝ }
+    ensures { λ r. ⌜ Counted (now (ns .entry)) a undoing (now (t .entry)) i (now (c .entry)) (now (c .exit)) r ⌝ }
 {
     let kind = flow::kind_at(ns, i);
     match kind {
@@ -188,7 +189,7 @@ fn left_view(kind: u16, p: View, q: View) -> View
 fn count_left_two(ns: &[u16], t: &[u8], a: u16, c: &mut [u32; 64], i: usize, kind: u16) -> View
     requires { ⌜ Spot (now ns) (now t) i ⌝ }
     requires { ⌜ (kind ≡ getD (now ns) (3 * i) 0) × ((11 ≤ kind) × (kind ≤ 13)) ⌝ }
-    ensures { λ r. ⌜ CountedLeft (now (ns .entry)) (now (t .entry)) a i (now (c .entry)) (now (c .exit)) r ⌝ }
+    ensures { λ r. ⌜ Counted (now (ns .entry)) a undoing (now (t .entry)) i (now (c .entry)) (now (c .exit)) r ⌝ }
 {
     let side = left_parts(kind, states::mode_of(t, i));
     let f = states::first_child(ns, i);
@@ -218,7 +219,7 @@ fn leaf_word(kind: u16) -> Word
 
 pub fn count_run(ns: &[u16], t: &[u8], a: u16, c: &mut [u32; 64], i: usize) -> Word
     requires { ⌜ Spot (now ns) (now t) i ⌝ }
-    ensures { λ r. ⌜ CountedRun (now (ns .entry)) (now (t .entry)) a i (now (c .entry)) (now (c .exit)) r ⌝ }
+    ensures { λ r. ⌜ Counted (now (ns .entry)) a running (now (t .entry)) i (now (c .entry)) (now (c .exit)) r ⌝ }
 {
     let kind = flow::kind_at(ns, i);
     match kind {
@@ -233,7 +234,7 @@ pub fn count_run(ns: &[u16], t: &[u8], a: u16, c: &mut [u32; 64], i: usize) -> W
 fn count_pair(ns: &[u16], t: &[u8], a: u16, c: &mut [u32; 64], i: usize) -> Word
     requires { ⌜ Spot (now ns) (now t) i ⌝ }
     requires { ⌜ getD (now ns) (3 * i) 0 ≡ 10 ⌝ }
-    ensures { λ r. ⌜ CountedRun (now (ns .entry)) (now (t .entry)) a i (now (c .entry)) (now (c .exit)) r ⌝ }
+    ensures { λ r. ⌜ Counted (now (ns .entry)) a running (now (t .entry)) i (now (c .entry)) (now (c .exit)) r ⌝ }
 {
     let p = count_std(ns, t, a, c, states::first_child(ns, i));
     if p.done {
@@ -246,7 +247,7 @@ fn count_pair(ns: &[u16], t: &[u8], a: u16, c: &mut [u32; 64], i: usize) -> Word
 fn count_sequence(ns: &[u16], t: &[u8], a: u16, c: &mut [u32; 64], i: usize) -> Word
     requires { ⌜ Spot (now ns) (now t) i ⌝ }
     requires { ⌜ getD (now ns) (3 * i) 0 ≡ 11 ⌝ }
-    ensures { λ r. ⌜ CountedRun (now (ns .entry)) (now (t .entry)) a i (now (c .entry)) (now (c .exit)) r ⌝ }
+    ensures { λ r. ⌜ Counted (now (ns .entry)) a running (now (t .entry)) i (now (c .entry)) (now (c .exit)) r ⌝ }
 {
     let f = states::first_child(ns, i);
     let s = states::second_child(ns, i);
@@ -275,7 +276,7 @@ fn two_word(kind: u16, p: Word, q: Word) -> Word
 fn count_run_two(ns: &[u16], t: &[u8], a: u16, c: &mut [u32; 64], i: usize, kind: u16) -> Word
     requires { ⌜ Spot (now ns) (now t) i ⌝ }
     requires { ⌜ (kind ≡ getD (now ns) (3 * i) 0) × ((12 ≤ kind) × (kind ≤ 13)) ⌝ }
-    ensures { λ r. ⌜ CountedRun (now (ns .entry)) (now (t .entry)) a i (now (c .entry)) (now (c .exit)) r ⌝ }
+    ensures { λ r. ⌜ Counted (now (ns .entry)) a running (now (t .entry)) i (now (c .entry)) (now (c .exit)) r ⌝ }
 {
     let side = live_parts(kind, states::mode_of(t, i));
     let f = states::first_child(ns, i);

@@ -1,6 +1,6 @@
 -- `judge::apply` meets its contract: by the role, the step of the root or the choice of its compensation. Assumes nothing.
 use borrow.Author.Needs.{needs}
-use Rattle.judge.proofs.OneRecord.{std-asked, left-asked, run-asked, comp-asked, std-applied, left-applied, run-applied, comp-applied}
+use Rattle.judge.proofs.OneRecord.{inner-is, step-asked, closing-asked, step-applied, closing-applied}
 use Rattle.judge.proofs.apply.Statement.{statement}
 use Rattle.judge.proofs.apply.Tie as tie
 
@@ -16,7 +16,8 @@ step-std-requires c κs =
     let a = s .args in
     let p = s .pre in
     let i = c .before .before .before .root-of in
-    std-asked (a .ns .now) (a .t .now) (a .number) (i .result) (i .ensures) (a .role) (p .0) (a .c .now) (p .1 .1 .0) (a .k) (p .1 .1 .1) (c .before .enum-told .given .1) (p .1 .0 .1)
+    let g = c .before .enum-told .given .1 in
+    step-asked (a .ns .now) (a .t .now) (a .number) (i .result) (i .ensures) g (inner-is (a .ns .now) (a .t .now) (a .number) (i .result) (i .ensures) g (p .1 .0 .1)) (p .0) (p .1 .1 .0) (p .1 .1 .1)
 
 enum-told-2 : tie.Need-enum-told-2
 enum-told-2 c = search needs
@@ -27,7 +28,8 @@ step-left-requires c κs =
     let a = s .args in
     let p = s .pre in
     let i = c .before .before .before .root-of in
-    left-asked (a .ns .now) (a .t .now) (a .number) (i .result) (i .ensures) (a .role) (p .0) (a .c .now) (p .1 .1 .0) (a .k) (p .1 .1 .1) (c .before .enum-told2 .given .1) (p .1 .0 .1)
+    let g = c .before .enum-told2 .given .1 in
+    step-asked (a .ns .now) (a .t .now) (a .number) (i .result) (i .ensures) g (inner-is (a .ns .now) (a .t .now) (a .number) (i .result) (i .ensures) g (p .1 .0 .1)) (p .0) (p .1 .1 .0) (p .1 .1 .1)
 
 enum-told-3 : tie.Need-enum-told-3
 enum-told-3 c = search needs
@@ -38,7 +40,7 @@ step-run-requires c κs =
     let a = s .args in
     let p = s .pre in
     let i = c .before .before .before .before .root-of in
-    run-asked (a .ns .now) (a .t .now) (a .number) (i .result) (i .ensures) (a .role) (p .0) (a .c .now) (p .1 .1 .0) (a .k) (p .1 .1 .1) (c .before .before .enum-told3 .given .1) (c .before .if1 .taken)
+    step-asked (a .ns .now) (a .t .now) (a .number) (i .result) (i .ensures) (c .before .before .enum-told3 .given .1) (c .before .if1 .taken) (p .0) (p .1 .1 .0) (p .1 .1 .1)
 
 small-requires : tie.Need-small-requires
 small-requires c κs = search needs
@@ -49,7 +51,7 @@ seek-requires c κs =
     let a = s .args in
     let p = s .pre in
     let i = c .before .before .before .before .before .root-of in
-    comp-asked (a .ns .now) (a .t .now) (a .number) (i .result) (i .ensures) (a .role) (p .0) (a .c .now) (p .1 .1 .0) (a .k) (p .1 .1 .1) (c .before .before .before .enum-told3 .given .1) (c .before .before .if1 .left) (p .1 .0 .1) (c .small .result) (c .small .ensures)
+    closing-asked (a .ns .now) (a .t .now) (a .number) (i .result) (i .ensures) (c .before .before .before .enum-told3 .given .1) (c .before .before .if1 .left) (p .1 .0 .1) (c .small .result) (c .small .ensures .1) (c .small .ensures .0) (p .0) (p .1 .1 .1)
 
 same-length : tie.Need-same-length
 same-length c = search needs
@@ -59,7 +61,8 @@ returns c =
     let s = c .before .before .before .before .before .before .before .before .before in
     let a = s .args in
     let i = c .before .before .before .before .before .before .root-of in
-    std-applied (a .ns .now) (a .t .now) (a .number) (i .result) (i .ensures) (a .role) (s .pre .0) (a .k) _ (c .before .before .before .before .enum-told .given .1) (s .pre .1 .0 .1) (c .before .before .step-std .ensures)
+    let g = c .before .before .before .before .enum-told .given .1 in
+    step-applied (a .ns .now) (a .t .now) (a .number) (i .result) (i .ensures) g (inner-is (a .ns .now) (a .t .now) (a .number) (i .result) (i .ensures) g (s .pre .1 .0 .1)) (c .before .before .step-std .ensures)
 
 same-length-2 : tie.Need-same-length-2
 same-length-2 c = search needs
@@ -69,7 +72,8 @@ returns-2 c =
     let s = c .before .before .before .before .before .before .before .before .before in
     let a = s .args in
     let i = c .before .before .before .before .before .before .root-of in
-    left-applied (a .ns .now) (a .t .now) (a .number) (i .result) (i .ensures) (a .role) (s .pre .0) (a .k) _ (c .before .before .before .before .enum-told2 .given .1) (s .pre .1 .0 .1) (c .before .before .step-left .ensures)
+    let g = c .before .before .before .before .enum-told2 .given .1 in
+    step-applied (a .ns .now) (a .t .now) (a .number) (i .result) (i .ensures) g (inner-is (a .ns .now) (a .t .now) (a .number) (i .result) (i .ensures) g (s .pre .1 .0 .1)) (c .before .before .step-left .ensures)
 
 same-length-3 : tie.Need-same-length-3
 same-length-3 c = search needs
@@ -79,7 +83,7 @@ returns-3 c =
     let s = c .before .before .before .before .before .before .before .before .before .before in
     let a = s .args in
     let i = c .before .before .before .before .before .before .before .root-of in
-    run-applied (a .ns .now) (a .t .now) (a .number) (i .result) (i .ensures) (a .role) (s .pre .0) (a .k) _ (c .before .before .before .before .before .enum-told3 .given .1) (c .before .before .before .before .if1 .taken) (c .before .before .step-run .ensures)
+    step-applied (a .ns .now) (a .t .now) (a .number) (i .result) (i .ensures) (c .before .before .before .before .before .enum-told3 .given .1) (c .before .before .before .before .if1 .taken) (c .before .before .step-run .ensures)
 
 same-length-4 : tie.Need-same-length-4
 same-length-4 c = search needs
@@ -90,7 +94,7 @@ returns-4 c =
     let a = s .args in
     let i = c .before .before .before .before .before .before .before .before .root-of in
     let w = c .before .before .before .small in
-    comp-applied (a .ns .now) (a .t .now) (a .number) (i .result) (i .ensures) (a .role) (s .pre .0) (a .k) _ (c .before .before .before .before .before .before .enum-told3 .given .1) (c .before .before .before .before .before .if1 .left) (s .pre .1 .0 .1) (w .result) (w .ensures .1) (c .before .before .seek .ensures)
+    closing-applied (a .ns .now) (a .t .now) (a .number) (i .result) (i .ensures) (c .before .before .before .before .before .before .enum-told3 .given .1) (c .before .before .before .before .before .if1 .left) (s .pre .1 .0 .1) (w .result) (w .ensures .1) (c .before .before .seek .ensures)
 
 pub apply-spec : {M : Type 1} → statement M
 apply-spec =

@@ -1,6 +1,6 @@
 -- `judge::successors` meets its contract: by the role, what the counting pass gives of the root. Assumes nothing.
 use borrow.Author.Needs.{needs}
-use Rattle.judge.proofs.OneRecord.{counted-std, counted-left, counted-run, counted-comps}
+use Rattle.judge.proofs.OneRecord.{inner-is, counted-event, counted-closing}
 use Rattle.judge.proofs.successors.Statement.{statement}
 use Rattle.judge.proofs.successors.Tie as tie
 
@@ -36,21 +36,23 @@ returns c =
     let s = c .before .before .before .before .before .before .before in
     let a = s .args in
     let i = c .before .before .before .before .root-of in
-    counted-std (a .ns .now) (a .t .now) (a .number) (i .result) (i .ensures) (a .role) (c .before .before .enum-told .given .1) (s .pre .1 .1) (c .count-std .ensures)
+    let g = c .before .before .enum-told .given .1 in
+    counted-event (a .ns .now) (a .t .now) (a .number) (i .result) (i .ensures) g (inner-is (a .ns .now) (a .t .now) (a .number) (i .result) (i .ensures) g (s .pre .1 .1)) (c .count-std .ensures)
 
 returns-2 : tie.Need-returns-2
 returns-2 c =
     let s = c .before .before .before .before .before .before .before in
     let a = s .args in
     let i = c .before .before .before .before .root-of in
-    counted-left (a .ns .now) (a .t .now) (a .number) (i .result) (i .ensures) (a .role) (c .before .before .enum-told2 .given .1) (s .pre .1 .1) (c .count-left .ensures)
+    let g = c .before .before .enum-told2 .given .1 in
+    counted-event (a .ns .now) (a .t .now) (a .number) (i .result) (i .ensures) g (inner-is (a .ns .now) (a .t .now) (a .number) (i .result) (i .ensures) g (s .pre .1 .1)) (c .count-left .ensures)
 
 returns-3 : tie.Need-returns-3
 returns-3 c =
     let s = c .before .before .before .before .before .before .before .before in
     let a = s .args in
     let i = c .before .before .before .before .before .root-of in
-    counted-run (a .ns .now) (a .t .now) (a .number) (i .result) (i .ensures) (a .role) (c .before .before .before .enum-told3 .given .1) (c .if1 .taken) (c .before .count-run .ensures)
+    counted-event (a .ns .now) (a .t .now) (a .number) (i .result) (i .ensures) (c .before .before .before .enum-told3 .given .1) (c .if1 .taken) (c .before .count-run .ensures)
 
 returns-4 : tie.Need-returns-4
 returns-4 c =
@@ -58,7 +60,7 @@ returns-4 c =
     let a = s .args in
     let i = c .before .before .before .before .before .before .before .root-of in
     let w = c .before .small in
-    counted-comps (a .ns .now) (a .t .now) (a .number) (i .result) (i .ensures) (a .role) (c .before .before .before .before .before .enum-told3 .given .1) (c .before .before .if1 .left) (s .pre .1 .1) (c .before .before .before .count-run .ensures) (w .result) (w .ensures .1) (c .tally-by .ensures)
+    counted-closing (a .ns .now) (a .t .now) (a .number) (i .result) (i .ensures) (c .before .before .before .before .before .enum-told3 .given .1) (c .before .before .if1 .left) (s .pre .1 .1) (w .result) (w .ensures .1) (c .before .before .before .count-run .ensures) (c .tally-by .ensures)
 
 pub successors-spec : {M : Type 1} → statement M
 successors-spec =

@@ -2,7 +2,8 @@
 -- Each call and each return is answered by its lemma in Branches, from what the code has learnt on its way there. The measure is the
 -- node's number, and below it the order in which functions call each other at one node. Assumes nothing.
 use Rattle.seek.specs.Branches.{other-chosen, choice-first-below, choice-first, choice-second-below, choice-second, open-first-below, open-first, open-second-below, open-second, second-below, second-followed, held-follows, held-chosen, own-below, own-chosen, both-room, both-spot, both-follows, both-chosen, par-first-room, par-second-room, par-chosen}
-use Rattle.seek.specs.NodeLaws.{kid-lower, spot-below, below-spot, below-room, below-marked}
+use Rattle.states.specs.ChildLaws.{lower-spot, same-room, kid-lower}
+use Rattle.seek.specs.NodeLaws.{below-spot, below-room, below-marked}
 use mathlib.Core.Path.{refl, sym, _∙_}
 use native.Mathlib.Omega.{arith}
 use borrow.Author.Needs.{needs}
@@ -270,7 +271,7 @@ seek-choice-returns-2 t c =
 seek-choice-weight-by-requires : (t : ℕ) → seek-choice-lts.Need-weight-by-requires (seek-choice-calls t) (seek-choice-at t) seek-choice.Post
 seek-choice-weight-by-requires t c κs =
     let s = c .before .before .before .before .before .before .before .before .before in
-    spot-below _ (s .pre .1 .0 .spot) (omega (arith, c .before .before .before .before .before .before .first-child .ensures .1)) refl
+    lower-spot (s .pre .1 .0 .spot) (omega (arith, c .before .before .before .before .before .before .first-child .ensures .1))
 
 seek-choice-seek-marked-requires-3 : (t : ℕ) → seek-choice-lts.Need-seek-marked-requires-3 (seek-choice-calls t) (seek-choice-at t) seek-choice.Post
 seek-choice-seek-marked-requires-3 t c κs =
@@ -304,7 +305,7 @@ seek-held-first-child-requires t c κs = search needs
 seek-held-count-left-requires : (t : ℕ) → seek-held-lts.Need-count-left-requires (seek-held-calls t) (seek-held-at t) seek-held.Post
 seek-held-count-left-requires t c κs =
     let s = c .before .before .before .before .before in
-    spot-below _ (s .pre .1 .0 .spot) (omega (arith, c .first-child .ensures .1)) refl
+    lower-spot (s .pre .1 .0 .spot) (omega (arith, c .first-child .ensures .1))
 
 seek-held-seek-second-requires : (t : ℕ) → seek-held-lts.Need-seek-second-requires (seek-held-calls t) (seek-held-at t) seek-held.Post
 seek-held-seek-second-requires t c κs =
@@ -348,12 +349,12 @@ seek-parallel-second-child-requires t c κs = search needs
 seek-parallel-word-at-requires : (t : ℕ) → seek-parallel-lts.Need-word-at-requires (seek-parallel-calls t) (seek-parallel-at t) seek-parallel.Post
 seek-parallel-word-at-requires t c κs =
     let s = c .before .before .before .before .before in
-    spot-below _ (s .pre .1 .0 .spot) (omega (arith, c .before .before .first-child .ensures .1)) refl
+    lower-spot (s .pre .1 .0 .spot) (omega (arith, c .before .before .first-child .ensures .1))
 
 seek-parallel-word-at-requires-2 : (t : ℕ) → seek-parallel-lts.Need-word-at-requires-2 (seek-parallel-calls t) (seek-parallel-at t) seek-parallel.Post
 seek-parallel-word-at-requires-2 t c κs =
     let s = c .before .before .before .before .before .before .before in
-    spot-below _ (s .pre .1 .0 .spot) (omega (arith, c .before .before .before .second-child .ensures .1)) refl
+    lower-spot (s .pre .1 .0 .spot) (omega (arith, c .before .before .before .second-child .ensures .1))
 
 seek-parallel-first-ending-requires : (t : ℕ) → seek-parallel-lts.Need-first-ending-requires (seek-parallel-calls t) (seek-parallel-at t) seek-parallel.Post
 seek-parallel-first-ending-requires t c κs =
@@ -368,7 +369,7 @@ seek-parallel-beside-requires t c κs =
 seek-parallel-seek-requires : (t : ℕ) → seek-parallel-lts.Need-seek-requires (seek-parallel-calls t) (seek-parallel-at t) seek-parallel.Post
 seek-parallel-seek-requires t c κs =
     let s = c .before .before .before .before .before .before .before .before .before .before .before in
-    (omega (arith, s .pre .0, c .before .before .before .before .before .before .before .before .first-child .ensures .1), (spot-below _ (s .pre .1 .0 .spot) (omega (arith, c .before .before .before .before .before .before .before .before .first-child .ensures .1)) refl, (c .before .before .first-ending .ensures .small, par-first-room (s .pre .1 .0) (s .pre .1 .1) (c .before .before .before .before .before .before .before .before .first-child .ensures .0) (c .before .before .before .before .before .before .before .second-child .ensures .0) (c .before .before .before .before .before .word-at .ensures) (c .before .before .before .word-at2 .ensures) (c .before .before .first-ending .ensures) (c .beside .ensures))))
+    (omega (arith, s .pre .0, c .before .before .before .before .before .before .before .before .first-child .ensures .1), (lower-spot (s .pre .1 .0 .spot) (omega (arith, c .before .before .before .before .before .before .before .before .first-child .ensures .1)), (c .before .before .first-ending .ensures .small, par-first-room (s .pre .1 .0) (s .pre .1 .1) (c .before .before .before .before .before .before .before .before .first-child .ensures .0) (c .before .before .before .before .before .before .before .second-child .ensures .0) (c .before .before .before .before .before .word-at .ensures) (c .before .before .before .word-at2 .ensures) (c .before .before .first-ending .ensures) (c .beside .ensures))))
 
 seek-parallel-weight-within-requires : (t : ℕ) → seek-parallel-lts.Need-weight-within-requires (seek-parallel-calls t) (seek-parallel-at t) seek-parallel.Post
 seek-parallel-weight-within-requires t c κs = search needs
@@ -381,7 +382,7 @@ seek-parallel-second-ending-requires t c κs =
 seek-parallel-seek-requires-2 : (t : ℕ) → seek-parallel-lts.Need-seek-requires-2 (seek-parallel-calls t) (seek-parallel-at t) seek-parallel.Post
 seek-parallel-seek-requires-2 t c κs =
     let s = c .before .before .before .before .before .before .before .before .before .before .before .before .before .before .before .before .before in
-    (omega (arith, s .pre .0, c .before .before .before .before .before .before .before .before .before .before .before .before .before .second-child .ensures .1), (spot-below _ (s .pre .1 .0 .spot) (omega (arith, c .before .before .before .before .before .before .before .before .before .before .before .before .before .second-child .ensures .1)) (c .before .before .before .before .before .seek .kept .1 .1 .0), (c .before .second-ending .ensures .small, par-second-room (s .pre .1 .0) (s .pre .1 .1) (c .before .before .before .before .before .before .before .before .before .before .before .before .before .before .first-child .ensures .0) (c .before .before .before .before .before .before .before .before .before .before .before .before .before .second-child .ensures .0) (c .before .before .before .before .before .before .before .before .before .before .before .word-at .ensures) (c .before .before .before .before .before .before .before .before .before .word-at2 .ensures) (c .before .before .before .before .before .before .before .before .first-ending .ensures) (c .before .before .before .before .before .before .beside .ensures) (c .before .before .before .before .before .seek .ensures) (c .before .before .weight-within .ensures) (c .before .second-ending .ensures))))
+    (omega (arith, s .pre .0, c .before .before .before .before .before .before .before .before .before .before .before .before .before .second-child .ensures .1), (same-room (lower-spot (s .pre .1 .0 .spot) (omega (arith, c .before .before .before .before .before .before .before .before .before .before .before .before .before .second-child .ensures .1))) (c .before .before .before .before .before .seek .kept .1 .1 .0), (c .before .second-ending .ensures .small, par-second-room (s .pre .1 .0) (s .pre .1 .1) (c .before .before .before .before .before .before .before .before .before .before .before .before .before .before .first-child .ensures .0) (c .before .before .before .before .before .before .before .before .before .before .before .before .before .second-child .ensures .0) (c .before .before .before .before .before .before .before .before .before .before .before .word-at .ensures) (c .before .before .before .before .before .before .before .before .before .word-at2 .ensures) (c .before .before .before .before .before .before .before .before .first-ending .ensures) (c .before .before .before .before .before .before .beside .ensures) (c .before .before .before .before .before .seek .ensures) (c .before .before .weight-within .ensures) (c .before .second-ending .ensures))))
 
 seek-parallel-sum-requires : (t : ℕ) → seek-parallel-lts.Need-sum-requires (seek-parallel-calls t) (seek-parallel-at t) seek-parallel.Post
 seek-parallel-sum-requires t c κs = search needs
@@ -400,7 +401,7 @@ seek-running-first-child-requires t c κs = search needs
 seek-running-own-weight-requires : (t : ℕ) → seek-running-lts.Need-own-weight-requires (seek-running-calls t) (seek-running-at t) seek-running.Post
 seek-running-own-weight-requires t c κs =
     let s = c .before .before .before .before in
-    spot-below _ (s .pre .1 .0 .spot) (omega (arith, c .before .first-child .ensures .1)) refl
+    lower-spot (s .pre .1 .0 .spot) (omega (arith, c .before .first-child .ensures .1))
 
 seek-running-seek-marked-requires : (t : ℕ) → seek-running-lts.Need-seek-marked-requires (seek-running-calls t) (seek-running-at t) seek-running.Post
 seek-running-seek-marked-requires t c κs =
@@ -421,7 +422,7 @@ seek-running-second-child-requires t c κs = search needs
 seek-running-weight-before-requires : (t : ℕ) → seek-running-lts.Need-weight-before-requires (seek-running-calls t) (seek-running-at t) seek-running.Post
 seek-running-weight-before-requires t c κs =
     let s = c .before .before .before .before .before .before .before .before in
-    spot-below _ (s .pre .1 .0 .spot) (omega (arith, c .second-child .ensures .1)) refl
+    lower-spot (s .pre .1 .0 .spot) (omega (arith, c .second-child .ensures .1))
 
 seek-running-seek-requires : (t : ℕ) → seek-running-lts.Need-seek-requires (seek-running-calls t) (seek-running-at t) seek-running.Post
 seek-running-seek-requires t c κs =

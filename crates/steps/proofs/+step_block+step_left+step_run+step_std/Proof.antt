@@ -5,8 +5,7 @@ use native.Mathlib.Omega.{arith}
 use mathlib.Core.Path.{sym, _∙_, ap}
 use borrow.Author.Needs.{needs}
 use Rattle.states.specs.State.{counts}
-use Rattle.steps.specs.Turns.{plain, running, undoing, Ready}
-use Rattle.steps.specs.TurnLaws.{pair-turned, left-pair-turned, out-turned, inside-turned, event-stepped, plain-idle, running-idle, undoing-idle, pair-idle, ready-plain, ready-running, turned-plain, turned-running, turned-at, to-std, of-std, to-run, of-run, to-left, of-left}
+use Rattle.steps.specs.TurnLaws.{pair-turned, left-pair-turned, out-turned, inside-turned, event-stepped, plain-idle, running-idle, undoing-idle, pair-idle, ready-plain, ready-running, turned-plain, turned-running, turned-at}
 use Prim.Native.Nat.{ℕ, _<_, _+_, _*_}
 use borrow.Fn.Kinds.{In}
 use borrow.Fn.PlainCycle.{Measures, is, falls, and}
@@ -87,16 +86,6 @@ step-run-calls t = (kind-at-reads.Asked, kind-at-reads.Learnt, first-child-reads
 abbrev step-std-calls : ℕ → step-std-lts.Claims
 step-std-calls t = (kind-at-reads.Asked, kind-at-reads.Learnt, set-mode-reads.Asked, set-mode-reads.Learnt, step-block-below t, step-block.Post, turn-two-reads.Asked, turn-two-reads.Learnt, step-std-below t, step-std.Post)
 
--- what each is handed, as one record
-left-ready : (t : ℕ) (s : step-left-lts.Start (step-left-calls t) (step-left-at t) step-left.Post) → Ready (s .args .ns .now) (s .args .a) undoing (s .args .c .now) (s .args .t .now) (s .args .i) (s .args .k)
-left-ready t s = let p = s .pre .1 in record { spot = p .0; right = p .1 .0; room = p .1 .1 }
-
-run-ready : (t : ℕ) (s : step-run-lts.Start (step-run-calls t) (step-run-at t) step-run.Post) → Ready (s .args .ns .now) (s .args .a) running (s .args .c .now) (s .args .t .now) (s .args .i) (s .args .k)
-run-ready t s = let p = s .pre .1 in record { spot = p .0; right = p .1 .0; room = p .1 .1 }
-
-std-ready : (t : ℕ) (s : step-std-lts.Start (step-std-calls t) (step-std-at t) step-std.Post) → Ready (s .args .ns .now) (s .args .a) plain (s .args .c .now) (s .args .t .now) (s .args .i) (s .args .k)
-std-ready t s = let p = s .pre .1 in record { spot = p .0; right = p .1 .0; room = p .1 .1 }
-
 step-block-first-child-requires : (t : ℕ) → step-block-lts.Need-first-child-requires (step-block-calls t) (step-block-at t) step-block.Post
 step-block-first-child-requires t c κs =
     let s = c .before .before in
@@ -110,7 +99,7 @@ step-block-step-left-requires : (t : ℕ) → step-block-lts.Need-step-left-requ
 step-block-step-left-requires t c κs =
     let s = c .before .before .before .before .before .before .before in
     let x = out-turned (s .pre .1 .0) (s .pre .1 .1) (c .before .before .before .before .first-child .ensures .0) (λ e. c .before .if1 .taken (c .before .before .mode-of .ensures ∙ e)) in
-    (omega (arith, x .lower, s .pre .0), (x .ready .spot, (x .ready .right, x .ready .room)))
+    (omega (arith, x .lower, s .pre .0), x .ready)
 
 step-block-count-at-requires : (t : ℕ) → step-block-lts.Need-count-at-requires (step-block-calls t) (step-block-at t) step-block.Post
 step-block-count-at-requires t c κs =
@@ -121,7 +110,7 @@ step-block-step-run-requires : (t : ℕ) → step-block-lts.Need-step-run-requir
 step-block-step-run-requires t c κs =
     let s = c .before .before .before .before .before .before .before .before .before in
     let x = inside-turned (s .pre .1 .0) (s .pre .1 .1) (c .before .before .before .before .before .before .first-child .ensures .0) (sym (c .before .before .before .before .mode-of .ensures) ∙ c .before .before .before .if1 .left) (c .before .before .count-at .ensures) (c .before .if2 .taken) in
-    (omega (arith, x .lower, s .pre .0), (x .ready .spot, (x .ready .right, x .ready .room)))
+    (omega (arith, x .lower, s .pre .0), x .ready)
 
 step-block-turn-out-requires : (t : ℕ) → step-block-lts.Need-turn-out-requires (step-block-calls t) (step-block-at t) step-block.Post
 step-block-turn-out-requires t c κs =
@@ -133,7 +122,7 @@ step-block-step-left-requires-2 : (t : ℕ) → step-block-lts.Need-step-left-re
 step-block-step-left-requires-2 t c κs =
     let s = c .before .before .before .before .before .before .before .before .before .before .before .before .before .before .before in
     let x = turned-at (c .before .before .before .before .before .before .before .before .before .before .before .before .first-child .ensures .0) (c .before .before .before .before .turn-out .ensures) in
-    (omega (arith, x .lower, s .pre .0), (x .ready .spot, (x .ready .right, x .ready .room)))
+    (omega (arith, x .lower, s .pre .0), x .ready)
 
 step-block-same-length : (t : ℕ) → step-block-lts.Need-same-length (step-block-calls t) (step-block-at t) step-block.Post
 step-block-same-length t c = c .before .before .step-left .kept .1 .1 .1 .0
@@ -142,7 +131,7 @@ step-block-returns : (t : ℕ) → step-block-lts.Need-returns (step-block-calls
 step-block-returns t c =
     let s = c .before .before .before .before .before .before .before .before .before .before in
     let x = out-turned (s .pre .1 .0) (s .pre .1 .1) (c .before .before .before .before .before .before .before .first-child .ensures .0) (λ e. c .before .before .before .before .if1 .taken (c .before .before .before .before .before .mode-of .ensures ∙ e)) in
-    to-std (x .back _ (of-left (c .before .before .step-left .ensures)))
+    x .back _ (c .before .before .step-left .ensures)
 
 step-block-same-length-2 : (t : ℕ) → step-block-lts.Need-same-length-2 (step-block-calls t) (step-block-at t) step-block.Post
 step-block-same-length-2 t c = c .before .before .step-run .kept .1 .1 .1 .0
@@ -151,7 +140,7 @@ step-block-returns-2 : (t : ℕ) → step-block-lts.Need-returns-2 (step-block-c
 step-block-returns-2 t c =
     let s = c .before .before .before .before .before .before .before .before .before .before .before .before in
     let x = inside-turned (s .pre .1 .0) (s .pre .1 .1) (c .before .before .before .before .before .before .before .before .before .first-child .ensures .0) (sym (c .before .before .before .before .before .before .before .mode-of .ensures) ∙ c .before .before .before .before .before .before .if1 .left) (c .before .before .before .before .before .count-at .ensures) (c .before .before .before .before .if2 .taken) in
-    to-std (x .back _ (of-run (c .before .before .step-run .ensures)))
+    x .back _ (c .before .before .step-run .ensures)
 
 step-block-same-length-3 : (t : ℕ) → step-block-lts.Need-same-length-3 (step-block-calls t) (step-block-at t) step-block.Post
 step-block-same-length-3 t c = c .before .before .step-left2 .kept .1 .1 .1 .0 ∙ c .before .before .before .before .before .before .before .turn-out .kept .1 .1 .1 .0
@@ -159,35 +148,35 @@ step-block-same-length-3 t c = c .before .before .step-left2 .kept .1 .1 .1 .0 �
 step-block-returns-3 : (t : ℕ) → step-block-lts.Need-returns-3 (step-block-calls t) (step-block-at t) step-block.Post
 step-block-returns-3 t c =
     let x = turned-at (c .before .before .before .before .before .before .before .before .before .before .before .before .before .before .before .first-child .ensures .0) (c .before .before .before .before .before .before .before .turn-out .ensures) in
-    to-std (x .back _ (of-left (c .before .before .step-left2 .ensures)))
+    x .back _ (c .before .before .step-left2 .ensures)
 
 step-left-kind-at-requires : (t : ℕ) → step-left-lts.Need-kind-at-requires (step-left-calls t) (step-left-at t) step-left.Post
-step-left-kind-at-requires t c κs = c .before .before .pre .1 .0 .node .inside
+step-left-kind-at-requires t c κs = c .before .before .pre .1 .spot .node .inside
 
 step-left-mode-of-requires : (t : ℕ) → step-left-lts.Need-mode-of-requires (step-left-calls t) (step-left-at t) step-left.Post
-step-left-mode-of-requires t c κs = c .before .before .before .before .before .pre .1 .0 .room
+step-left-mode-of-requires t c κs = c .before .before .before .before .before .pre .1 .spot .room
 
 step-left-second-child-requires : (t : ℕ) → step-left-lts.Need-second-child-requires (step-left-calls t) (step-left-at t) step-left.Post
 step-left-second-child-requires t c κs =
     let q = sym (c .before .before .before .before .before .kind-at .ensures) ∙ c .before .before .before .before .match .keys1 in
-    (c .before .before .before .before .before .before .before .before .pre .1 .0 .node, record { low = omega arith; high = omega arith; two = λ e. omega arith })
+    (c .before .before .before .before .before .before .before .before .pre .1 .spot .node, record { low = omega arith; high = omega arith; two = λ e. omega arith })
 
 step-left-step-std-requires : (t : ℕ) → step-left-lts.Need-step-std-requires (step-left-calls t) (step-left-at t) step-left.Post
 step-left-step-std-requires t c κs =
     let s = c .before .before .before .before .before .before .before .before .before in
-    let x = left-pair-turned (left-ready t s) (sym (c .before .before .before .before .before .before .kind-at .ensures) ∙ c .before .before .before .before .before .match .keys1) (sym (c .before .before .before .mode-of .ensures) ∙ c .before .before .if1 .taken) (c .second-child .ensures .0) in
-    (omega (arith, x .lower, s .pre .0), (x .ready .spot, (x .ready .right, x .ready .room)))
+    let x = left-pair-turned (s .pre .1) (sym (c .before .before .before .before .before .before .kind-at .ensures) ∙ c .before .before .before .before .before .match .keys1) (sym (c .before .before .before .mode-of .ensures) ∙ c .before .before .if1 .taken) (c .second-child .ensures .0) in
+    (omega (arith, x .lower, s .pre .0), x .ready)
 
 step-left-turn-left-requires : (t : ℕ) → step-left-lts.Need-turn-left-requires (step-left-calls t) (step-left-at t) step-left.Post
 step-left-turn-left-requires t c κs =
     let s = c .before .before .before .before .before .before .before in
-    (left-ready t s, record { is = c .before .before .before .before .kind-at .ensures; low = omega (arith, c .before .before .if2 .left); high = omega (arith, c .before .if3 .taken) })
+    (s .pre .1, record { is = c .before .before .before .before .kind-at .ensures; low = omega (arith, c .before .before .if2 .left); high = omega (arith, c .before .if3 .taken) })
 
 step-left-step-left-requires : (t : ℕ) → step-left-lts.Need-step-left-requires (step-left-calls t) (step-left-at t) step-left.Post
 step-left-step-left-requires t c κs =
     let s = c .before .before .before .before .before .before .before .before .before .before .before in
     let x = c .before .before .before .turn-left .ensures in
-    (omega (arith, x .lower, s .pre .0), (x .ready .spot, (x .ready .right, x .ready .room)))
+    (omega (arith, x .lower, s .pre .0), x .ready)
 
 step-left-same-length : (t : ℕ) → step-left-lts.Need-same-length (step-left-calls t) (step-left-at t) step-left.Post
 step-left-same-length t c = c .before .before .step-std .kept .1 .1 .1 .0
@@ -195,17 +184,17 @@ step-left-same-length t c = c .before .before .step-std .kept .1 .1 .1 .0
 step-left-returns : (t : ℕ) → step-left-lts.Need-returns (step-left-calls t) (step-left-at t) step-left.Post
 step-left-returns t c =
     let s = c .before .before .before .before .before .before .before .before .before .before .before .before in
-    let x = left-pair-turned (left-ready t s) (sym (c .before .before .before .before .before .before .before .before .before .kind-at .ensures) ∙ c .before .before .before .before .before .before .before .before .match .keys1) (sym (c .before .before .before .before .before .before .mode-of .ensures) ∙ c .before .before .before .before .before .if1 .taken) (c .before .before .before .second-child .ensures .0) in
-    to-left (x .back _ (of-std (c .before .before .step-std .ensures)))
+    let x = left-pair-turned (s .pre .1) (sym (c .before .before .before .before .before .before .before .before .before .kind-at .ensures) ∙ c .before .before .before .before .before .before .before .before .match .keys1) (sym (c .before .before .before .before .before .before .mode-of .ensures) ∙ c .before .before .before .before .before .if1 .taken) (c .before .before .before .second-child .ensures .0) in
+    x .back _ (c .before .before .step-std .ensures)
 
 step-left-same-length-2 : (t : ℕ) → step-left-lts.Need-same-length-2 (step-left-calls t) (step-left-at t) step-left.Post
 step-left-same-length-2 t c = search needs
 
 step-left-returns-2 : (t : ℕ) → step-left-lts.Need-returns-2 (step-left-calls t) (step-left-at t) step-left.Post
-step-left-returns-2 t c = absurd (pair-idle (left-ready t (c .before .before .before .before .before .before .before)) (sym (c .before .before .before .before .kind-at .ensures) ∙ c .before .before .before .match .keys1) (λ e. c .if1 .left (c .before .mode-of .ensures ∙ e)))
+step-left-returns-2 t c = absurd (pair-idle (c .before .before .before .before .before .before .before .pre .1) (sym (c .before .before .before .before .kind-at .ensures) ∙ c .before .before .before .match .keys1) (λ e. c .if1 .left (c .before .mode-of .ensures ∙ e)))
 
 step-left-returns-3 : (t : ℕ) → step-left-lts.Need-returns-3 (step-left-calls t) (step-left-at t) step-left.Post
-step-left-returns-3 t c = absurd (undoing-idle (left-ready t (c .before .before .before .before .before)) (c .before .before .kind-at .ensures) (λ l h. c .before .match .rest .1 (omega (arith, c .if2 .taken))))
+step-left-returns-3 t c = absurd (undoing-idle (c .before .before .before .before .before .pre .1) (c .before .before .kind-at .ensures) (λ l h. c .before .match .rest .1 (omega (arith, c .if2 .taken))))
 
 step-left-same-length-3 : (t : ℕ) → step-left-lts.Need-same-length-3 (step-left-calls t) (step-left-at t) step-left.Post
 step-left-same-length-3 t c = c .before .before .step-left .kept .1 .1 .1 .0 ∙ c .before .before .before .before .before .before .turn-left .kept .1 .1 .1 .0
@@ -213,37 +202,37 @@ step-left-same-length-3 t c = c .before .before .step-left .kept .1 .1 .1 .0 ∙
 step-left-returns-4 : (t : ℕ) → step-left-lts.Need-returns-4 (step-left-calls t) (step-left-at t) step-left.Post
 step-left-returns-4 t c =
     let x = c .before .before .before .before .before .before .turn-left .ensures in
-    to-left (x .back _ (of-left (c .before .before .step-left .ensures)))
+    x .back _ (c .before .before .step-left .ensures)
 
 step-left-returns-5 : (t : ℕ) → step-left-lts.Need-returns-5 (step-left-calls t) (step-left-at t) step-left.Post
-step-left-returns-5 t c = absurd (undoing-idle (left-ready t (c .before .before .before .before .before .before)) (c .before .before .before .kind-at .ensures) (λ l h. omega (arith, c .if3 .left)))
+step-left-returns-5 t c = absurd (undoing-idle (c .before .before .before .before .before .before .pre .1) (c .before .before .before .kind-at .ensures) (λ l h. omega (arith, c .if3 .left)))
 
 step-run-kind-at-requires : (t : ℕ) → step-run-lts.Need-kind-at-requires (step-run-calls t) (step-run-at t) step-run.Post
-step-run-kind-at-requires t c κs = c .before .before .pre .1 .0 .node .inside
+step-run-kind-at-requires t c κs = c .before .before .pre .1 .spot .node .inside
 
 step-run-first-child-requires : (t : ℕ) → step-run-lts.Need-first-child-requires (step-run-calls t) (step-run-at t) step-run.Post
 step-run-first-child-requires t c κs =
     let q = sym (c .before .before .kind-at .ensures) ∙ c .before .match .keys1 in
-    (c .before .before .before .before .before .pre .1 .0 .node, record { low = omega arith; high = omega arith })
+    (c .before .before .before .before .before .pre .1 .spot .node, record { low = omega arith; high = omega arith })
 
 step-run-step-std-requires : (t : ℕ) → step-run-lts.Need-step-std-requires (step-run-calls t) (step-run-at t) step-run.Post
 step-run-step-std-requires t c κs =
     let s = c .before .before .before .before .before .before in
-    let x = pair-turned (run-ready t s) (sym (c .before .before .before .kind-at .ensures) ∙ c .before .before .match .keys1) (c .first-child .ensures .0) in
-    (omega (arith, x .lower, s .pre .0), (x .ready .spot, (x .ready .right, x .ready .room)))
+    let x = pair-turned (s .pre .1) (sym (c .before .before .before .kind-at .ensures) ∙ c .before .before .match .keys1) (c .first-child .ensures .0) in
+    (omega (arith, x .lower, s .pre .0), x .ready)
 
 step-run-turn-two-requires : (t : ℕ) → step-run-lts.Need-turn-two-requires (step-run-calls t) (step-run-at t) step-run.Post
 step-run-turn-two-requires t c κs =
     let s = c .before .before .before .before .before .before .before in
     let l = c .before .before .if1 .left in
-    (ready-running {n = c .before .before .before .before .kind-at .result} (omega arith) (run-ready t s), record { is = c .before .before .before .before .kind-at .ensures; low = omega arith; high = omega (arith, c .before .if2 .taken); no-block = λ e. omega arith; no-pair = λ e. omega arith })
+    (ready-running {n = c .before .before .before .before .kind-at .result} (omega arith) (s .pre .1), record { is = c .before .before .before .before .kind-at .ensures; low = omega arith; high = omega (arith, c .before .if2 .taken); no-block = λ e. omega arith; no-pair = λ e. omega arith })
 
 step-run-step-run-requires : (t : ℕ) → step-run-lts.Need-step-run-requires (step-run-calls t) (step-run-at t) step-run.Post
 step-run-step-run-requires t c κs =
     let s = c .before .before .before .before .before .before .before .before .before .before .before in
     let l = c .before .before .before .before .before .before .if1 .left in
     let x = turned-running {n = c .before .before .before .before .before .before .before .before .kind-at .result} (omega arith) (c .before .before .before .turn-two .ensures) in
-    (omega (arith, x .lower, s .pre .0), (x .ready .spot, (x .ready .right, x .ready .room)))
+    (omega (arith, x .lower, s .pre .0), x .ready)
 
 step-run-same-length : (t : ℕ) → step-run-lts.Need-same-length (step-run-calls t) (step-run-at t) step-run.Post
 step-run-same-length t c = c .before .before .step-std .kept .1 .1 .1 .0
@@ -251,11 +240,11 @@ step-run-same-length t c = c .before .before .step-std .kept .1 .1 .1 .0
 step-run-returns : (t : ℕ) → step-run-lts.Need-returns (step-run-calls t) (step-run-at t) step-run.Post
 step-run-returns t c =
     let s = c .before .before .before .before .before .before .before .before .before in
-    let x = pair-turned (run-ready t s) (sym (c .before .before .before .before .before .before .kind-at .ensures) ∙ c .before .before .before .before .before .match .keys1) (c .before .before .before .first-child .ensures .0) in
-    to-run (x .back _ (of-std (c .before .before .step-std .ensures)))
+    let x = pair-turned (s .pre .1) (sym (c .before .before .before .before .before .before .kind-at .ensures) ∙ c .before .before .before .before .before .match .keys1) (c .before .before .before .first-child .ensures .0) in
+    x .back _ (c .before .before .step-std .ensures)
 
 step-run-returns-2 : (t : ℕ) → step-run-lts.Need-returns-2 (step-run-calls t) (step-run-at t) step-run.Post
-step-run-returns-2 t c = absurd (running-idle (run-ready t (c .before .before .before .before .before)) (c .before .before .kind-at .ensures) (λ l h. c .before .match .rest .1 (omega (arith, c .if1 .taken))))
+step-run-returns-2 t c = absurd (running-idle (c .before .before .before .before .before .pre .1) (c .before .before .kind-at .ensures) (λ l h. c .before .match .rest .1 (omega (arith, c .if1 .taken))))
 
 step-run-same-length-2 : (t : ℕ) → step-run-lts.Need-same-length-2 (step-run-calls t) (step-run-at t) step-run.Post
 step-run-same-length-2 t c = c .before .before .step-run .kept .1 .1 .1 .0 ∙ c .before .before .before .before .before .before .turn-two .kept .1 .1 .1 .0
@@ -264,41 +253,41 @@ step-run-returns-3 : (t : ℕ) → step-run-lts.Need-returns-3 (step-run-calls t
 step-run-returns-3 t c =
     let l = c .before .before .before .before .before .before .before .before .before .if1 .left in
     let x = turned-running {n = c .before .before .before .before .before .before .before .before .before .before .before .kind-at .result} (omega arith) (c .before .before .before .before .before .before .turn-two .ensures) in
-    to-run (x .back _ (of-run (c .before .before .step-run .ensures)))
+    x .back _ (c .before .before .step-run .ensures)
 
 step-run-returns-4 : (t : ℕ) → step-run-lts.Need-returns-4 (step-run-calls t) (step-run-at t) step-run.Post
-step-run-returns-4 t c = absurd (running-idle (run-ready t (c .before .before .before .before .before .before)) (c .before .before .before .kind-at .ensures) (λ l h. omega (arith, c .if2 .left)))
+step-run-returns-4 t c = absurd (running-idle (c .before .before .before .before .before .before .pre .1) (c .before .before .before .kind-at .ensures) (λ l h. omega (arith, c .if2 .left)))
 
 step-std-kind-at-requires : (t : ℕ) → step-std-lts.Need-kind-at-requires (step-std-calls t) (step-std-at t) step-std.Post
-step-std-kind-at-requires t c κs = c .before .before .pre .1 .0 .node .inside
+step-std-kind-at-requires t c κs = c .before .before .pre .1 .spot .node .inside
 
 step-std-set-mode-requires : (t : ℕ) → step-std-lts.Need-set-mode-requires (step-std-calls t) (step-std-at t) step-std.Post
-step-std-set-mode-requires t c κs = c .before .before .before .before .before .pre .1 .0 .room
+step-std-set-mode-requires t c κs = c .before .before .before .before .before .pre .1 .spot .room
 
 step-std-step-block-requires : (t : ℕ) → step-std-lts.Need-step-block-requires (step-std-calls t) (step-std-at t) step-std.Post
 step-std-step-block-requires t c κs =
     let s = c .before .before .before .before .before in
-    (omega (arith, s .pre .0), (std-ready t s, sym (c .before .before .kind-at .ensures) ∙ c .before .match .keys2))
+    (omega (arith, s .pre .0), (s .pre .1, sym (c .before .before .kind-at .ensures) ∙ c .before .match .keys2))
 
 step-std-turn-two-requires : (t : ℕ) → step-std-lts.Need-turn-two-requires (step-std-calls t) (step-std-at t) step-std.Post
 step-std-turn-two-requires t c κs =
     let s = c .before .before .before .before .before .before .before in
     let l = c .before .before .if1 .left in
     let h = c .before .if2 .taken in
-    (ready-plain {n = c .before .before .before .before .kind-at .result} (omega arith) (std-ready t s), record { is = c .before .before .before .before .kind-at .ensures; low = omega arith; high = omega arith; no-block = λ e. omega arith; no-pair = λ e. omega arith })
+    (ready-plain {n = c .before .before .before .before .kind-at .result} (omega arith) (s .pre .1), record { is = c .before .before .before .before .kind-at .ensures; low = omega arith; high = omega arith; no-block = λ e. omega arith; no-pair = λ e. omega arith })
 
 step-std-step-std-requires : (t : ℕ) → step-std-lts.Need-step-std-requires (step-std-calls t) (step-std-at t) step-std.Post
 step-std-step-std-requires t c κs =
     let s = c .before .before .before .before .before .before .before .before .before .before .before in
     let h = c .before .before .before .before .before .if2 .taken in
     let x = turned-plain {n = c .before .before .before .before .before .before .before .before .kind-at .result} (omega arith) (c .before .before .before .turn-two .ensures) in
-    (omega (arith, x .lower, s .pre .0), (x .ready .spot, (x .ready .right, x .ready .room)))
+    (omega (arith, x .lower, s .pre .0), x .ready)
 
 step-std-same-length : (t : ℕ) → step-std-lts.Need-same-length (step-std-calls t) (step-std-at t) step-std.Post
 step-std-same-length t c = search needs
 
 step-std-returns : (t : ℕ) → step-std-lts.Need-returns (step-std-calls t) (step-std-at t) step-std.Post
-step-std-returns t c = to-std (event-stepped (std-ready t (c .before .before .before .before .before .before .before .before)) (sym (c .before .before .before .before .before .kind-at .ensures) ∙ c .before .before .before .before .match .keys1) (c .before .before .set-mode .ensures))
+step-std-returns t c = event-stepped (c .before .before .before .before .before .before .before .before .pre .1) (sym (c .before .before .before .before .before .kind-at .ensures) ∙ c .before .before .before .before .match .keys1) (c .before .before .set-mode .ensures)
 
 step-std-same-length-2 : (t : ℕ) → step-std-lts.Need-same-length-2 (step-std-calls t) (step-std-at t) step-std.Post
 step-std-same-length-2 t c = c .before .before .step-block .kept .1 .1 .1 .0
@@ -307,7 +296,7 @@ step-std-returns-2 : (t : ℕ) → step-std-lts.Need-returns-2 (step-std-calls t
 step-std-returns-2 t c = c .before .before .step-block .ensures
 
 step-std-returns-3 : (t : ℕ) → step-std-lts.Need-returns-3 (step-std-calls t) (step-std-at t) step-std.Post
-step-std-returns-3 t c = absurd (plain-idle (std-ready t (c .before .before .before .before .before)) (c .before .before .kind-at .ensures) (c .before .match .rest .0 .1) (λ l h. omega (arith, c .if1 .taken)))
+step-std-returns-3 t c = absurd (plain-idle (c .before .before .before .before .before .pre .1) (c .before .before .kind-at .ensures) (c .before .match .rest .0 .1) (λ l h. omega (arith, c .if1 .taken)))
 
 step-std-same-length-3 : (t : ℕ) → step-std-lts.Need-same-length-3 (step-std-calls t) (step-std-at t) step-std.Post
 step-std-same-length-3 t c = c .before .before .step-std .kept .1 .1 .1 .0 ∙ c .before .before .before .before .before .before .turn-two .kept .1 .1 .1 .0
@@ -316,10 +305,10 @@ step-std-returns-4 : (t : ℕ) → step-std-lts.Need-returns-4 (step-std-calls t
 step-std-returns-4 t c =
     let h = c .before .before .before .before .before .before .before .before .if2 .taken in
     let x = turned-plain {n = c .before .before .before .before .before .before .before .before .before .before .before .kind-at .result} (omega arith) (c .before .before .before .before .before .before .turn-two .ensures) in
-    to-std (x .back _ (of-std (c .before .before .step-std .ensures)))
+    x .back _ (c .before .before .step-std .ensures)
 
 step-std-returns-5 : (t : ℕ) → step-std-lts.Need-returns-5 (step-std-calls t) (step-std-at t) step-std.Post
-step-std-returns-5 t c = absurd (plain-idle (std-ready t (c .before .before .before .before .before .before)) (c .before .before .before .kind-at .ensures) (c .before .before .match .rest .0 .1) (λ l h. c .before .before .match .rest .1 (omega (arith, c .if2 .left))))
+step-std-returns-5 t c = absurd (plain-idle (c .before .before .before .before .before .before .pre .1) (c .before .before .before .kind-at .ensures) (c .before .before .match .rest .0 .1) (λ l h. c .before .before .match .rest .1 (omega (arith, c .if2 .left))))
 
 pub +step-block+step-left+step-run+step-std-spec : {M : Type 1} → statement M
 +step-block+step-left+step-run+step-std-spec = close μ-step-block μ-step-left μ-step-run μ-step-std (λ t. step-block-lts.spec (step-block-calls t) (step-block-at t) step-block.Post (step-block-first-child-requires t) (step-block-mode-of-requires t) (step-block-step-left-requires t) (step-block-count-at-requires t) (step-block-step-run-requires t) (step-block-turn-out-requires t) (step-block-step-left-requires-2 t) (step-block-same-length t) (step-block-returns t) (step-block-same-length-2 t) (step-block-returns-2 t) (step-block-same-length-3 t) (step-block-returns-3 t)) (λ t. step-left-lts.spec (step-left-calls t) (step-left-at t) step-left.Post (step-left-kind-at-requires t) (step-left-mode-of-requires t) (step-left-second-child-requires t) (step-left-step-std-requires t) (step-left-turn-left-requires t) (step-left-step-left-requires t) (step-left-same-length t) (step-left-returns t) (step-left-same-length-2 t) (step-left-returns-2 t) (step-left-returns-3 t) (step-left-same-length-3 t) (step-left-returns-4 t) (step-left-returns-5 t)) (λ t. step-run-lts.spec (step-run-calls t) (step-run-at t) step-run.Post (step-run-kind-at-requires t) (step-run-first-child-requires t) (step-run-step-std-requires t) (step-run-turn-two-requires t) (step-run-step-run-requires t) (step-run-same-length t) (step-run-returns t) (step-run-returns-2 t) (step-run-same-length-2 t) (step-run-returns-3 t) (step-run-returns-4 t)) λ t. step-std-lts.spec (step-std-calls t) (step-std-at t) step-std.Post (step-std-kind-at-requires t) (step-std-set-mode-requires t) (step-std-step-block-requires t) (step-std-turn-two-requires t) (step-std-step-std-requires t) (step-std-same-length t) (step-std-returns t) (step-std-same-length-2 t) (step-std-returns-2 t) (step-std-returns-3 t) (step-std-same-length-3 t) (step-std-returns-4 t) (step-std-returns-5 t)

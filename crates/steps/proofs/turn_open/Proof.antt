@@ -1,6 +1,7 @@
 -- `steps::turn_open` meets its contract: the first part makes the step, PP;QQ moves on, or the second part makes it. Assumes nothing.
 use Rattle.steps.specs.TurnLaws.{open-first, open-second, on-drawn}
-use Rattle.steps.specs.Turns.{role-of, Ready, Turned}
+use Rattle.states.specs.Contracts.{Ready}
+use Rattle.steps.specs.Turns.{role-of, Turned}
 use Rattle.states.specs.State.{modes, counts}
 use mathlib.Core.Path.{sym, _∙_, ap, subst}
 use native.Mathlib.Omega.{arith}

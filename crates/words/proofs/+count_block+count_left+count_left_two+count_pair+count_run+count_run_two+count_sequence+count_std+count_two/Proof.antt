@@ -6,7 +6,9 @@ use native.Mathlib.Omega.{arith}
 use borrow.Author.Needs.{needs}
 use mathlib.Core.Logic.{⊎-elim}
 use mathlib.Core.Path.{sym, _∙_}
-use Rattle.words.specs.CountLaws.{lower-spot, std-both, std-first, std-second, left-both, left-first, left-second, run-both, run-first, run-second, block-inside, block-left, pair-done, pair-on, pair-left, pair-none, sequence-first, sequence-held, std-none, left-none, run-none}
+use Rattle.states.specs.Roles.{plain, running, undoing}
+use Rattle.states.specs.ChildLaws.{lower-spot}
+use Rattle.words.specs.CountLaws.{parts-both, parts-first, parts-second, block-inside, block-left, pair-done, pair-on, pair-left, pair-none, sequence-first, sequence-held, std-none, left-none, run-none}
 use borrow.Fn.Kinds.{In}
 use borrow.Fn.PlainCycle.{Measures, is, falls, and}
 use Rattle.words.proofs.count_block.Reads as count-block
@@ -299,7 +301,7 @@ count-left-two-note-requires : (t : ℕ) → count-left-two-lts.Need-note-requir
 count-left-two-note-requires t c κs = omega (arith, (c .before .before .before .before .before .before .before .before .before .before .before .before .before .pre .1 .0) .node .inside, (c .before .before .before .before .before .before .before .before .before .before .before .before .before .pre .1 .0) .node .sound .few)
 
 count-left-two-returns : (t : ℕ) → count-left-two-lts.Need-returns (count-left-two-calls t) (count-left-two-at t) count-left-two.Post
-count-left-two-returns t c = left-both (c .before .before .before .before .before .before .before .before .before .before .before .before .before .before .pre .1 .0) (c .before .before .before .before .before .before .before .before .before .before .before .before .before .before .pre .1 .1) (c .before .before .before .before .before .before .before .before .before .before .before .mode-of .ensures) (c .before .before .before .before .before .before .before .before .before .before .left-parts .ensures) (c .before .before .before .before .before .before .before .before .before .first-child .ensures .0) (c .before .before .before .before .before .before .before .before .second-child .ensures .0) (c .before .before .before .before .before .before .before .if1 .taken) (c .before .before .before .before .before .count-left .ensures) (c .before .before .before .count-left2 .ensures) (c .before .left-view .ensures) (c .note .ensures)
+count-left-two-returns t c = parts-both undoing (c .before .before .before .before .before .before .before .before .before .before .before .before .before .before .pre .1 .0) (c .before .before .before .before .before .before .before .before .before .before .before .before .before .before .pre .1 .1) (c .before .before .before .before .before .before .before .before .before .before .before .mode-of .ensures) (c .before .before .before .before .before .before .before .before .before .before .left-parts .ensures) (c .before .before .before .before .before .before .before .before .before .first-child .ensures .0) (c .before .before .before .before .before .before .before .before .second-child .ensures .0) (c .before .before .before .before .before .before .before .if1 .taken) (c .before .before .before .before .before .count-left .ensures) (c .before .before .before .count-left2 .ensures) (c .before .left-view .ensures) (c .note .ensures)
 
 count-left-two-count-left-requires-3 : (t : ℕ) → count-left-two-lts.Need-count-left-requires-3 (count-left-two-calls t) (count-left-two-at t) count-left-two.Post
 count-left-two-count-left-requires-3 t c κs = (omega (arith, c .before .before .before .before .before .before .before .before .before .pre .0, c .before .before .before .before .first-child .ensures .1), lower-spot (c .before .before .before .before .before .before .before .before .before .pre .1 .0) (c .before .before .before .before .first-child .ensures .1))
@@ -308,7 +310,7 @@ count-left-two-note-requires-2 : (t : ℕ) → count-left-two-lts.Need-note-requ
 count-left-two-note-requires-2 t c κs = omega (arith, (c .before .before .before .before .before .before .before .before .before .before .before .pre .1 .0) .node .inside, (c .before .before .before .before .before .before .before .before .before .before .before .pre .1 .0) .node .sound .few)
 
 count-left-two-returns-2 : (t : ℕ) → count-left-two-lts.Need-returns-2 (count-left-two-calls t) (count-left-two-at t) count-left-two.Post
-count-left-two-returns-2 t c = left-first (c .before .before .before .before .before .before .before .before .before .before .before .before .pre .1 .0) (c .before .before .before .before .before .before .before .before .before .before .before .before .pre .1 .1) (c .before .before .before .before .before .before .before .before .before .mode-of .ensures) (c .before .before .before .before .before .before .before .before .left-parts .ensures) (c .before .before .before .before .before .before .before .first-child .ensures .0) (c .before .before .before .before .before .before .second-child .ensures .0) (c .before .before .before .before .if2 .taken) (c .before .before .count-left3 .ensures) (c .note2 .ensures)
+count-left-two-returns-2 t c = parts-first undoing (c .before .before .before .before .before .before .before .before .before .before .before .before .pre .1 .0) (c .before .before .before .before .before .before .before .before .before .before .before .before .pre .1 .1) (c .before .before .before .before .before .before .before .before .before .mode-of .ensures) (c .before .before .before .before .before .before .before .before .left-parts .ensures) (c .before .before .before .before .before .before .before .first-child .ensures .0) (c .before .before .before .before .before .before .second-child .ensures .0) (c .before .before .before .before .if2 .taken) (c .before .before .count-left3 .ensures) (c .note2 .ensures)
 
 count-left-two-count-left-requires-4 : (t : ℕ) → count-left-two-lts.Need-count-left-requires-4 (count-left-two-calls t) (count-left-two-at t) count-left-two.Post
 count-left-two-count-left-requires-4 t c κs = (omega (arith, c .before .before .before .before .before .before .before .before .before .pre .0, c .before .before .before .second-child .ensures .1), lower-spot (c .before .before .before .before .before .before .before .before .before .pre .1 .0) (c .before .before .before .second-child .ensures .1))
@@ -317,7 +319,7 @@ count-left-two-note-requires-3 : (t : ℕ) → count-left-two-lts.Need-note-requ
 count-left-two-note-requires-3 t c κs = omega (arith, (c .before .before .before .before .before .before .before .before .before .before .before .pre .1 .0) .node .inside, (c .before .before .before .before .before .before .before .before .before .before .before .pre .1 .0) .node .sound .few)
 
 count-left-two-returns-3 : (t : ℕ) → count-left-two-lts.Need-returns-3 (count-left-two-calls t) (count-left-two-at t) count-left-two.Post
-count-left-two-returns-3 t c = left-second (c .before .before .before .before .before .before .before .before .before .before .before .before .pre .1 .0) (c .before .before .before .before .before .before .before .before .before .before .before .before .pre .1 .1) (c .before .before .before .before .before .before .before .before .before .mode-of .ensures) (c .before .before .before .before .before .before .before .before .left-parts .ensures) (c .before .before .before .before .before .before .before .first-child .ensures .0) (c .before .before .before .before .before .before .second-child .ensures .0) (c .before .before .before .before .before .if1 .left) (c .before .before .before .before .if2 .left) (c .before .before .count-left4 .ensures) (c .note3 .ensures)
+count-left-two-returns-3 t c = parts-second undoing (c .before .before .before .before .before .before .before .before .before .before .before .before .pre .1 .0) (c .before .before .before .before .before .before .before .before .before .before .before .before .pre .1 .1) (c .before .before .before .before .before .before .before .before .before .mode-of .ensures) (c .before .before .before .before .before .before .before .before .left-parts .ensures) (c .before .before .before .before .before .before .before .first-child .ensures .0) (c .before .before .before .before .before .before .second-child .ensures .0) (c .before .before .before .before .before .if1 .left) (c .before .before .before .before .if2 .left) (c .before .before .count-left4 .ensures) (c .note3 .ensures)
 
 count-pair-first-child-requires : (t : ℕ) → count-pair-lts.Need-first-child-requires (count-pair-calls t) (count-pair-at t) count-pair.Post
 count-pair-first-child-requires t c κs = ((c .before .before .before .pre .1 .0) .node, record { low = omega (arith, (c .before .before .before .pre .1 .1)); high = omega (arith, (c .before .before .before .pre .1 .1)) })
@@ -407,7 +409,7 @@ count-run-two-note-word-requires : (t : ℕ) → count-run-two-lts.Need-note-wor
 count-run-two-note-word-requires t c κs = omega (arith, (c .before .before .before .before .before .before .before .before .before .before .before .before .before .pre .1 .0) .node .inside, (c .before .before .before .before .before .before .before .before .before .before .before .before .before .pre .1 .0) .node .sound .few)
 
 count-run-two-returns : (t : ℕ) → count-run-two-lts.Need-returns (count-run-two-calls t) (count-run-two-at t) count-run-two.Post
-count-run-two-returns t c = run-both (c .before .before .before .before .before .before .before .before .before .before .before .before .before .before .pre .1 .0) (c .before .before .before .before .before .before .before .before .before .before .before .before .before .before .pre .1 .1) (c .before .before .before .before .before .before .before .before .before .before .before .mode-of .ensures) (c .before .before .before .before .before .before .before .before .before .before .live-parts .ensures) (c .before .before .before .before .before .before .before .before .before .first-child .ensures .0) (c .before .before .before .before .before .before .before .before .second-child .ensures .0) (c .before .before .before .before .before .before .before .if1 .taken) (c .before .before .before .before .before .count-run .ensures) (c .before .before .before .count-run2 .ensures) (c .before .two-word .ensures) (c .note-word .ensures)
+count-run-two-returns t c = parts-both running (c .before .before .before .before .before .before .before .before .before .before .before .before .before .before .pre .1 .0) (c .before .before .before .before .before .before .before .before .before .before .before .before .before .before .pre .1 .1) (c .before .before .before .before .before .before .before .before .before .before .before .mode-of .ensures) (c .before .before .before .before .before .before .before .before .before .before .live-parts .ensures) (c .before .before .before .before .before .before .before .before .before .first-child .ensures .0) (c .before .before .before .before .before .before .before .before .second-child .ensures .0) (c .before .before .before .before .before .before .before .if1 .taken) (c .before .before .before .before .before .count-run .ensures) (c .before .before .before .count-run2 .ensures) (c .before .two-word .ensures) (c .note-word .ensures)
 
 count-run-two-count-run-requires-3 : (t : ℕ) → count-run-two-lts.Need-count-run-requires-3 (count-run-two-calls t) (count-run-two-at t) count-run-two.Post
 count-run-two-count-run-requires-3 t c κs = (omega (arith, c .before .before .before .before .before .before .before .before .before .pre .0, c .before .before .before .before .first-child .ensures .1), lower-spot (c .before .before .before .before .before .before .before .before .before .pre .1 .0) (c .before .before .before .before .first-child .ensures .1))
@@ -416,7 +418,7 @@ count-run-two-note-word-requires-2 : (t : ℕ) → count-run-two-lts.Need-note-w
 count-run-two-note-word-requires-2 t c κs = omega (arith, (c .before .before .before .before .before .before .before .before .before .before .before .pre .1 .0) .node .inside, (c .before .before .before .before .before .before .before .before .before .before .before .pre .1 .0) .node .sound .few)
 
 count-run-two-returns-2 : (t : ℕ) → count-run-two-lts.Need-returns-2 (count-run-two-calls t) (count-run-two-at t) count-run-two.Post
-count-run-two-returns-2 t c = run-first (c .before .before .before .before .before .before .before .before .before .before .before .before .pre .1 .0) (c .before .before .before .before .before .before .before .before .before .before .before .before .pre .1 .1) (c .before .before .before .before .before .before .before .before .before .mode-of .ensures) (c .before .before .before .before .before .before .before .before .live-parts .ensures) (c .before .before .before .before .before .before .before .first-child .ensures .0) (c .before .before .before .before .before .before .second-child .ensures .0) (c .before .before .before .before .if2 .taken) (c .before .before .count-run3 .ensures) (c .note-word2 .ensures)
+count-run-two-returns-2 t c = parts-first running (c .before .before .before .before .before .before .before .before .before .before .before .before .pre .1 .0) (c .before .before .before .before .before .before .before .before .before .before .before .before .pre .1 .1) (c .before .before .before .before .before .before .before .before .before .mode-of .ensures) (c .before .before .before .before .before .before .before .before .live-parts .ensures) (c .before .before .before .before .before .before .before .first-child .ensures .0) (c .before .before .before .before .before .before .second-child .ensures .0) (c .before .before .before .before .if2 .taken) (c .before .before .count-run3 .ensures) (c .note-word2 .ensures)
 
 count-run-two-count-run-requires-4 : (t : ℕ) → count-run-two-lts.Need-count-run-requires-4 (count-run-two-calls t) (count-run-two-at t) count-run-two.Post
 count-run-two-count-run-requires-4 t c κs = (omega (arith, c .before .before .before .before .before .before .before .before .before .pre .0, c .before .before .before .second-child .ensures .1), lower-spot (c .before .before .before .before .before .before .before .before .before .pre .1 .0) (c .before .before .before .second-child .ensures .1))
@@ -425,7 +427,7 @@ count-run-two-note-word-requires-3 : (t : ℕ) → count-run-two-lts.Need-note-w
 count-run-two-note-word-requires-3 t c κs = omega (arith, (c .before .before .before .before .before .before .before .before .before .before .before .pre .1 .0) .node .inside, (c .before .before .before .before .before .before .before .before .before .before .before .pre .1 .0) .node .sound .few)
 
 count-run-two-returns-3 : (t : ℕ) → count-run-two-lts.Need-returns-3 (count-run-two-calls t) (count-run-two-at t) count-run-two.Post
-count-run-two-returns-3 t c = run-second (c .before .before .before .before .before .before .before .before .before .before .before .before .pre .1 .0) (c .before .before .before .before .before .before .before .before .before .before .before .before .pre .1 .1) (c .before .before .before .before .before .before .before .before .before .mode-of .ensures) (c .before .before .before .before .before .before .before .before .live-parts .ensures) (c .before .before .before .before .before .before .before .first-child .ensures .0) (c .before .before .before .before .before .before .second-child .ensures .0) (c .before .before .before .before .before .if1 .left) (c .before .before .before .before .if2 .left) (c .before .before .count-run4 .ensures) (c .note-word3 .ensures)
+count-run-two-returns-3 t c = parts-second running (c .before .before .before .before .before .before .before .before .before .before .before .before .pre .1 .0) (c .before .before .before .before .before .before .before .before .before .before .before .before .pre .1 .1) (c .before .before .before .before .before .before .before .before .before .mode-of .ensures) (c .before .before .before .before .before .before .before .before .live-parts .ensures) (c .before .before .before .before .before .before .before .first-child .ensures .0) (c .before .before .before .before .before .before .second-child .ensures .0) (c .before .before .before .before .before .if1 .left) (c .before .before .before .before .if2 .left) (c .before .before .count-run4 .ensures) (c .note-word3 .ensures)
 
 count-sequence-first-child-requires : (t : ℕ) → count-sequence-lts.Need-first-child-requires (count-sequence-calls t) (count-sequence-at t) count-sequence.Post
 count-sequence-first-child-requires t c κs = ((c .before .before .pre .1 .0) .node, record { low = omega (arith, (c .before .before .pre .1 .1)); high = omega (arith, (c .before .before .pre .1 .1)) })
@@ -521,7 +523,7 @@ count-two-note-requires : (t : ℕ) → count-two-lts.Need-note-requires (count-
 count-two-note-requires t c κs = omega (arith, (c .before .before .before .before .before .before .before .before .before .before .before .before .before .pre .1 .0) .node .inside, (c .before .before .before .before .before .before .before .before .before .before .before .before .before .pre .1 .0) .node .sound .few)
 
 count-two-returns : (t : ℕ) → count-two-lts.Need-returns (count-two-calls t) (count-two-at t) count-two.Post
-count-two-returns t c = std-both (c .before .before .before .before .before .before .before .before .before .before .before .before .before .before .pre .1 .0) (c .before .before .before .before .before .before .before .before .before .before .before .before .before .before .pre .1 .1) (c .before .before .before .before .before .before .before .before .before .before .before .mode-of .ensures) (c .before .before .before .before .before .before .before .before .before .before .live-parts .ensures) (c .before .before .before .before .before .before .before .before .before .first-child .ensures .0) (c .before .before .before .before .before .before .before .before .second-child .ensures .0) (c .before .before .before .before .before .before .before .if1 .taken) (c .before .before .before .before .before .count-std .ensures) (c .before .before .before .count-std2 .ensures) (c .before .pair-view .ensures) (c .note .ensures)
+count-two-returns t c = parts-both plain (c .before .before .before .before .before .before .before .before .before .before .before .before .before .before .pre .1 .0) (c .before .before .before .before .before .before .before .before .before .before .before .before .before .before .pre .1 .1) (c .before .before .before .before .before .before .before .before .before .before .before .mode-of .ensures) (c .before .before .before .before .before .before .before .before .before .before .live-parts .ensures) (c .before .before .before .before .before .before .before .before .before .first-child .ensures .0) (c .before .before .before .before .before .before .before .before .second-child .ensures .0) (c .before .before .before .before .before .before .before .if1 .taken) (c .before .before .before .before .before .count-std .ensures) (c .before .before .before .count-std2 .ensures) (c .before .pair-view .ensures) (c .note .ensures)
 
 count-two-count-std-requires-3 : (t : ℕ) → count-two-lts.Need-count-std-requires-3 (count-two-calls t) (count-two-at t) count-two.Post
 count-two-count-std-requires-3 t c κs = (omega (arith, c .before .before .before .before .before .before .before .before .before .pre .0, c .before .before .before .before .first-child .ensures .1), lower-spot (c .before .before .before .before .before .before .before .before .before .pre .1 .0) (c .before .before .before .before .first-child .ensures .1))
@@ -530,7 +532,7 @@ count-two-note-requires-2 : (t : ℕ) → count-two-lts.Need-note-requires-2 (co
 count-two-note-requires-2 t c κs = omega (arith, (c .before .before .before .before .before .before .before .before .before .before .before .pre .1 .0) .node .inside, (c .before .before .before .before .before .before .before .before .before .before .before .pre .1 .0) .node .sound .few)
 
 count-two-returns-2 : (t : ℕ) → count-two-lts.Need-returns-2 (count-two-calls t) (count-two-at t) count-two.Post
-count-two-returns-2 t c = std-first (c .before .before .before .before .before .before .before .before .before .before .before .before .pre .1 .0) (c .before .before .before .before .before .before .before .before .before .before .before .before .pre .1 .1) (c .before .before .before .before .before .before .before .before .before .mode-of .ensures) (c .before .before .before .before .before .before .before .before .live-parts .ensures) (c .before .before .before .before .before .before .before .first-child .ensures .0) (c .before .before .before .before .before .before .second-child .ensures .0) (c .before .before .before .before .if2 .taken) (c .before .before .count-std3 .ensures) (c .note2 .ensures)
+count-two-returns-2 t c = parts-first plain (c .before .before .before .before .before .before .before .before .before .before .before .before .pre .1 .0) (c .before .before .before .before .before .before .before .before .before .before .before .before .pre .1 .1) (c .before .before .before .before .before .before .before .before .before .mode-of .ensures) (c .before .before .before .before .before .before .before .before .live-parts .ensures) (c .before .before .before .before .before .before .before .first-child .ensures .0) (c .before .before .before .before .before .before .second-child .ensures .0) (c .before .before .before .before .if2 .taken) (c .before .before .count-std3 .ensures) (c .note2 .ensures)
 
 count-two-count-std-requires-4 : (t : ℕ) → count-two-lts.Need-count-std-requires-4 (count-two-calls t) (count-two-at t) count-two.Post
 count-two-count-std-requires-4 t c κs = (omega (arith, c .before .before .before .before .before .before .before .before .before .pre .0, c .before .before .before .second-child .ensures .1), lower-spot (c .before .before .before .before .before .before .before .before .before .pre .1 .0) (c .before .before .before .second-child .ensures .1))
@@ -539,7 +541,7 @@ count-two-note-requires-3 : (t : ℕ) → count-two-lts.Need-note-requires-3 (co
 count-two-note-requires-3 t c κs = omega (arith, (c .before .before .before .before .before .before .before .before .before .before .before .pre .1 .0) .node .inside, (c .before .before .before .before .before .before .before .before .before .before .before .pre .1 .0) .node .sound .few)
 
 count-two-returns-3 : (t : ℕ) → count-two-lts.Need-returns-3 (count-two-calls t) (count-two-at t) count-two.Post
-count-two-returns-3 t c = std-second (c .before .before .before .before .before .before .before .before .before .before .before .before .pre .1 .0) (c .before .before .before .before .before .before .before .before .before .before .before .before .pre .1 .1) (c .before .before .before .before .before .before .before .before .before .mode-of .ensures) (c .before .before .before .before .before .before .before .before .live-parts .ensures) (c .before .before .before .before .before .before .before .first-child .ensures .0) (c .before .before .before .before .before .before .second-child .ensures .0) (c .before .before .before .before .before .if1 .left) (c .before .before .before .before .if2 .left) (c .before .before .count-std4 .ensures) (c .note3 .ensures)
+count-two-returns-3 t c = parts-second plain (c .before .before .before .before .before .before .before .before .before .before .before .before .pre .1 .0) (c .before .before .before .before .before .before .before .before .before .before .before .before .pre .1 .1) (c .before .before .before .before .before .before .before .before .before .mode-of .ensures) (c .before .before .before .before .before .before .before .before .live-parts .ensures) (c .before .before .before .before .before .before .before .first-child .ensures .0) (c .before .before .before .before .before .before .second-child .ensures .0) (c .before .before .before .before .before .if1 .left) (c .before .before .before .before .if2 .left) (c .before .before .count-std4 .ensures) (c .note3 .ensures)
 
 pub +count-block+count-left+count-left-two+count-pair+count-run+count-run-two+count-sequence+count-std+count-two-spec :
     {M : Type 1} → statement M

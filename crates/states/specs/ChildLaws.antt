@@ -1,0 +1,107 @@
+-- What holds at a node and a child of it, whatever the kinds: the child's part and counts are those from before a number of the node
+-- was set, what is under the other child stays, and only what is under the node changes. Assumes nothing.
+use Prim.Native.Nat.{ℕ, _*_, _<_, _≤_}
+use mathlib.Core.Path.{_≡_, refl, sym, _∙_, ap, subst}
+use mathlib.Core.List.{List}
+use mathlib.Core.Logic.{_≢_}
+use native.Mathlib.Omega.{arith}
+use lib.ListN.{length, getD, set, length-set}
+use lib.Seq.{getD-set-same, getD-set-other}
+use Rattle.flow.specs.Kinds.{one-of, two-of, shape}
+use Rattle.flow.specs.Nodes.{Kid, Under, self, under-kid, Tree, not-under}
+use Rattle.states.specs.State.{part, modes, counts}
+use Rattle.states.specs.Stored.{stored}
+use Rattle.states.specs.StateLaws.{part-frame, stored-frame}
+use Rattle.states.specs.KindFacts.{one-kid, two-kid, apart}
+use Rattle.states.specs.Contracts.{Spot, Both, Kept, Sets}
+
+-- A number is set ------------------------------------------------------------------------------------------------------------
+
+pub set-sets : {t t′ : List ℕ} {i n : ℕ} → i < length t → t′ ≡ set t i n → Sets t i n t′
+set-sets {t} {t′} {i} {n} h e =
+    let w : Sets t i n (set t i n) = record { here = getD-set-same t i n 0 h; others = λ j d. getD-set-other t i j n 0 d; long = length-set t i n } in
+    subst (λ z. Sets t i n z) (sym e) w
+
+-- it is what it was
+pub sets-none : {t : List ℕ} {i n : ℕ} → getD t i 0 ≡ n → Sets t i n t
+sets-none e = record { here = e; others = λ j d. refl; long = refl }
+
+-- A lower node, and a child -------------------------------------------------------------------------------------------------
+
+-- a lower node has its place too
+pub lower-spot : {ns t : List ℕ} {i j : ℕ} → Spot ns t i → j < i → Spot ns t j
+lower-spot s h = record { node = record { sound = s .node .sound; inside = omega (arith, s .node .inside) }; room = omega (arith, s .room) }
+
+-- and the node has it in every stretch of that length
+pub same-room : {ns t t′ : List ℕ} {i : ℕ} → Spot ns t i → length t′ ≡ length t → Spot ns t′ i
+same-room s e = record { node = s .node; room = omega (arith, s .room) }
+
+module _ (ns : List ℕ) where
+  pub kept-set : {t t′ : List ℕ} {i n : ℕ} → Sets t i n t′ → Kept ns i (modes t) (modes t′)
+  kept-set w j u = w .others j (λ e. u (self e))
+
+  -- what is not under c stays
+  pub kept-part : (c : ℕ) {s : ℕ} {d d′ : ℕ → ℕ} → ((j : ℕ) → Under (shape ns) c j → Under (shape ns) s j → ⊥) → Kept ns c d d′ → part ns d′ s ≡ part ns d s
+  kept-part c {s} {d} {d′} free h = part-frame ns d′ d s (λ j u. h j (λ v. free j v u))
+
+  module _ (tree : Tree (shape ns)) {i : ℕ} where
+    module _ {c : ℕ} (kid : Kid (shape ns) i c) where
+      pub not-own : {j : ℕ} → Under (shape ns) c j → j ≢ i
+      not-own u e = not-under (shape ns) tree kid (subst (Under (shape ns) c) e u)
+
+      pub kid-lower : c < i
+      kid-lower = tree .lower i c kid
+
+      pub kept-kid : {d d′ : ℕ → ℕ} → Kept ns c d d′ → Kept ns i d d′
+      kept-kid h j u = h j (λ v. u (under-kid (shape ns) kid v))
+
+      pub own-kept : {d d′ : ℕ → ℕ} → Kept ns c d d′ → d′ i ≡ d i
+      own-kept h = h i (not-under (shape ns) tree kid)
+
+      -- the node's mode is set
+      module _ {t : List ℕ} {m : ℕ} {t′ : List ℕ} (w : Sets t i m t′) where
+        pub same-part : part ns (modes t′) c ≡ part ns (modes t) c
+        same-part = part-frame ns (modes t′) (modes t) c (λ j u. w .others j (not-own u))
+
+        pub same-stored : (a : ℕ) (b : List ℕ) → stored ns a (modes t′) (counts b) c ≡ stored ns a (modes t) (counts b) c
+        same-stored a b = stored-frame ns a (modes t′) (modes t) (counts b) (counts b) c (λ j u. w .others j (not-own u)) (λ j u. refl)
+
+        pub spot-down : Spot ns t i → Spot ns t′ c
+        spot-down s = lower-spot (same-room s (w .long)) kid-lower
+
+        -- and then something under the child changes
+        module _ (t″ : List ℕ) (k : Kept ns c (modes t′) (modes t″)) where
+          pub mode-after : modes t″ i ≡ m
+          mode-after = own-kept k ∙ w .here
+
+          pub kept-up : Kept ns i (modes t) (modes t″)
+          kept-up j n = kept-kid k j n ∙ kept-set w j n
+
+          -- the other child stays
+          module _ {s : ℕ} (other : Kid (shape ns) i s) (free : (j : ℕ) → Under (shape ns) c j → Under (shape ns) s j → ⊥) where
+            stays : (j : ℕ) → Under (shape ns) s j → modes t″ j ≡ modes t j
+            stays j u = k j (λ v. free j v u) ∙ w .others j (λ e. not-under (shape ns) tree other (subst (Under (shape ns) s) e u))
+
+            pub beside-part : part ns (modes t″) s ≡ part ns (modes t) s
+            beside-part = part-frame ns (modes t″) (modes t) s stays
+
+            pub beside-stored : (a : ℕ) (b : List ℕ) → stored ns a (modes t″) (counts b) s ≡ stored ns a (modes t) (counts b) s
+            beside-stored a b = stored-frame ns a (modes t″) (modes t) (counts b) (counts b) s stays (λ j u. refl)
+
+    -- the children of a node that has both
+    module _ (b : Both ns i) where
+      pub kid-one : Kid (shape ns) i (one-of ns i)
+      kid-one = one-kid ns tree i (b .low) (b .high)
+
+      pub kid-two : Kid (shape ns) i (two-of ns i)
+      kid-two = two-kid ns tree i (b .low) (b .high) (b .two)
+
+      pub one-off-two : (j : ℕ) → Under (shape ns) (one-of ns i) j → Under (shape ns) (two-of ns i) j → ⊥
+      one-off-two j u v = apart ns tree i (b .low) (b .high) (b .two) u v
+
+      pub two-off-one : (j : ℕ) → Under (shape ns) (two-of ns i) j → Under (shape ns) (one-of ns i) j → ⊥
+      two-off-one j u v = one-off-two j v u
+
+-- a node of a known number of a kind has both
+pub both-of : {ns : List ℕ} {i k : ℕ} → k ≡ getD ns (3 * i) 0 → 5 ≤ k → k ≤ 13 → k ≢ 9 → Both ns i
+both-of e l h n = record { low = omega arith; high = omega arith; two = λ z. n (e ∙ z) }
