@@ -77,7 +77,7 @@ fn wide(x: u8) -> u16
 }
 
 // Two bytes as a number, the low one first.
-fn word(low: u8, high: u8) -> u16
+pub fn word(low: u8, high: u8) -> u16
     ensures { λ r. ⌜ r ≡ low + 256 * high ⌝ }
 {
     low as u16 + 256 * (high as u16)
@@ -352,7 +352,7 @@ fn lay_out(file: &[u8]) -> Reading
 }
 
 // The `count` numbers of the file at an offset, to the front of a table; the rest of it stays.
-fn fill(file: &[u8], at: usize, count: usize, table: &mut [u16])
+pub fn fill(file: &[u8], at: usize, count: usize, table: &mut [u16])
     requires { ⌜ (at + 2 * count ≤ length (now file)) × (count ≤ length (now table)) ⌝ }
     ensures { λ r. ⌜ now (table .exit) ≡ over (values (now (file .entry)) count at) (now (table .entry)) ⌝ }
 {

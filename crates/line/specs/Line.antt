@@ -39,9 +39,14 @@ spelled Rejected = 114 ∷ 101 ∷ 106 ∷ 101 ∷ 99 ∷ 116 ∷ 101 ∷ 100 �
 spelled Undecided = 117 ∷ 110 ∷ 100 ∷ 101 ∷ 99 ∷ 105 ∷ 100 ∷ 101 ∷ 100 ∷ []
 spelled Refused = 114 ∷ 101 ∷ 102 ∷ 117 ∷ 115 ∷ 101 ∷ 100 ∷ []
 
--- "the verdict word, refusal number or 0, place, count", and a line feed
+-- "the verdict word, refusal number or 0, place, count"
+unfoldable pub text-of : Line → List ℕ
+text-of l = spelled (l .word) ++ (spaced (l .number) ++ (spaced (l .place) ++ spaced (l .count)))
+
+-- and a line feed
 unfoldable pub line-of : Line → List ℕ
-line-of l = spelled (l .word) ++ (spaced (l .number) ++ (spaced (l .place) ++ (spaced (l .count) ++ (10 ∷ []))))
+unfolding text-of
+line-of l = text-of l ++ (10 ∷ [])
 
 ---- Writing ----
 

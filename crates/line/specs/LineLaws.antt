@@ -13,8 +13,7 @@ use lib.Seq.{length-take-le, take-length, take-at, drop-at, drop-drop, drop-appe
 use Rattle.io.specs.Digits.{digits, Fewest, glyph}
 use Rattle.line.specs.declared.Word.{Word}
 use Rattle.line.specs.declared.Word.the-variants.{Accepted, Rejected, Undecided, Refused}
-use Rattle.line.specs.declared.Line.{Line}
-use Rattle.line.specs.Line.{places, size, decimal, spaced, spelled, line-of, Put}
+use Rattle.line.specs.Line.{places, size, decimal, spaced, spelled, Put}
 
 ---- Digits ----
 

@@ -4,7 +4,7 @@ ghost use mathlib.Core.Path.{_≡_};
 ghost use Prim.Native.Nat.{_+_, _≤_};
 ghost use lib.ListN.{length};
 ghost use Rattle.io.specs.Counts.{Counts};
-ghost use Rattle.line.specs.Line.{spelled, spaced, line-of, Put};
+ghost use Rattle.line.specs.Line.{spelled, spaced, text-of, line-of, Put};
 
 // The verdict words.
 pub enum Word {
@@ -23,7 +23,7 @@ pub struct Line {
 }
 
 // Puts the text at an offset of the room, leaves the rest, and answers the offset behind it.
-fn put(text: &[u8], out: &mut [u8], at: usize) -> usize
+pub fn put(text: &[u8], out: &mut [u8], at: usize) -> usize
     requires { ⌜ at + length (now text) ≤ length (now out) ⌝ }
     ensures { λ r. ⌜ Put (now (text .entry)) (now (out .entry)) at (now (out .exit)) r ⌝ }
 {
@@ -55,16 +55,24 @@ fn put_number(n: u32, out: &mut [u8], at: usize) -> usize
     put(&digits[..k], out, from)
 }
 
-// Writes the line at the start of the room, leaves the rest, and answers its length.
-pub fn write_line(line: Line, out: &mut [u8; 64]) -> usize
-    ensures { λ r. ⌜ Put (line-of line) (now (out .entry)) 0 (now (out .exit)) r ⌝ }
-    ensures { λ r. ⌜ Counts r (now (out .exit)) ⌝ }
-    ensures { λ r. ⌜ (1 ≤ r) × (r ≤ 43) ⌝ }
+// Writes the line without its end at the start of the room, leaves the rest, and answers its length.
+pub fn write_text(line: Line, out: &mut [u8]) -> usize
+    requires { ⌜ 42 ≤ length (now out) ⌝ }
+    ensures { λ r. ⌜ Put (text-of line) (now (out .entry)) 0 (now (out .exit)) r ⌝ }
+    ensures { λ r. ⌜ r ≤ 42 ⌝ }
 {
     let word = line.word;
     let a = put_word(word, out);
     let b = put_number(line.number as u32, out, a);
     let c = put_number(line.place, out, b);
-    let d = put_number(line.count, out, c);
-    put(b"\n", out, d)
+    put_number(line.count, out, c)
+}
+
+// Writes the line at the start of the room, leaves the rest, and answers its length.
+pub fn write_line(line: Line, out: &mut [u8; 64]) -> usize
+    ensures { λ r. ⌜ Put (line-of line) (now (out .entry)) 0 (now (out .exit)) r ⌝ }
+    ensures { λ r. ⌜ Counts r (now (out .exit)) ⌝ }
+{
+    let end = write_text(line, out);
+    put(b"\n", out, end)
 }

@@ -1,6 +1,6 @@
--- When the work bytes of a case count as clean. They are all 165 before the call. 01, "What comes back": "After any verdict but a
--- refusal the first 2 × nodes × (records + 1) are zero and the others unchanged. After a refusal all are unchanged."
--- Definitions only: PromisedLaws has the list that is promised. Assumes nothing.
+-- When the work bytes of a case count as clean, and the line of the case. They are all 165 before the call. 01, "What comes back":
+-- "After any verdict but a refusal the first 2 × nodes × (records + 1) are zero and the others unchanged. After a refusal all are
+-- unchanged." Definitions only: PromisedLaws has that the judge leaves them clean. Assumes nothing.
 use Prim.Native.Nat.{ℕ, _+_, _-_, _*_, _/_}
 use mathlib.Core.Bool.{Bool, true, false, _&&_}
 use mathlib.Core.List.{List, [], _∷_, _++_}
@@ -8,6 +8,8 @@ use lib.Dec.{eqb, leb}
 use lib.ListN.{length, take, drop, replicate}
 use Rattle.judge.specs.declared.Answer.{Answer}
 use Rattle.judge.specs.declared.Answer.the-variants.{Accepted, Rejected, Undecided, Refused}
+use Rattle.line.specs.Line.{text-of}
+use Rattle.batch.specs.Program.{line-for}
 
 -- so many node numbers and records want so many work bytes
 unfoldable pub work-wanted : ℕ → ℕ → ℕ
@@ -33,3 +35,15 @@ all-are b (x ∷ xs) = eqb x b && all-are b xs
 unfoldable pub is-clean : ℕ → List ℕ → Bool
 unfolding all-are
 is-clean zeros work = leb zeros (length work) && (all-are 0 (take zeros work) && all-are 165 (drop zeros work))
+
+---- The line ----
+
+-- " clean" or " dirty" and a line feed, in ASCII
+unfoldable pub noted : Bool → List ℕ
+noted true = 32 ∷ 99 ∷ 108 ∷ 101 ∷ 97 ∷ 110 ∷ 10 ∷ []
+noted false = 32 ∷ 100 ∷ 105 ∷ 114 ∷ 116 ∷ 121 ∷ 10 ∷ []
+
+-- what the answer tells, and whether the work bytes are clean
+unfoldable pub case-line : Answer → Bool → List ℕ
+unfolding noted
+case-line a clean = text-of (line-for a) ++ noted clean

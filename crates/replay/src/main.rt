@@ -5,13 +5,13 @@
 use judge::Answer;
 use libc::STDIN_FILENO;
 use libc::STDOUT_FILENO;
-use line::Line;
+ghost use mathlib.Core.Bool.{true};
 ghost use mathlib.Core.Path.{_≡_};
 ghost use Prim.Native.Nat.{_+_, _*_, _≤_};
 ghost use lib.ListN.{length, replicate};
-ghost use Rattle.flowfile.specs.Reading.{over};
-ghost use Rattle.flowfile.specs.Items.{values};
-ghost use Rattle.replay.specs.Promised.{work-wanted, zeros-after, all-are, is-clean};
+ghost use Rattle.judge.specs.Judged.{judged};
+ghost use Rattle.line.specs.Line.{Put};
+ghost use Rattle.replay.specs.Promised.{work-wanted, zeros-after, all-are, is-clean, noted, case-line};
 
 // What a case begins with.
 const FILE_CASE: u8 = 70;
@@ -26,30 +26,11 @@ const MOST_WORK: usize = 40000;
 // What the work bytes hold before the call.
 const FILLER: u8 = 165;
 
-// Two bytes as a number, the low one first.
-fn two(low: u8, high: u8) -> u16
-    ensures { λ r. ⌜ r ≡ low + 256 * high ⌝ }
-{
-    low as u16 + 256 * (high as u16)
-}
-
+// Four bytes as a number, the low one first.
 fn four(a: u8, b: u8, c: u8, d: u8) -> u32
     ensures { λ r. ⌜ r ≡ a + 256 * b + 65536 * (c + 256 * d) ⌝ }
 {
-    two(a, b) as u32 + 65536 * (two(c, d) as u32)
-}
-
-// So many numbers from an offset on, put first in the table.
-fn numbers(bytes: &[u8], at: usize, table: &mut [u16], count: usize)
-    requires { ⌜ at + 2 * count ≤ length (now bytes) ⌝ }
-    requires { ⌜ count ≤ length (now table) ⌝ }
-    ensures { λ _. ⌜ now (table .exit) ≡ over (values (now (bytes .entry)) count at) (now (table .entry)) ⌝ }
-{
-    let mut i = 0;
-    while i < count {
-        table[i] = two(bytes[at + 2 * i], bytes[at + 2 * i + 1]);
-        i += 1;
-    }
+    flowfile::word(a, b) as u32 + 65536 * (flowfile::word(c, d) as u32)
 }
 
 fn fill(work: &mut [u8])
@@ -118,16 +99,45 @@ fn fetch(room: &mut [u8], n: usize) -> bool
     io::read_full(STDIN_FILENO, &mut room[..n]) == n
 }
 
-// Puts the word over the line feed at an offset, and answers where the line ends.
-fn note(clean: bool, out: &mut [u8], at: usize) -> usize
+// The word for the work bytes, behind what the answer tells.
+fn put_note(clean: bool, out: &mut [u8], at: usize) -> usize
     requires { ⌜ at + 7 ≤ length (now out) ⌝ }
-    ensures { λ r. ⌜ r ≡ at + 7 ⌝ }
+    ensures { λ r. ⌜ Put (noted clean) (now (out .entry)) at (now (out .exit)) r ⌝ }
 {
     if clean {
-        at + bytes::copy(b" clean\n", &mut out[at..])
+        line::put(b" clean\n", out, at)
     } else {
-        at + bytes::copy(b" dirty\n", &mut out[at..])
+        line::put(b" dirty\n", out, at)
     }
+}
+
+fn write_case(answer: Answer, clean: bool, out: &mut [u8]) -> usize
+    requires { ⌜ 49 ≤ length (now out) ⌝ }
+    ensures { λ r. ⌜ Put (case-line answer clean) (now (out .entry)) 0 (now (out .exit)) r ⌝ }
+    ensures { λ r. ⌜ r ≤ 49 ⌝ }
+{
+    let end = line::write_text(batch::line_for(answer), out);
+    put_note(clean, out, end)
+}
+
+// The judge on work bytes that are all filler, and the line of its case: the work bytes are always found clean.
+fn judge_lists(
+    nodes: &[u16],
+    records: &[u16],
+    work: &mut [u8],
+    allowance: u32,
+    out: &mut [u8],
+) -> usize
+    requires { ⌜ length (now nodes) ≤ 400 ⌝ }
+    requires { ⌜ length (now records) ≤ 400 ⌝ }
+    requires { ⌜ 49 ≤ length (now out) ⌝ }
+    ensures { λ r. ⌜ Put (case-line (judged (now (nodes .entry)) (now (records .entry)) (length (now (work .entry))) allowance) true) (now (out .entry)) 0 (now (out .exit)) r ⌝ }
+    ensures { λ r. ⌜ r ≤ 49 ⌝ }
+{
+    fill(work);
+    let answer = judge::judge(nodes, records, work, allowance);
+    let zeros = zeros_after(answer, nodes.len(), records.len());
+    write_case(answer, clean(zeros, work), out)
 }
 
 fn bad_case() -> bool {
@@ -135,19 +145,12 @@ fn bad_case() -> bool {
     false
 }
 
-fn say(line: Line, clean: bool) -> bool {
-    let mut out = [0u8; 64];
-    let end = line::write_line(line, &mut out);
-    let all = note(clean, &mut out, end - 1);
-    io::write_all(STDOUT_FILENO, &out[..all])
-}
-
 fn file_case() -> bool {
     let mut head = [0u8; 2];
     if !fetch(&mut head, 2) {
         return bad_case();
     }
-    let n = two(head[0], head[1]) as usize;
+    let n = flowfile::word(head[0], head[1]) as usize;
     let mut file = [0u8; 65535];
     if !fetch(&mut file, n) {
         return bad_case();
@@ -155,16 +158,6 @@ fn file_case() -> bool {
     let mut out = [0u8; 64];
     let end = batch::write_file_line(&file[..n], &mut out);
     io::write_all(STDOUT_FILENO, &out[..end])
-}
-
-fn judge_lists(nodes: &[u16], records: &[u16], work: &mut [u8], allowance: u32) -> bool
-    requires { ⌜ length (now nodes) ≤ 400 ⌝ }
-    requires { ⌜ length (now records) ≤ 400 ⌝ }
-{
-    fill(work);
-    let answer = judge::judge(nodes, records, work, allowance);
-    let zeros = zeros_after(answer, nodes.len(), records.len());
-    say(batch::line_for(answer), clean(zeros, work))
 }
 
 fn judge_numbers(allowance: u32, room: usize, nodes: usize, records: usize) -> bool
@@ -178,10 +171,18 @@ fn judge_numbers(allowance: u32, room: usize, nodes: usize, records: usize) -> b
     }
     let mut ns = [0u16; 400];
     let mut rs = [0u16; 400];
-    numbers(&bytes, 0, &mut ns, nodes);
-    numbers(&bytes, 2 * nodes, &mut rs, records);
+    flowfile::fill(&bytes, 0, nodes, &mut ns);
+    flowfile::fill(&bytes, 2 * nodes, records, &mut rs);
     let mut work = [0u8; 40000];
-    judge_lists(&ns[..nodes], &rs[..records], &mut work[..room], allowance)
+    let mut out = [0u8; 64];
+    let end = judge_lists(
+        &ns[..nodes],
+        &rs[..records],
+        &mut work[..room],
+        allowance,
+        &mut out,
+    );
+    io::write_all(STDOUT_FILENO, &out[..end])
 }
 
 fn judge_case() -> bool {
@@ -191,8 +192,8 @@ fn judge_case() -> bool {
     }
     let allowance = four(head[0], head[1], head[2], head[3]);
     let room = four(head[4], head[5], head[6], head[7]) as usize;
-    let nodes = two(head[8], head[9]) as usize;
-    let records = two(head[10], head[11]) as usize;
+    let nodes = flowfile::word(head[8], head[9]) as usize;
+    let records = flowfile::word(head[10], head[11]) as usize;
     if MOST_WORK < room {
         return bad_case();
     }

@@ -18,7 +18,7 @@ returns : tie.Need-returns
 unfolding printed
 returns c =
     let e = c .before .before .line-for .ensures ∙ ap line-for (c .before .before .before .judge-file .ensures) in
-    (rw e at (c .write-line .ensures .0), c .write-line .ensures .1 .0)
+    (rw e at (c .write-line .ensures .0), c .write-line .ensures .1)
 
 pub write-file-line-spec : {M : Type 1} → statement M
 write-file-line-spec =

@@ -17,14 +17,14 @@ bad-case-requires c κs = search needs
 returns : tie.Need-returns
 returns c = search needs
 
-array-read-two : tie.Need-array-read-two
-array-read-two c = search needs
+array-read-word : tie.Need-array-read-word
+array-read-word c = search needs
 
-array-read-two-2 : tie.Need-array-read-two-2
-array-read-two-2 c = search needs
+array-read-word-2 : tie.Need-array-read-word-2
+array-read-word-2 c = search needs
 
-two-requires : tie.Need-two-requires
-two-requires c κs = search needs
+word-requires : tie.Need-word-requires
+word-requires c κs = search needs
 
 cast-n : tie.Need-cast-n
 cast-n c = search needs
@@ -70,9 +70,9 @@ file-case-spec =
     fetch-requires
     bad-case-requires
     returns
-    array-read-two
-    array-read-two-2
-    two-requires
+    array-read-word
+    array-read-word-2
+    word-requires
     cast-n
     slice-aggregate-fetch-2
     fetch-requires-2

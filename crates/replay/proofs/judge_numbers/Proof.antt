@@ -25,26 +25,26 @@ bad-case-requires c κs = search needs
 returns : tie.Need-returns
 returns c = search needs
 
-slice-aggregate-numbers : tie.Need-slice-aggregate-numbers
-slice-aggregate-numbers c = search needs
+slice-aggregate-fill : tie.Need-slice-aggregate-fill
+slice-aggregate-fill c = search needs
 
-slice-aggregate-numbers-2 : tie.Need-slice-aggregate-numbers-2
-slice-aggregate-numbers-2 c = search needs
+slice-aggregate-fill-2 : tie.Need-slice-aggregate-fill-2
+slice-aggregate-fill-2 c = search needs
 
-numbers-requires : tie.Need-numbers-requires
-numbers-requires c κs = search needs
+fill-requires : tie.Need-fill-requires
+fill-requires c κs = search needs
 
-slice-aggregate-numbers-3 : tie.Need-slice-aggregate-numbers-3
-slice-aggregate-numbers-3 c = search needs
+slice-aggregate-fill-3 : tie.Need-slice-aggregate-fill-3
+slice-aggregate-fill-3 c = search needs
 
-mul-numbers : tie.Need-mul-numbers
-mul-numbers c = search needs
+mul-fill : tie.Need-mul-fill
+mul-fill c = search needs
 
-slice-aggregate-numbers-4 : tie.Need-slice-aggregate-numbers-4
-slice-aggregate-numbers-4 c = search needs
+slice-aggregate-fill-4 : tie.Need-slice-aggregate-fill-4
+slice-aggregate-fill-4 c = search needs
 
-numbers-requires-2 : tie.Need-numbers-requires-2
-numbers-requires-2 c κs = search needs
+fill-requires-2 : tie.Need-fill-requires-2
+fill-requires-2 c κs = search needs
 
 array-share-prefix-ns : tie.Need-array-share-prefix-ns
 array-share-prefix-ns c = search needs
@@ -64,11 +64,23 @@ array-borrow-prefix-work c = search needs
 slice-aggregate-judge-lists-3 : tie.Need-slice-aggregate-judge-lists-3
 slice-aggregate-judge-lists-3 c = sym (length-take-le _ _ (search needs))
 
+slice-aggregate-judge-lists-4 : tie.Need-slice-aggregate-judge-lists-4
+slice-aggregate-judge-lists-4 c = search needs
+
 judge-lists-requires : tie.Need-judge-lists-requires
 judge-lists-requires c κs = (
-  omega (arith, length-take (c .before .before .before .before .before .before .before .before .before .before .before .before .before .before .before .args .nodes) (c .before .before .before .before .before .before .before .before .numbers .last .1 .1 .0)),
-  omega (arith, length-take (c .before .before .before .before .before .before .before .before .before .before .before .before .before .before .before .args .records) (c .before .before .before .before .numbers2 .last .1 .1 .0)),
+  omega (arith, length-take (c .before .before .before .before .before .before .before .before .before .before .before .before .before .before .before .before .args .nodes) (c .before .before .before .before .before .before .before .before .before .fill .last .1 .1 .1 .0)),
+  (omega (arith, length-take (c .before .before .before .before .before .before .before .before .before .before .before .before .before .before .before .before .args .records) (c .before .before .before .before .before .fill2 .last .1 .1 .1 .0)), omega arith),
 )
+
+array-share-prefix-out : tie.Need-array-share-prefix-out
+array-share-prefix-out c = search needs
+
+slice-aggregate-write-all : tie.Need-slice-aggregate-write-all
+slice-aggregate-write-all c = sym (length-take-le _ _ (search needs))
+
+write-all-requires : tie.Need-write-all-requires
+write-all-requires c κs = search needs
 
 returns-2 : tie.Need-returns-2
 returns-2 c = search needs
@@ -83,18 +95,22 @@ judge-numbers-spec =
     fetch-requires
     bad-case-requires
     returns
-    slice-aggregate-numbers
-    slice-aggregate-numbers-2
-    numbers-requires
-    slice-aggregate-numbers-3
-    mul-numbers
-    slice-aggregate-numbers-4
-    numbers-requires-2
+    slice-aggregate-fill
+    slice-aggregate-fill-2
+    fill-requires
+    slice-aggregate-fill-3
+    mul-fill
+    slice-aggregate-fill-4
+    fill-requires-2
     array-share-prefix-ns
     slice-aggregate-judge-lists
     array-share-prefix-rs
     slice-aggregate-judge-lists-2
     array-borrow-prefix-work
     slice-aggregate-judge-lists-3
+    slice-aggregate-judge-lists-4
     judge-lists-requires
+    array-share-prefix-out
+    slice-aggregate-write-all
+    write-all-requires
     returns-2)

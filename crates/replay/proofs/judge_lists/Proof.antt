@@ -1,0 +1,45 @@
+-- `replay::judge_lists` meets its contract: the work bytes are filled, judged on and found clean, always. Assumes nothing.
+use lib.ListN.{length}
+use borrow.Author.Needs.{needs}
+use Rattle.replay.specs.PromisedLaws.{case-clean}
+use Rattle.replay.proofs.judge_lists.Statement.{statement}
+use Rattle.replay.proofs.judge_lists.Tie as tie
+
+fill-requires : tie.Need-fill-requires
+fill-requires c κs = search needs
+
+judge-requires : tie.Need-judge-requires
+judge-requires c κs = search needs
+
+zeros-after-requires : tie.Need-zeros-after-requires
+zeros-after-requires c κs = search needs
+
+clean-requires : tie.Need-clean-requires
+clean-requires c κs = search needs
+
+write-case-requires : tie.Need-write-case-requires
+write-case-requires c κs = search needs
+
+same-length : tie.Need-same-length
+same-length c = search needs
+
+same-length-2 : tie.Need-same-length-2
+same-length-2 c = search needs
+
+returns : tie.Need-returns
+returns c =
+    let w = c .before .before .write-case .ensures in
+    (case-clean (length (c .before .before .before .before .before .before .before .before .before .before .before .before .before .before .before .before .before .before .before .args .work .now)) (c .before .before .before .before .before .before .before .before .before .before .before .before .before .fill .ensures) (c .before .before .before .before .before .before .before .before .before .judge .ensures) (c .before .before .before .before .before .before .zeros-after .ensures) (c .before .before .before .before .clean .ensures) (w .0), w .1)
+
+pub judge-lists-spec : {M : Type 1} → statement M
+judge-lists-spec =
+    tie.close
+    (tie.spec
+    fill-requires
+    judge-requires
+    zeros-after-requires
+    clean-requires
+    write-case-requires
+    same-length
+    same-length-2
+    returns)
