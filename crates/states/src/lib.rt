@@ -32,11 +32,11 @@ pub fn second_child(ns: &[u16], i: usize) -> usize
     wide(flow::second_at(ns, i))
 }
 
-pub fn mode_of(t: &[u8], i: usize) -> u8
-    requires { ⌜ i < length (now t) ⌝ }
-    ensures { λ r. ⌜ r ≡ modes (now (t .entry)) i ⌝ }
+pub fn mode_of(state: &[u8], i: usize) -> u8
+    requires { ⌜ i < length (now state) ⌝ }
+    ensures { λ r. ⌜ r ≡ modes (now (state .entry)) i ⌝ }
 {
-    t[i]
+    state[i]
 }
 
 pub fn set_mode(t: &mut [u8], i: usize, mode: u8)

@@ -1,0 +1,17 @@
+-- `flowfile::word` meets its contract. Assumes nothing.
+use native.Mathlib.Omega.{arith}
+use borrow.Author.Needs.{needs}
+use Rattle.flowfile.proofs.word.Statement.{statement}
+use Rattle.flowfile.proofs.word.Tie as tie
+
+mul-result : tie.Need-mul-result
+mul-result c = search needs
+
+add-result : tie.Need-add-result
+add-result c = search needs
+
+returns : tie.Need-returns
+returns c = omega arith
+
+pub word-spec : {M : Type 1} → statement M
+word-spec = tie.close (tie.spec mul-result add-result returns)
