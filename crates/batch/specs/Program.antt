@@ -5,7 +5,7 @@ use Prim.Native.Nat.{ℕ}
 use mathlib.Core.List.{List}
 use Rattle.flowfile.specs.declared.Reading.{Reading}
 use Rattle.flowfile.specs.declared.Reading.the-variants as read
-use Rattle.flowfile.specs.Reading.{Outcome, reading}
+use Rattle.flowfile.specs.Reading.{reading}
 use Rattle.judge.specs.declared.Answer.{Answer}
 use Rattle.judge.specs.declared.Answer.the-variants.{Refused}
 use Rattle.judge.specs.Judged.{told, judged}

@@ -1,8 +1,8 @@
 -- From what the reader leaves in the two tables to the program's answer. Assumes nothing.
-use Prim.Native.Nat.{ℕ, _+_, _*_, _/_, _≤_, _<_}
+use Prim.Native.Nat.{ℕ, _*_, _/_, _≤_}
 use native.Mathlib.Omega.{arith}
-use mathlib.Core.List.{List, _++_}
-use mathlib.Core.Path.{_≡_, refl, sym, ap, ap₂, _∙_}
+use mathlib.Core.List.{List}
+use mathlib.Core.Path.{_≡_, sym, ap, ap₂, _∙_}
 use lib.ListN.{length, take, drop, length-append}
 use lib.Seq.{take-at}
 use Rattle.flow.specs.declared.Refusal.{Refusal}
@@ -11,10 +11,9 @@ use Rattle.flowfile.specs.declared.Reading.{Reading}
 use Rattle.flowfile.specs.declared.Reading.the-variants as read
 use Rattle.flowfile.specs.Format.{File}
 use Rattle.flowfile.specs.Limits.{Bytes}
-use Rattle.flowfile.specs.Reading.{Outcome, reading, counts, over}
+use Rattle.flowfile.specs.Reading.{Outcome, reading, over}
 use Rattle.flowfile.specs.Items.{ReadAs}
-use Rattle.flowfile.specs.Reader.{found, Readable, readable-read, read-readable}
-use Rattle.judge.specs.declared.Answer.{Answer}
+use Rattle.flowfile.specs.Reader.{readable-read, read-readable}
 use Rattle.judge.specs.declared.Answer.the-variants.{Refused}
 use Rattle.judge.specs.Judged.{judged}
 use Rattle.batch.specs.Program.{answered, answer-of-file}

@@ -5,7 +5,6 @@ use judge::Answer;
 use line::Line;
 use line::Word;
 ghost use mathlib.Core.Path.{_≡_};
-ghost use Prim.Native.Nat.{_≤_};
 ghost use Rattle.io.specs.Counts.{Counts};
 ghost use Rattle.judge.specs.Judged.{judged};
 ghost use Rattle.line.specs.Line.{Put};

@@ -1,12 +1,10 @@
 -- The printed traces are those of the form that draws a second trace only where the run enters it: `entered-traces` for standard
 -- parts, `centered-traces` for compensable ones. From left to right a second trace that is not used is any at all: every term has
 -- one. Assumes nothing.
-use Prim.Native.Nat.{ℕ}
-use mathlib.Core.Path.{_≡_, refl, sym, _∙_, ap, subst}
-use mathlib.Core.Logic.{_≢_, _⊎_, inl, inr, _↔_}
-use mathlib.Core.List.{List, [], _∷_}
-use Rattle.calculus.specs.Term.{Closing, done, withdrawn, failed, Std, Cmp, skip, throw, yield, ev, seq, alt, par, hnd, blk, pair, cseq, calt, cpar, held}
-use Rattle.calculus.specs.Traces.{Trace, tr, CTrace, ct, onto, thenT, catchT, pairT, cthenT, heldT, ParT, CParT, both, BlkT, undone, closed, Tr, CTr}
+use mathlib.Core.Path.{refl, sym, _∙_, ap, subst}
+use mathlib.Core.Logic.{inl, inr, _↔_}
+use Rattle.calculus.specs.Term.{done, withdrawn, failed, Std, Cmp, skip, throw, yield, ev, seq, alt, par, hnd, blk, pair, cseq, calt, cpar, held}
+use Rattle.calculus.specs.Traces.{Trace, tr, CTrace, ct, thenT, catchT, pairT, cthenT, heldT, CParT, both, BlkT, undone, closed, Tr, CTr}
 use Rattle.calculus.specs.RunsAreTraces.{some, csome, then-stop, catch-stop, pair-stop, cthen-stop}
 use Rattle.calculus.specs.Members.{other}
 use Rattle.calculus.specs.Entered.{Enters, CEnters, skips, throws, yields, withdraws, takes, seq-stays, seq-enters, hnd-stays, hnd-enters, alt-left, alt-right, par-both, blk-stays, blk-enters, pair-leaves, pair-stays, cseq-stays, cseq-enters, held-both, calt-left, calt-right, cpar-both}

@@ -6,7 +6,7 @@ use mathlib.Core.Path.{_≡_, refl, sym, _∙_, ap, ap₂}
 use mathlib.Core.Bool.{Bool, true, false, not, _&&_, _||_}
 use mathlib.Core.List.{List, [], _∷_, _++_, map}
 use Rattle.calculus.specs.Term.{Closing, done, withdrawn, failed, Leaf, Std, Cmp, skip, throw, yield, ev, seq, alt, par, hnd, blk, pair, cseq, calt, cpar, held, join}
-use Rattle.calculus.specs.Successors.{Beh, CBeh, eqc, closings, only, some-of, each, any-at-all, seqB, altB, parB, hndB, blkB, pairB, cseqB, caltB, cparB, heldB, evB, skipB, throwB, yieldB, beh, cbeh, ends, steps, comps, csteps}
+use Rattle.calculus.specs.Successors.{Beh, eqc, closings, only, some-of, each, any-at-all, seqB, altB, parB, hndB, blkB, pairB, cseqB, caltB, cparB, heldB, evB, skipB, beh, cbeh, ends, steps, comps, csteps}
 
 mutual
   unfolding beh

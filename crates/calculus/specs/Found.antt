@@ -1,20 +1,20 @@
 -- What the search finds: an end exactly if the records are a complete run (`found-complete`), and, if there is none, the longest
 -- beginning of the records that some run follows (`place-follows`, `place-longest`). Where the closings are as the root needs,
 -- "no records left" and "nothing left" coincide on every path (`fits-over`, `fits-moves`). Assumes nothing.
-use Prim.Native.Nat.{ℕ, zero, suc, _+_, max, _≤_}
+use Prim.Native.Nat.{ℕ, suc, max, _≤_}
 use mathlib.Core.Path.{_≡_, refl, sym, _∙_, ap, subst}
-use mathlib.Core.Logic.{_≢_, _⊎_, inl, inr, _↔_}
-use mathlib.Core.Bool.{Bool, true, false, not}
-use mathlib.Core.List.{List, [], _∷_, _++_, map, List·Memᴰ, List·Memᴰ·head, List·Memᴰ·tail, List·Memᴰ·not-nil, List·Memᴰ·cases-cons, List·Memᴰ·eq-of-singleton, Memᴰ·map, Memᴰ·of-map}
+use mathlib.Core.Logic.{_⊎_, inl, inr, _↔_}
+use mathlib.Core.Bool.{Bool, true, false}
+use mathlib.Core.List.{List, [], _∷_, List·Memᴰ, List·Memᴰ·head, List·Memᴰ·tail, List·Memᴰ·not-nil, List·Memᴰ·eq-of-singleton, Memᴰ·map, Memᴰ·of-map}
 use native.Mathlib.Omega.{arith}
 use native.Mathlib.Decide.{decLe}
 use lib.Dec.{T}
-use Rattle.calculus.specs.Term.{Closing, done, withdrawn, failed, Std, Cmp}
-use Rattle.calculus.specs.Rules.{End, CEnd, Step, CStep, Run, closes, goes, Fwd, ccloses, cgoes, CRun}
-use Rattle.calculus.specs.Successors.{only, ends, steps, comps, csteps}
+use Rattle.calculus.specs.Term.{Closing, Std, Cmp}
+use Rattle.calculus.specs.Rules.{Run, closes, goes, Fwd, ccloses, cgoes}
+use Rattle.calculus.specs.Successors.{ends, steps, comps, csteps}
 use Rattle.calculus.specs.Records.{Record, event, close, State, over, std, cmp, standard, compensable, Complete, Moves, by-step, by-end, by-cstep, by-cend, Follows, stays, Closed, last, ClosedTwice, turn, Fits}
 use Rattle.calculus.specs.Records
-use Rattle.calculus.specs.Search.{next, Seen, is-over, or-else, tries, visit}
+use Rattle.calculus.specs.Search.{next, Seen, or-else, tries, visit}
 use Rattle.calculus.specs.Members.{in-only, of-only}
 use Rattle.calculus.specs.Exact.{ends-exact, steps-exact, csteps-exact, comps-exact}
 

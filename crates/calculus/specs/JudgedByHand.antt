@@ -3,7 +3,7 @@
 use Prim.Native.Nat.{ℕ}
 use mathlib.Core.Path.{_≡_, refl}
 use mathlib.Core.List.{List, [], _∷_, map}
-use Rattle.calculus.specs.Term.{Closing, done, withdrawn, failed, leaf, Std, Cmp, skip, throw, yield, ev, seq, alt, par, hnd, blk, pair, cseq, calt, cpar, held, skipp, throww, yieldd}
+use Rattle.calculus.specs.Term.{done, withdrawn, failed, leaf, Std, skip, throw, yield, ev, seq, alt, par, blk, pair, cseq, cpar, throww, yieldd}
 use Rattle.calculus.specs.Records.{Record, event, close, State, std, cmp}
 use Rattle.calculus.specs.Search.{Verdict, accepted, rejected, undecided, judge}
 

@@ -2,11 +2,10 @@
 -- then each law (`same-traces`, `csame-traces`). Assumes nothing.
 use Prim.Native.Nat.{ℕ}
 use mathlib.Core.Path.{_≡_, refl, sym, _∙_, ap, subst}
-use mathlib.Core.Logic.{_≢_, _⊎_, inl, inr, _↔_}
-use lib.Dec.{T}
+use mathlib.Core.Logic.{_⊎_, inl, inr, _↔_}
 use mathlib.Core.List.{List, [], _∷_, _++_, append-assoc, append-nil}
-use Rattle.calculus.specs.Term.{Closing, done, withdrawn, failed, Leaf, Std, Cmp, skip, throw, yield, ev, seq, alt, par, hnd, blk, pair, cseq, calt, cpar, held, join, skipp, throww, yieldd}
-use Rattle.calculus.specs.Traces.{Trace, tr, CTrace, ct, onto, thenT, catchT, pairT, cthenT, heldT, Mix, mix-none, mix-left, mix-right, ParT, mixed, CParT, both, BlkT, undone, closed, lift, by, Tr, CTr}
+use Rattle.calculus.specs.Term.{Closing, done, withdrawn, failed, Leaf, Std, Cmp, skip, ev, seq, blk, pair, cseq, join, skipp, throww, yieldd}
+use Rattle.calculus.specs.Traces.{Trace, tr, CTrace, ct, onto, thenT, catchT, pairT, cthenT, Mix, mix-none, mix-left, mix-right, ParT, mixed, CParT, both, BlkT, undone, closed, lift, by, Tr, CTr}
 use Rattle.calculus.specs.RunsAreTraces.{some, csome}
 use Rattle.calculus.specs.Laws.{Same, CSame, same, flip, then, in-seq, in-alt, in-par, in-hnd, in-blk, seq-assoc, seq-unit-left, seq-unit-right, seq-throw, alt-comm, alt-assoc, alt-self, par-comm, par-assoc, par-unit, seq-alt-left, seq-alt-right, par-alt-left, par-alt-right, hnd-assoc, hnd-throw-right, hnd-throw-left, hnd-skip, blk-skipp, blk-throww, blk-yieldd, blk-calt, blk-throws, csame, cflip, cthen, in-pair, in-cseq, in-calt, in-cpar, cseq-assoc, cseq-unit-left, cseq-unit-right, cseq-throw, calt-comm, calt-assoc, calt-self, cpar-comm, cpar-assoc, cpar-unit, cseq-alt-left, cseq-alt-right, cpar-alt-left, cpar-alt-right}
 

@@ -2,19 +2,18 @@
 -- that they are accepted together, and rejected at the same place (`redrawn-alike`), unless either is undecided. Also that a
 -- complete run is a trace and the other way about, over record lists (`complete-traces`), and that every flow has a complete
 -- run that closes done or failed (`has-firm-run`). Assumes nothing.
-use Prim.Native.Nat.{ℕ, zero, suc, _≤_}
-use mathlib.Core.Path.{_≡_, refl, sym, _∙_, ap, subst}
-use mathlib.Core.Logic.{_⊎_, inl, inr, _↔_}
+use Prim.Native.Nat.{ℕ, suc}
+use mathlib.Core.Path.{_≡_, refl}
+use mathlib.Core.Logic.{_↔_}
 use mathlib.Core.Bool.{Bool, true, false}
-use mathlib.Core.List.{List, [], _∷_, _++_, map}
+use mathlib.Core.List.{List, [], _∷_}
 use native.Mathlib.Omega.{arith}
 use lib.Dec.{T, leb}
 use lib.ListN.{length}
 use Rattle.calculus.specs.Term.{Closing, done, withdrawn, failed, Std, Cmp}
-use Rattle.calculus.specs.Rules.{Run, CRun}
-use Rattle.calculus.specs.Records.{Record, event, close, State, over, std, cmp, standard, compensable, Complete, InTraces, Follows, stays}
+use Rattle.calculus.specs.Records.{Record, close, State, over, std, cmp, standard, compensable, Complete, InTraces, Follows, stays}
 use Rattle.calculus.specs.Records
-use Rattle.calculus.specs.Search.{Seen, visit, Verdict, accepted, rejected, undecided, settle, judge}
+use Rattle.calculus.specs.Search.{visit, Verdict, accepted, rejected, undecided, settle, judge}
 use Rattle.calculus.specs.Found.{Ends, at-end, ends-complete, complete-ends, found-complete, place-follows, place-longest}
 use Rattle.calculus.specs.Found
 use Rattle.calculus.specs.Traces.{Trace, tr, CTrace, ct, Tr, CTr}

@@ -1,12 +1,12 @@
 -- The runs of a term are its traces.
 use Prim.Native.Nat.{ℕ}
 use mathlib.Core.Path.{_≡_, refl, sym, _∙_, ap, subst}
-use mathlib.Core.Logic.{_≢_, _⊎_, inl, inr, _↔_}
+use mathlib.Core.Logic.{_≢_, inl, inr, _↔_}
 use mathlib.Core.List.{List, [], _∷_, _++_}
 use Rattle.calculus.specs.Term.{Closing, done, withdrawn, failed, Std, Cmp, skip, throw, yield, ev, seq, alt, par, hnd, blk, pair, cseq, calt, cpar, held, join}
 use Rattle.calculus.specs.Rules.{End, CEnd, Step, CStep, Run, closes, goes, Fwd, ccloses, cgoes, CRun, skip-ends, throw-ends, yield-ends, yield-yields, seq-on, seq-stops, hnd-on, hnd-stops, alt-left, alt-right, par-joins, blk-ends, blk-undoes, pair-ends, pair-stops, cseq-stops, cseq-on, held-ends, calt-left, calt-right, cpar-joins, ev-step, seq-first, seq-second, hnd-first, hnd-second, alt-first, alt-second, par-first, par-second, blk-first, blk-second, pair-step, cseq-first, cseq-second, held-step, calt-first, calt-second, cpar-first, cpar-second}
 use Rattle.calculus.specs.Members.{other}
-use Rattle.calculus.specs.Traces.{Trace, tr, CTrace, ct, onto, thenT, catchT, pairT, cthenT, heldT, Mix, mix-none, mix-left, mix-right, ParT, mixed, CParT, both, BlkT, undone, closed, lift, Tr, CTr}
+use Rattle.calculus.specs.Traces.{Trace, tr, CTrace, ct, onto, thenT, catchT, pairT, cthenT, heldT, Mix, mix-none, mix-left, mix-right, ParT, mixed, CParT, both, BlkT, undone, closed, Tr, CTr}
 
 abbrev pub Runs : Std → Trace → Type 0
 Runs p (tr s w) = Run p s w

@@ -6,7 +6,6 @@ use mathlib.Core.Bool.{Bool, true, false}
 use mathlib.Core.List.{List, [], _∷_, map}
 use lib.Dec.{leb}
 use lib.ListN.{length}
-use Rattle.calculus.specs.Term.{Closing, Std, Cmp}
 use Rattle.calculus.specs.Records.{Record, event, close, State, over, std, cmp}
 use Rattle.calculus.specs.Successors.{only, ends, steps, comps, csteps}
 

@@ -112,17 +112,10 @@ module _ (ns : List ℕ) (fine : FineTable ns) where
       by true e = ltb-true i (count ns) e
       by false e = absurd (subst (λ (k : Kind). T (not (eqb (kids k) 0))) (beyond i (ltb-false i (count ns) e)) t)
 
-  pub kid-within : (i c : ℕ) → Kid (shape ns) i c → i < count ns
-  kid-within i c (kid1 t e) = parent-within i t
-  kid-within i c (kid2 t e) = parent-within i (two-means-one i t)
-
   -- 6
   pub kid-lower : (i c : ℕ) → Kid (shape ns) i c → c < i
   kid-lower i c (kid1 t e) = omega (arith, e, lower-one ns i (fine .node i (parent-within i t) .lower) t)
   kid-lower i c (kid2 t e) = omega (arith, e, lower-two ns i (fine .node i (parent-within i (two-means-one i t)) .lower) t)
-
-  pub kid-below : (i c : ℕ) → Kid (shape ns) i c → c < count ns
-  kid-below i c k = omega (arith, kid-lower i c k, kid-within i c k)
 
   -- 7
   pub sort-one : (i : ℕ) → T (has-one ns i) → is-standard (kind ns (one-of ns i)) ≡ of-standard (kind ns i)
@@ -170,14 +163,6 @@ module _ (ns : List ℕ) (fine : FineTable ns) where
       let f = fine .node i (parent-within i t) .free in
       let g = neither-two (has-one ns i && taken ns i (one-of ns i)) ((has-two ns i && taken ns i (two-of ns i)) || (has-two ns i && eqb (one-of ns i) (two-of ns i))) f in
       eqb-false (one-of ns i) (two-of ns i) (then-false (has-two ns i) (eqb (one-of ns i) (two-of ns i)) (neither-two (has-two ns i && taken ns i (two-of ns i)) _ g) u)
-
-  -- the three numbers of a node stand in the table
-  pub fine-node-long : (i : ℕ) → i < count ns → 3 * i + 2 < length ns
-  fine-node-long i h = omega (arith, fine .whole)
-
-  -- there is a root
-  pub fine-long : 3 ≤ length ns
-  fine-long = omega (arith, fine .whole, fine .some)
 
   -- a table that is not refused is a tree
   pub fine-tree : Tree (shape ns)

@@ -1,6 +1,6 @@
 -- "Given exactly when": a check answers a refusal exactly if its ground holds and no ground listed before it does, and nothing is
 -- refused exactly if no ground holds. Said once, of any list of grounds. Assumes nothing.
-use Prim.Native.Nat.{ℕ, zero, suc, _+_, _-_, _*_, _%_, _<_, _≤_}
+use Prim.Native.Nat.{ℕ, zero, suc, _+_, _-_, _<_, _≤_}
 use mathlib.Core.Path.{_≡_, refl, sym, ap, _∙_, subst}
 use mathlib.Core.Bool.{Bool, true, false, not}
 use mathlib.Core.List.{List, [], _∷_, _++_}
@@ -10,12 +10,12 @@ use native.Mathlib.Nat.{eq-or-lt-of-le}
 use mathlib.Core.Logic.{⊎-elim, _↔_}
 use lib.Dec.{T}
 use lib.ListN.{length}
-use borrow.Author.Tests.{eq-eqb, ne-eqb, le-ltb}
+use borrow.Author.Tests.{ne-eqb, le-ltb}
 use Rattle.flow.specs.Tests.{is-true, is-false}
 use Rattle.flow.specs.declared.Refusal.{Refusal}
 use Rattle.flow.specs.declared.Check.{Check}
 use Rattle.flow.specs.declared.Check.the-variants.{Fine, Refused}
-use Rattle.flow.specs.Refusals.{Ground, ground, refused, or-else-check, answer, first, each, count, most-nodes, most-records, no-nodes, not-whole, too-many-nodes, no-records, too-many-records, table-check, table-grounds, nodes-check, records-check, records-grounds, values-check, values-grounds, closings-check, closing-grounds}
+use Rattle.flow.specs.Refusals.{Ground, ground, refused, or-else-check, answer, first, each, most-records, no-records, too-many-records, table-check, table-grounds, records-check, records-grounds, values-check, values-grounds, closings-check, closing-grounds}
 
 -- r is the first refusal: its ground holds, and none before it does
 pub data First (r : Refusal) : List Ground → Type 0 where
@@ -157,25 +157,12 @@ module _ (number place : ℕ) (b : Bool) where
 
 ---- The checks in parts ----
 
-pub table-parts : (ns : List ℕ) → no-nodes ns ≡ false → not-whole ns ≡ false → too-many-nodes ns ≡ false → table-check ns ≡ nodes-check ns
-unfolding table-check table-grounds nodes-check
-table-parts ns a b c =
-    first-passed (ground 1 0 (no-nodes ns)) _ a
-    ∙ first-passed (ground 2 0 (not-whole ns)) _ b
-    ∙ first-passed (ground 3 0 (too-many-nodes ns)) _ c
-
 pub records-parts : (ns rs : List ℕ) → no-records rs ≡ false → too-many-records rs ≡ false → records-check ns rs ≡ or-else-check (values-check rs) (closings-check ns rs)
 unfolding records-check records-grounds values-check closings-check
 records-parts ns rs a b =
     first-passed (ground 10 0 (no-records rs)) _ a
     ∙ first-passed (ground 11 0 (too-many-records rs)) _ b
     ∙ first-append (values-grounds rs) (closing-grounds ns rs)
-
--- whole nodes, some and not too many: 1 to 3 do not hold
-pub whole-table : (ns : List ℕ) (n : ℕ) → length ns ≡ 3 * n → 1 ≤ n → n ≤ most-nodes → table-check ns ≡ nodes-check ns
-unfolding no-nodes not-whole too-many-nodes
-whole-table ns n e some few =
-    table-parts ns (ne-eqb (length ns) 0 (λ z. omega arith)) (ap not (eq-eqb (length ns % 3) 0 (omega arith))) (le-ltb most-nodes (count ns) (omega arith))
 
 -- some records, and not too many: 10 and 11 do not hold
 pub some-records : (ns rs : List ℕ) → 1 ≤ length rs → length rs ≤ most-records → records-check ns rs ≡ or-else-check (values-check rs) (closings-check ns rs)

@@ -1,21 +1,21 @@
 -- What is known of records that are not refused: how many they are, that each is an event or a closing, and that they have the
 -- closings that the table's flow takes. Assumes nothing.
-use Prim.Native.Nat.{ℕ, _<_, _≤_}
+use Prim.Native.Nat.{ℕ}
 use mathlib.Core.Path.{_≡_, refl, sym, ap, _∙_, subst}
 use mathlib.Core.Bool.{Bool, true, false, not, _||_, cond}
 use mathlib.Core.List.{List, [], _∷_}
 use native.Mathlib.Omega.{arith}
 use lib.Dec.{T, eqb}
-use lib.ListN.{length, getD}
-use borrow.Author.Tests.{not-false, eqb-false, ltb-false}
+use lib.ListN.{getD}
+use borrow.Author.Tests.{not-false}
 use Rattle.calculus.specs.Term.{Closing, done, withdrawn, failed}
 use Rattle.calculus.specs.Records.{Record, event, close, State, Closed, last, ClosedTwice, turn, Fits}
 use Rattle.flow.specs.declared.Check.the-variants.{Fine}
 use Rattle.flow.specs.Kinds.{kind, is-standard}
 use Rattle.flow.specs.Records.{done-number, withdrawn-number, failed-number, is-closing-number, record-of, records}
-use Rattle.flow.specs.Refusals.{root, closed, closings-wanted, wrong-closings, closing-grounds, closings-check, table-check, most-records, no-records, too-many-records, no-record, value-grounds, values-grounds, values-check, records-grounds, records-check}
+use Rattle.flow.specs.Refusals.{root, closed, closings-wanted, wrong-closings, closing-grounds, closings-check, table-check, no-record, value-grounds}
 use Rattle.flow.specs.Tests.{is-false}
-use Rattle.flow.specs.FirstRefusal.{None, fine-exactly, none-append, none-each}
+use Rattle.flow.specs.FirstRefusal.{None, fine-exactly}
 use Rattle.flow.specs.Closings.{event-closed, closing-closed}
 use Rattle.flow.specs.Draws.{flow-of}
 use Rattle.flow.specs.FineTable.{fine-table}
@@ -96,37 +96,10 @@ module _ (ns rs : List ℕ) where
           let p = flow-compensable ns (fine-table ns e) h in
           subst (λ (s : State). Fits s (records rs)) (sym (p .1)) (closed-twice rs (ap (λ (b : Bool). closed rs (cond b 1 2)) (sym h) ∙ c))
 
----- Records that are not refused ----
-
--- none of 10 to 13
-pub record FineRecords (ns rs : List ℕ) : Type 0 where
-  pub some : 1 ≤ length rs
-  pub few : length rs ≤ most-records
-  pub values : values-check rs ≡ Fine
-  pub closings : closings-check ns rs ≡ Fine
-
-module _ (ns rs : List ℕ) where
-  parts-fine : None (records-grounds ns rs) → FineRecords ns rs
-  unfolding records-grounds no-records too-many-records values-check closings-check
-  parts-fine (None.more a (None.more b n)) =
-      let m = none-append (values-grounds rs) (closing-grounds ns rs) n in
-      record {
-        some = omega (arith, eqb-false (length rs) 0 (is-false (no-records rs) a));
-        few = ltb-false most-records (length rs) (is-false (too-many-records rs) b);
-        values = fine-exactly (values-grounds rs) .1 (m .0);
-        closings = fine-exactly (closing-grounds ns rs) .1 (m .1);
-      }
-
-  pub fine-records : records-check ns rs ≡ Fine → FineRecords ns rs
-  unfolding records-check
-  fine-records e = parts-fine (fine-exactly (records-grounds ns rs) .0 e)
+---- Each record ----
 
 -- 12: each is an event or a closing
 module _ (rs : List ℕ) where
   pub value-fine : (i : ℕ) → None (value-grounds rs i) → no-record (getD rs i 0) ≡ false
   unfolding value-grounds
   value-fine i (None.more t n) = is-false (no-record (getD rs i 0)) t
-
-  pub values-known : values-check rs ≡ Fine → (i : ℕ) → i < length rs → no-record (getD rs i 0) ≡ false
-  unfolding values-check values-grounds
-  values-known e i h = value-fine i (none-each (value-grounds rs) 0 (length rs) i (fine-exactly (values-grounds rs) .0 e) (omega arith) (omega arith))

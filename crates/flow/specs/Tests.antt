@@ -1,6 +1,6 @@
 -- What a test that passed or failed tells of its parts. Assumes nothing.
 use mathlib.Core.Path.{_≡_, refl, sym, subst}
-use mathlib.Core.Bool.{Bool, true, false, not, xor, _&&_, _||_}
+use mathlib.Core.Bool.{Bool, true, false, not, xor, _&&_, _||_, false≢true}
 use lib.Dec.{T}
 
 pub is-true : (b : Bool) → T b → b ≡ true
@@ -13,6 +13,10 @@ is-false false t = refl
 
 pub not-both : {b : Bool} → b ≡ false → T b → ⊥
 not-both e t = subst T e t
+
+pub both-true : (a b : Bool) → (a && b) ≡ true → (a ≡ true) × (b ≡ true)
+both-true true b e = (refl, e)
+both-true false b e = absurd (false≢true e)
 
 pub neither-one : (a b : Bool) → (a || b) ≡ false → a ≡ false
 neither-one true b e = e

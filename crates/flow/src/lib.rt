@@ -3,8 +3,8 @@
 // reader wants by themselves are public too. The definitions that the contracts cite are in specs/. Nothing is written here
 // but marks of the function's own, and no lent slice is changed.
 ghost use mathlib.Core.Path.{_≡_};
-ghost use mathlib.Core.Bool.{Bool, true, false, cond, xor, _&&_};
-ghost use Prim.Native.Nat.{ℕ, _+_, _*_, _-_, _<_, _≤_};
+ghost use mathlib.Core.Bool.{true, false, cond, xor, _&&_};
+ghost use Prim.Native.Nat.{_+_, _*_, _-_, _<_, _≤_};
 ghost use lib.Dec.{T};
 ghost use lib.ListN.{length, getD, set};
 ghost use Rattle.flow.specs.Kinds.{kindOf, kind, one-of, two-of, is-standard};

@@ -35,6 +35,10 @@ got-value e = cc
 pub got-next : {A : Type 0} {a b : A} {m n : ℕ} → got a m ≡ got b n → m ≡ n
 got-next e = cc
 
+-- a plan that found something refused nothing
+pub got-not-bad : {A C : Type 0} {x : Ran A} {a : A} {n k p : ℕ} → x ≡ got a n → x ≡ bad k p → C
+got-not-bad e h = let z : _≡_ {A = ℕ} 0 1 = cc in absurd (omega arith)
+
 pub answered-bad : {A : Type 0} (f : A → ℕ) (x : Ran A) {n p : ℕ} {r : Refusal} → r ≡ refusal-of n p → x ≡ bad n p → Bad r ≡ answered f x
 unfolding answered
 answered-bad f x e h = ap Bad e ∙ ap (answered f) (sym h)
@@ -149,26 +153,23 @@ module _ (s : List ℕ) (at least : ℕ) {n : List ℕ} {next : ℕ} where
   pub name-there : run s at (name least) ≡ got n next → NameThere s at least n next
   name-there e = by-start (le-or-lt (at + 1) (length s))
     where
-      not-bad : {k p : ℕ} → run s at (name least) ≡ bad k p → NameThere s at least n next
-      not-bad h = let z : _≡_ {A = ℕ} 0 1 = cc in absurd (omega arith)
-
       by-end : at + 1 ≤ length s → least ≤ getD s at 0 → getD s at 0 ≤ 40 → (name-end s at ≤ length s) ⊎ (length s < name-end s at) → NameThere s at least n next
       by-end h l m (inl i) =
           let g = sym e ∙ name-got s at least h l m i in
           record { bytes = got-value g; ends = got-next g; inside = i; low = l; high = m }
-      by-end h l m (inr i) = not-bad (name-cut s at least h l m i)
+      by-end h l m (inr i) = got-not-bad e (name-cut s at least h l m i)
 
       by-high : at + 1 ≤ length s → least ≤ getD s at 0 → (getD s at 0 ≤ 40) ⊎ (40 < getD s at 0) → NameThere s at least n next
       by-high h l (inl m) = by-end h l m (le-or-lt (name-end s at) (length s))
-      by-high h l (inr m) = not-bad (name-high s at least h m)
+      by-high h l (inr m) = got-not-bad e (name-high s at least h m)
 
       by-low : at + 1 ≤ length s → (least ≤ getD s at 0) ⊎ (getD s at 0 < least) → NameThere s at least n next
       by-low h (inl l) = by-high h l (le-or-lt (getD s at 0) 40)
-      by-low h (inr l) = not-bad (name-low s at least h l)
+      by-low h (inr l) = got-not-bad e (name-low s at least h l)
 
       by-start : (at + 1 ≤ length s) ⊎ (length s < at + 1) → NameThere s at least n next
       by-start (inl h) = by-low h (le-or-lt least (getD s at 0))
-      by-start (inr h) = not-bad (name-short s at least h)
+      by-start (inr h) = got-not-bad e (name-short s at least h)
 
 ---- An entry ----
 
@@ -205,9 +206,6 @@ module _ (s : List ℕ) (at : ℕ) where
   pub entry-runs : {e : Entry} {next : ℕ} → run s at entry ≡ got e next → EntryRuns s at e next
   entry-runs {e} {next} h = by-step (run s at (name 1)) refl
     where
-      not-bad : {k p : ℕ} → run s at entry ≡ bad k p → EntryRuns s at e next
-      not-bad b = let z : _≡_ {A = ℕ} 0 1 = cc in absurd (omega arith)
-
       by-machine : {st : List ℕ} {mid : ℕ} → run s at (name 1) ≡ got st mid → (x : Ran (List ℕ)) → run s mid (name 0) ≡ x → EntryRuns s at e next
       by-machine {st} {mid} a (got m last) b =
           let g : got e next ≡ got (record { step = st; machine = m }) last = sym h ∙ entry-got a b in
@@ -217,11 +215,11 @@ module _ (s : List ℕ) (at : ℕ) where
             step-run = a ∙ ap (λ (e′ : Entry). got (e′ .step) mid) (sym q);
             machine-run = b ∙ ap₂ (λ (e′ : Entry) (n : ℕ). got (e′ .machine) n) (sym q) (sym (got-next g));
           }
-      by-machine a (bad k p) b = not-bad (entry-machine-bad a b)
+      by-machine a (bad k p) b = got-not-bad h (entry-machine-bad a b)
 
       by-step : (x : Ran (List ℕ)) → run s at (name 1) ≡ x → EntryRuns s at e next
       by-step (got st mid) a = by-machine a (run s mid (name 0)) refl
-      by-step (bad k p) a = not-bad (entry-step-bad a)
+      by-step (bad k p) a = got-not-bad h (entry-step-bad a)
 
   pub entry-there : {e : Entry} {next : ℕ} → run s at entry ≡ got e next → EntryThere s at e next
   entry-there {e} {next} h =

@@ -16,7 +16,7 @@ use Rattle.flowfile.specs.Plan.{Plan, done, _>>=_, Ran, got, bad, run}
 use Rattle.flowfile.specs.Plans.{bind-bad, bind-got}
 use Rattle.flowfile.specs.Reading.{number, new-entry, name-count, names, some-count, numbers, layout, counts}
 use Rattle.flowfile.specs.Items.{answered, laid-out, values, entries-at, entries-end}
-use Rattle.flowfile.specs.ItemLaws.{le-or-lt, got-value, got-next, has-found, number-cut}
+use Rattle.flowfile.specs.ItemLaws.{le-or-lt, got-value, got-next, has-found, number-cut, got-not-bad}
 use Rattle.flowfile.specs.SectionLaws.{Scanned, scan-start, scan-stop, scan-more, scan-end, names-bad, entries-at-length, numbers-got, numbers-bad, numbers-next-bad}
 
 -- an item whose value is the number itself
@@ -71,16 +71,13 @@ module _ (s : List ℕ) where
   numbers-whole zero at l e = omega arith
   numbers-whole (suc k) at {ns} {next} l e = by-first (λ a ms m l′ e′. numbers-whole k a l′ e′) (le-or-lt (at + 2) (length s))
     where
-      not-bad : {n p : ℕ} → run s at (numbers (suc k)) ≡ bad n p → at + 2 * suc k ≤ length s
-      not-bad b = let z : _≡_ {A = ℕ} 0 1 = cc in absurd (omega arith)
-
       by-rest : ((a : ℕ) (ms : List ℕ) (m : ℕ) → a ≤ length s → run s a (numbers k) ≡ got ms m → a + 2 * k ≤ length s) → at + 2 ≤ length s → (x : Ran (List ℕ)) → run s (at + 2) (numbers k) ≡ x → at + 2 * suc k ≤ length s
       by-rest rec h (got ms m) a = omega (arith, rec (at + 2) ms m h a)
-      by-rest rec h (bad n p) a = not-bad (numbers-next-bad s k at h a)
+      by-rest rec h (bad n p) a = got-not-bad e (numbers-next-bad s k at h a)
 
       by-first : ((a : ℕ) (ms : List ℕ) (m : ℕ) → a ≤ length s → run s a (numbers k) ≡ got ms m → a + 2 * k ≤ length s) → (at + 2 ≤ length s) ⊎ (length s < at + 2) → at + 2 * suc k ≤ length s
       by-first rec (inl h) = by-rest rec h (run s (at + 2) (numbers k)) refl
-      by-first rec (inr h) = not-bad (numbers-bad s k at (number-cut s at h))
+      by-first rec (inr h) = got-not-bad e (numbers-bad s k at (number-cut s at h))
 
   pub numbers-there : (k at : ℕ) {ns : List ℕ} {next : ℕ} → at ≤ length s → run s at (numbers k) ≡ got ns next → NumbersThere s k at ns next
   numbers-there k at l e =

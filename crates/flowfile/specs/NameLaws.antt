@@ -1,6 +1,6 @@
 -- Names compared byte by byte, from the front; that this is equality; and entries met among earlier ones. Assumes nothing.
 use Prim.Native.Nat.{ℕ, suc, _+_, _-_, _≤_, _<_}
-use mathlib.Core.Bool.{Bool, true, false, _&&_, _||_}
+use mathlib.Core.Bool.{Bool, true, false, _&&_, _||_, false≢true}
 use mathlib.Core.List.{List, [], _∷_, List·Memᴰ, List·Memᴰ·head, List·Memᴰ·tail}
 use mathlib.Core.Path.{_≡_, refl, ap, ap₂, sym, _∙_}
 use native.Mathlib.Numerals.{add-one}
@@ -9,6 +9,7 @@ use borrow.Author.Tests.{eq-eqb, ne-eqb, eqb-true}
 use lib.Dec.{eqb}
 use lib.ListN.{length, getD, drop, drop-of-length-le}
 use lib.Seq.{drop-cons}
+use Rattle.flow.specs.Tests.{both-true}
 use Rattle.flowfile.specs.Format.{Entry}
 use Rattle.flowfile.specs.Reading.{same, same-entry, met}
 use Rattle.flowfile.specs.Items.{entry-at, entry-end, entries-at, entries-end}
@@ -19,17 +20,6 @@ use Rattle.flowfile.specs.SectionLaws.{entries-end-le}
 and-false : (s t : Bool) → t ≡ false → (s && t) ≡ false
 and-false true t e = e
 and-false false t e = refl
-
-pub never : false ≡ true → ⊥
-never e = let z : _≡_ {A = ℕ} 0 1 = cc in omega arith
-
-pub and-left : (s t : Bool) → (s && t) ≡ true → s ≡ true
-and-left true t e = refl
-and-left false t e = e
-
-pub and-right : (s t : Bool) → (s && t) ≡ true → t ≡ true
-and-right true t e = e
-and-right false t e = absurd (never e)
 
 ---- From the front ----
 
@@ -63,10 +53,10 @@ same-refl (x ∷ a) = rw (eq-eqb x x refl, same-refl a)
 pub same-eq : (a b : List ℕ) → same a b ≡ true → a ≡ b
 unfolding same
 same-eq [] [] e = refl
-same-eq [] (y ∷ b) e = absurd (never e)
-same-eq (x ∷ a) [] e = absurd (never e)
+same-eq [] (y ∷ b) e = absurd (false≢true e)
+same-eq (x ∷ a) [] e = absurd (false≢true e)
 same-eq (x ∷ a) (y ∷ b) e =
-    ap₂ _∷_ (eqb-true x y (and-left (eqb x y) (same a b) e)) (same-eq a b (and-right (eqb x y) (same a b) e))
+    ap₂ _∷_ (eqb-true x y (both-true (eqb x y) (same a b) e .0)) (same-eq a b (both-true (eqb x y) (same a b) e .1))
 
 ---- Entries met before ----
 
@@ -101,8 +91,8 @@ pub same-entry-eq : (e g : Entry) → same-entry e g ≡ true → e ≡ g
 unfolding same-entry
 same-entry-eq e g h =
     ap₂ (λ (x y : List ℕ). record { step = x; machine = y })
-    (same-eq (e .step) (g .step) (and-left (same (e .step) (g .step)) (same (e .machine) (g .machine)) h))
-    (same-eq (e .machine) (g .machine) (and-right (same (e .step) (g .step)) (same (e .machine) (g .machine)) h))
+    (same-eq (e .step) (g .step) (both-true (same (e .step) (g .step)) (same (e .machine) (g .machine)) h .0))
+    (same-eq (e .machine) (g .machine) (both-true (same (e .step) (g .step)) (same (e .machine) (g .machine)) h .1))
 
 pub same-entry-refl : (e g : Entry) → e ≡ g → same-entry e g ≡ true
 unfolding same-entry
@@ -110,7 +100,7 @@ same-entry-refl e g h = ap (λ (x : Entry). same-entry e x) (sym h) ∙ rw (same
 
 pub met-among : (e : Entry) (es : List Entry) → met e es ≡ true → List·Memᴰ e es
 unfolding met
-met-among e [] h = absurd (never h)
+met-among e [] h = absurd (false≢true h)
 met-among e (g ∷ gs) h = by (same-entry g e) refl (met-among e gs) h
   where
     by : (t : Bool) → same-entry g e ≡ t → (met e gs ≡ true → List·Memᴰ e gs) → (t || met e gs) ≡ true → List·Memᴰ e (g ∷ gs)
@@ -134,4 +124,4 @@ not-among e es n = by (met e es) refl
     by false q = refl
 
 pub not-met : (e : Entry) (es : List Entry) → met e es ≡ false → List·Memᴰ e es → ⊥
-not-met e es q m = never (sym q ∙ among-met e es m)
+not-met e es q m = false≢true (sym q ∙ among-met e es m)

@@ -4,9 +4,9 @@ use Prim.Native.Nat.{ℕ, _+_, _*_, _-_, _/_, _≤_, _<_}
 use mathlib.Core.Bool.{Bool, true, false, _||_, cond}
 use mathlib.Core.List.{List}
 use mathlib.Core.Logic.{_⊎_, inl, inr}
-use mathlib.Core.Path.{_≡_, refl, ap, ap₂, sym, _∙_}
+use mathlib.Core.Path.{_≡_, refl, ap, ap₂, sym, _∙_, subst}
 use native.Mathlib.Omega.{arith}
-use borrow.Author.Tests.{lt-ltb, le-ltb}
+use borrow.Author.Tests.{lt-ltb, le-ltb, ltb-true, ltb-false}
 use lib.Dec.{ltb}
 use lib.ListN.{length}
 use Rattle.flow.specs.declared.Refusal.{Refusal}
@@ -20,7 +20,7 @@ use Rattle.flowfile.specs.Format.{Entry, File}
 use Rattle.flowfile.specs.Plan.{Ran, got, bad, run}
 use Rattle.flowfile.specs.Reading.{names, some-count, numbers, layout, grounds-of, content-check, Outcome, refused, counts, checked, laid, reading, over}
 use Rattle.flowfile.specs.Items.{refusal-of, laid-out, values, Placed, ReadAs}
-use Rattle.flowfile.specs.ItemLaws.{le-or-lt, got-value, got-next}
+use Rattle.flowfile.specs.ItemLaws.{le-or-lt, got-value, got-next, got-not-bad}
 use Rattle.flowfile.specs.SectionLaws.{some-count-there, values-length, entries-end-le}
 use Rattle.flowfile.specs.LayoutLaws.{names-there, numbers-there, layout-names-bad, layout-node-count-bad, layout-nodes-bad, layout-record-count-bad, layout-records-bad, layout-got}
 
@@ -41,9 +41,6 @@ pub record LayoutRuns (s : List ℕ) (f : File) (end : ℕ) : Type 0 where
   pub records-run : run s records-at (numbers r) ≡ got (f .records) end
 
 module _ (s : List ℕ) {f : File} {end : ℕ} (e : run s 0 layout ≡ got f end) where
-  not-bad : {k p : ℕ} → run s 0 layout ≡ bad k p → LayoutRuns s f end
-  not-bad b = let z : _≡_ {A = ℕ} 0 1 = cc in absurd (omega arith)
-
   pub layout-runs : LayoutRuns s f end
   layout-runs = by-names (run s 0 names) refl
     where
@@ -65,25 +62,25 @@ module _ (s : List ℕ) {f : File} {end : ℕ} (e : run s 0 layout ≡ got f end
             record-count-run = d;
             records-run = h ∙ ap₂ (λ (f′ : File) (m : ℕ). got (f′ .records) m) (sym q) (sym (got-next g));
           }
-      by-records a b c d (bad k p) h = not-bad (layout-records-bad s a b c d h)
+      by-records a b c d (bad k p) h = got-not-bad e (layout-records-bad s a b c d h)
 
       by-record-count : {es : List Entry} {from n at mid : ℕ} {ns : List ℕ} → run s 0 names ≡ got es from → run s from (some-count 1 3 64) ≡ got n at
           → run s at (numbers (3 * n)) ≡ got ns mid → (x : Ran ℕ) → run s mid (some-count 10 11 256) ≡ x → LayoutRuns s f end
       by-record-count a b c (got r to) d = by-records a b c d (run s to (numbers r)) refl
-      by-record-count a b c (bad k p) d = not-bad (layout-record-count-bad s a b c d)
+      by-record-count a b c (bad k p) d = got-not-bad e (layout-record-count-bad s a b c d)
 
       by-nodes : {es : List Entry} {from n at : ℕ} → run s 0 names ≡ got es from → run s from (some-count 1 3 64) ≡ got n at
           → (x : Ran (List ℕ)) → run s at (numbers (3 * n)) ≡ x → LayoutRuns s f end
       by-nodes a b (got ns mid) c = by-record-count a b c (run s mid (some-count 10 11 256)) refl
-      by-nodes a b (bad k p) c = not-bad (layout-nodes-bad s a b c)
+      by-nodes a b (bad k p) c = got-not-bad e (layout-nodes-bad s a b c)
 
       by-node-count : {es : List Entry} {from : ℕ} → run s 0 names ≡ got es from → (x : Ran ℕ) → run s from (some-count 1 3 64) ≡ x → LayoutRuns s f end
       by-node-count a (got n at) b = by-nodes a b (run s at (numbers (3 * n))) refl
-      by-node-count a (bad k p) b = not-bad (layout-node-count-bad s a b)
+      by-node-count a (bad k p) b = got-not-bad e (layout-node-count-bad s a b)
 
       by-names : (x : Ran (List Entry)) → run s 0 names ≡ x → LayoutRuns s f end
       by-names (got es from) a = by-node-count a (run s from (some-count 1 3 64)) refl
-      by-names (bad k p) a = not-bad (layout-names-bad s a)
+      by-names (bad k p) a = got-not-bad e (layout-names-bad s a)
 
 -- what is known of such a file, counted from its end
 pub record LayoutThere (s : List ℕ) (f : File) (end : ℕ) : Type 0 where
@@ -189,6 +186,47 @@ module _ (s : List ℕ) where
 
     pub read-refused : {r : Refusal} → reading s (length nodes) (length records) ≡ refused r → ReadAs s nodes records nodes records (Refused r)
     read-refused e = read-as e refl refl refl
+
+---- The ways of a reading ----
+
+-- what a reading comes to, by what is found on the way
+pub data Way (s : List ℕ) (nr rr : ℕ) : Outcome → Type 0 where
+  few-nodes : nr < 192 → Way s nr rr (refused (refusal-of 14 0))
+  few-records : rr < 256 → Way s nr rr (refused (refusal-of 14 0))
+  stopped : 192 ≤ nr → 256 ≤ rr → {n p : ℕ} → run s 0 layout ≡ bad n p → Way s nr rr (refused (refusal-of n p))
+  longer : (f : File) (end : ℕ) → 192 ≤ nr → 256 ≤ rr → run s 0 layout ≡ got f end → end < length s → Way s nr rr (refused (refusal-of 21 end))
+  faulty : (f : File) (end : ℕ) → 192 ≤ nr → 256 ≤ rr → run s 0 layout ≡ got f end → length s ≤ end → {r : Refusal} → content-check f ≡ check.Refused r → Way s nr rr (refused r)
+  whole : (f : File) (end : ℕ) → 192 ≤ nr → 256 ≤ rr → run s 0 layout ≡ got f end → length s ≤ end → content-check f ≡ check.Fine
+      → Way s nr rr (record { answer = counts f; nodes = f .nodes; records = f .records })
+
+pub way : (s : List ℕ) (nr rr : ℕ) → Way s nr rr (reading s nr rr)
+unfolding laid checked
+way s nr rr = by-nodes (le-or-lt 192 nr)
+  where
+    by-check : 192 ≤ nr → 256 ≤ rr → (f : File) (end : ℕ) → run s 0 layout ≡ got f end → length s ≤ end → (k : Check) → content-check f ≡ k → Way s nr rr (checked f k)
+    by-check h l f end g w check.Fine c = whole f end h l g w c
+    by-check h l f end g w (check.Refused r) c = faulty f end h l g w c
+
+    by-long : 192 ≤ nr → 256 ≤ rr → (f : File) (end : ℕ) → run s 0 layout ≡ got f end → (t : Bool) → ltb end (length s) ≡ t
+        → Way s nr rr (cond t (refused (refusal-of 21 end)) (checked f (content-check f)))
+    by-long h l f end g true q = longer f end h l g (ltb-true end (length s) q)
+    by-long h l f end g false q = by-check h l f end g (ltb-false end (length s) q) (content-check f) refl
+
+    by-run : 192 ≤ nr → 256 ≤ rr → (x : Ran File) → run s 0 layout ≡ x → Way s nr rr (laid s x)
+    by-run h l (bad n p) g = stopped h l g
+    by-run h l (got f end) g = by-long h l f end g (ltb end (length s)) refl
+
+    by-records : 192 ≤ nr → (256 ≤ rr) ⊎ (rr < 256) → Way s nr rr (reading s nr rr)
+    by-records h (inl l) = subst (Way s nr rr) (sym (reading-laid s nr rr h l)) (by-run h l (run s 0 layout) refl)
+    by-records h (inr l) = subst (Way s nr rr) (sym (reading-short s nr rr (inr l))) (few-records l)
+
+    by-nodes : (192 ≤ nr) ⊎ (nr < 192) → Way s nr rr (reading s nr rr)
+    by-nodes (inl h) = by-records h (le-or-lt 256 rr)
+    by-nodes (inr h) = subst (Way s nr rr) (sym (reading-short s nr rr (inl h))) (few-nodes h)
+
+-- what is read is not refused
+pub read-not-refused : {c : Counts} {r : Refusal} {C : Type 0} → Read c ≡ Refused r → C
+read-not-refused h = let z : _≡_ {A = ℕ} 0 1 = cc in absurd (omega arith)
 
 ---- From the counts ----
 

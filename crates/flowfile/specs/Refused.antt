@@ -1,33 +1,29 @@
 -- The reader refuses exactly as Faults says: each way of a refusal is answered with its number and place, and every refusal is one
 -- of these ways. Assumes nothing.
 use Prim.Native.Nat.{ℕ, zero, suc, _+_, _*_, _-_, _/_, _≤_, _<_}
-use mathlib.Core.Bool.{Bool, true, false, cond}
+use mathlib.Core.Bool.{Bool, true, false}
 use mathlib.Core.List.{List, [], _∷_, _++_, append-assoc, append-nil, List·Memᴰ, Memᴰ·append-left}
 use mathlib.Core.Logic.{_⊎_, inl, inr, _↔_}
 use mathlib.Core.Path.{_≡_, refl, ap, sym, _∙_, subst}
 use native.Mathlib.Numerals.{add-one}
 use native.Mathlib.Omega.{arith}
-use borrow.Author.Tests.{lt-ltb, ltb-true, ltb-false}
-use lib.Dec.{ltb}
+use borrow.Author.Tests.{lt-ltb}
 use lib.ListN.{length, getD, drop, length-append}
 use lib.Seq.{drop-cons}
 use Rattle.flow.specs.declared.Refusal.{Refusal}
-use Rattle.flow.specs.declared.Check.{Check}
-use Rattle.flow.specs.declared.Check.the-variants as check
 use Rattle.flow.specs.FirstRefusal.{refused-exactly}
-use Rattle.flowfile.specs.declared.Counts.{Counts}
 use Rattle.flowfile.specs.declared.Reading.the-variants.{Refused}
-use Rattle.flowfile.specs.Format.{word, words, Entry, name-bytes, entry-bytes, entries-bytes, nodes-section, File, encode}
+use Rattle.flowfile.specs.Format.{word, words, Entry, name-bytes, entry-bytes, entries-bytes, nodes-section, encode}
 use Rattle.flowfile.specs.Plan.{Ran, got, bad, run}
-use Rattle.flowfile.specs.Reading.{number, name, entry, met, new-entry, entries, name-count, names, some-count, numbers, layout, content-grounds, content-check, Outcome, refused, checked, laid, reading}
+use Rattle.flowfile.specs.Reading.{number, name, entry, met, new-entry, entries, name-count, names, some-count, numbers, layout, content-grounds, Outcome, refused, checked, laid, reading}
 use Rattle.flowfile.specs.Limits.{GoodEntry, Follow, none, more, Bytes, Stands, NamesStand, NodesStand}
 use Rattle.flowfile.specs.Items.{refusal-of, number-at, name-end}
 use Rattle.flowfile.specs.Faults.{CountFault, cut-count, none-counted, many-counted, NumbersFault, cut-number, NameFault, cut-length, low-length, high-length, cut-bytes, EntryFault, in-step, in-machine, Entering, NamesFault, cut-names, many-names, in-entry, met-again, LayoutFault, in-names, in-node-count, in-nodes, in-record-count, in-records, Refuses, no-node-room, no-record-room, in-layout, too-long, in-contents}
-use Rattle.flowfile.specs.ItemLaws.{le-or-lt, number-cut, number-got, name-short, name-low, name-high, name-cut, name-got, name-length, name-there, entry-step-bad, entry-machine-bad, entry-got}
+use Rattle.flowfile.specs.ItemLaws.{le-or-lt, got-not-bad, number-cut, number-got, name-short, name-low, name-high, name-cut, name-got, name-length, name-there, entry-step-bad, entry-machine-bad, entry-got}
 use Rattle.flowfile.specs.SectionLaws.{name-count-bad, name-count-many, name-count-got, name-count-there, names-bad, names-from, some-count-bad, some-count-none, some-count-over, some-count-got, some-count-there, numbers-stop, numbers-got, new-entry-bad, new-entry-met, new-entry-got, new-entry-there, entries-bad, entries-more}
 use Rattle.flowfile.specs.NameLaws.{met-among, among-met, not-met}
 use Rattle.flowfile.specs.LayoutLaws.{layout-names-bad, layout-node-count-bad, layout-nodes-bad, layout-record-count-bad, layout-records-bad, layout-got}
-use Rattle.flowfile.specs.ReaderLaws.{reading-short, reading-laid, laid-checked}
+use Rattle.flowfile.specs.ReaderLaws.{reading-short, reading-laid, laid-checked, Way, few-nodes, few-records, stopped, longer, faulty, whole, way, read-not-refused}
 use Rattle.flowfile.specs.StandsLaws.{stands-all, stands-move, stands-left, stands-right, stands-join, stands-head, number-reads, number-stands, name-reads, name-stands, entry-reads, entry-stands}
 use Rattle.flowfile.specs.Exact.{entries-pass, names-read, names-stand, count-reads, numbers-read, numbers-stand, layout-reads, layout-stands}
 use Rattle.flowfile.specs.Reader.{stands-whole}
@@ -38,10 +34,6 @@ moved F {a} {b} {k} {p} e x =
     let ea : a ≡ k = cc in
     let eb : b ≡ p = cc in
     subst (λ (n : ℕ). F n p) ea (subst (F a) eb x)
-
--- nothing is both found and refused
-never : {A : Type 0} {C : Type 0} {x : Ran A} {a : A} {n k p : ℕ} → x ≡ got a n → x ≡ bad k p → C
-never e h = let z : _≡_ {A = ℕ} 0 1 = cc in absurd (omega arith)
 
 module _ (s : List ℕ) where
   ---- Counts and numbers ----
@@ -61,7 +53,7 @@ module _ (s : List ℕ) where
       F = CountFault s at zip over most
 
       by-most : at + 2 ≤ length s → 0 < number-at s at → (number-at s at ≤ most) ⊎ (most < number-at s at) → CountFault s at zip over most k p
-      by-most h z (inl l) = never (some-count-got s at zip over most (number-got s at h) (λ q. omega arith) l) e
+      by-most h z (inl l) = got-not-bad (some-count-got s at zip over most (number-got s at h) (λ q. omega arith) l) e
       by-most h z (inr l) =
           moved F (sym (some-count-over s at zip over most (number-got s at h) (λ q. omega arith) l) ∙ e) (many-counted (number-at s at) (number-here b at h) l)
 
@@ -82,7 +74,7 @@ module _ (s : List ℕ) where
   numbers-fault at n {k} {p} l e = by (le-or-lt (at + 2 * n) (length s))
     where
       by : (at + 2 * n ≤ length s) ⊎ (length s < at + 2 * n) → NumbersFault s at n k p
-      by (inl h) = never (numbers-got s n at h) e
+      by (inl h) = got-not-bad (numbers-got s n at h) e
       by (inr h) =
           let i = (length s - at) / 2 in
           let f : NumbersFault s at n 15 (at + 2 * i) = cut-number i (omega arith) (omega arith) (omega arith) in
@@ -109,7 +101,7 @@ module _ (s : List ℕ) where
       l = getD s at 0
 
       by-end : at + 1 ≤ length s → least ≤ l → l ≤ 40 → (name-end s at ≤ length s) ⊎ (length s < name-end s at) → NameFault s at least k p
-      by-end h a m (inl c) = never (name-got s at least h a m c) e
+      by-end h a m (inl c) = got-not-bad (name-got s at least h a m c) e
       by-end h a m (inr c) = moved F (sym (name-cut s at least h a m c) ∙ e) (cut-bytes l (byte-here at h) a m c)
 
       by-high : at + 1 ≤ length s → least ≤ l → (l ≤ 40) ⊎ (40 < l) → NameFault s at least k p
@@ -134,7 +126,7 @@ module _ (s : List ℕ) where
   entry-fault at {k} {p} e = by-step (run s at (name 1)) refl
     where
       by-machine : (st : List ℕ) (mid : ℕ) → run s at (name 1) ≡ got st mid → (x : Ran (List ℕ)) → run s mid (name 0) ≡ x → EntryFault s at k p
-      by-machine st mid a (got m last) h = never (entry-got s at a h) e
+      by-machine st mid a (got m last) h = got-not-bad (entry-got s at a h) e
       by-machine st mid a (bad n q) h =
           let t = name-there s at 1 a in
           let l : length st ≡ getD s at 0 = ap length (t .bytes) ∙ name-length s at (t .inside) in
@@ -195,7 +187,7 @@ module _ (s : List ℕ) where
       by-met g last r i true m =
           let u = entry-stands s at r in
           moved (NamesFault s) (sym (entries-bad s at es k (new-entry-met s at es r m)) ∙ e) (met-again n es at t g (u .good) (u .stands) (met-among g es m))
-      by-met g last r i false m = never (new-entry-got s at es r m) i
+      by-met g last r i false m = got-not-bad (new-entry-got s at es r m) i
 
       by-entry : {a b : ℕ} → run s at (new-entry es) ≡ bad a b → (x : Ran Entry) → run s at entry ≡ x → NamesFault s q p
       by-entry i (got g last) r = by-met g last r i (met g es) refl
@@ -223,7 +215,7 @@ module _ (s : List ℕ) where
   names-fault b {k} {p} e = by-count (run s 0 name-count) refl
     where
       by-many : 0 + 2 ≤ length s → {a c : ℕ} → run s 0 name-count ≡ bad a c → (number-at s 0 ≤ 256) ⊎ (256 < number-at s 0) → NamesFault s k p
-      by-many h r (inl l) = never (name-count-got s 0 (number-got s 0 h) l) r
+      by-many h r (inl l) = got-not-bad (name-count-got s 0 (number-got s 0 h) l) r
       by-many h r (inr l) = moved (NamesFault s) (sym (names-bad s (name-count-many s 0 (number-got s 0 h) l)) ∙ e) (many-names (number-at s 0) (number-here s b 0 h) l)
 
       by-cut : {a c : ℕ} → run s 0 name-count ≡ bad a c → (0 + 2 ≤ length s) ⊎ (length s < 0 + 2) → NamesFault s k p
@@ -312,7 +304,7 @@ module _ (s : List ℕ) where
 
       by-records : (es : List Entry) (ns : List ℕ) (from n at mid r to : ℕ) → run s 0 names ≡ got es from → run s from (some-count 1 3 64) ≡ got n at
           → run s at (numbers (3 * n)) ≡ got ns mid → run s mid (some-count 10 11 256) ≡ got r to → (x : Ran (List ℕ)) → run s to (numbers r) ≡ x → LayoutFault s k p
-      by-records es ns from n at mid r to a c d g (got rs last) h = never (layout-got s a c d g h) e
+      by-records es ns from n at mid r to a c d g (got rs last) h = got-not-bad (layout-got s a c d g h) e
       by-records es ns from n at mid r to a c d g (bad i q) h =
           let t = some-count-there s mid 10 11 256 g in
           let u = t .0 .there in
@@ -360,42 +352,21 @@ module _ (s : List ℕ) where
 
   -- every refusal is one of these ways
   pub refused-refuses : Bytes s → (nr rr : ℕ) (r : Refusal) → reading s nr rr .answer ≡ Refused r → Refuses s nr rr (r .number) (r .place)
-  unfolding laid checked
-  refused-refuses b nr rr r e = by-nodes (le-or-lt 192 nr)
+  refused-refuses b nr rr r e = by (way s nr rr) e
     where
-      Goal : Type 0
-      Goal = Refuses s nr rr (r .number) (r .place)
-
-      is : {q : Refusal} → Refused q ≡ Refused r → Refuses s nr rr (q .number) (q .place) → Goal
+      is : {q : Refusal} → Refused q ≡ Refused r → Refuses s nr rr (q .number) (q .place) → Refuses s nr rr (r .number) (r .place)
       is {q} h x = let d : q ≡ r = cc in subst (λ (q′ : Refusal). Refuses s nr rr (q′ .number) (q′ .place)) d x
 
-      answered-by : {o : Outcome} → reading s nr rr ≡ o → o .answer ≡ Refused r
-      answered-by h = sym (ap (λ (o′ : Outcome). o′ .answer) h) ∙ e
-
-      by-check : 192 ≤ nr → 256 ≤ rr → (f : File) (at : ℕ) → run s 0 layout ≡ got f at → length s ≤ at → (k : Check) → content-check f ≡ k
-          → checked f k .answer ≡ Refused r → Goal
-      by-check h l f at g w check.Fine q a = let z : _≡_ {A = ℕ} 0 1 = cc in absurd (omega arith)
-      by-check h l f at g w (check.Refused q′) q a =
+      by : {o : Outcome} → Way s nr rr o → o .answer ≡ Refused r → Refuses s nr rr (r .number) (r .place)
+      by (few-nodes h) a = is a (no-node-room h)
+      by (few-records h) a = is a (no-record-room h)
+      by (stopped h l g) a = is a (in-layout h l (layout-fault b g))
+      by (longer f end h l g w) a = is a (too-long f end h l (layout-stands s b g) w)
+      by (faulty f end h l g w {r = q} c) a =
           let t = layout-stands s b g in
           let d : s ≡ encode f = stands-whole s (encode f) (t .stands) (omega (arith, t .ends)) in
-          is a (in-contents f h l (t .within) d (refused-exactly (content-grounds f) q′ .0 q))
-
-      by-long : 192 ≤ nr → 256 ≤ rr → (f : File) (at : ℕ) → run s 0 layout ≡ got f at → (t : Bool) → ltb at (length s) ≡ t
-          → (cond t (refused (refusal-of 21 at)) (checked f (content-check f))) .answer ≡ Refused r → Goal
-      by-long h l f at g true q a = is a (too-long f at h l (layout-stands s b g) (ltb-true at (length s) q))
-      by-long h l f at g false q a = by-check h l f at g (ltb-false at (length s) q) (content-check f) refl a
-
-      by-run : 192 ≤ nr → 256 ≤ rr → (x : Ran File) → run s 0 layout ≡ x → laid s x .answer ≡ Refused r → Goal
-      by-run h l (bad k p) g a = is a (in-layout h l (layout-fault b g))
-      by-run h l (got f at) g a = by-long h l f at g (ltb at (length s)) refl a
-
-      by-records : 192 ≤ nr → (256 ≤ rr) ⊎ (rr < 256) → Goal
-      by-records h (inl l) = by-run h l (run s 0 layout) refl (answered-by (reading-laid s nr rr h l))
-      by-records h (inr l) = is (answered-by (reading-short s nr rr (inr l))) (no-record-room l)
-
-      by-nodes : (192 ≤ nr) ⊎ (nr < 192) → Goal
-      by-nodes (inl h) = by-records h (le-or-lt 256 rr)
-      by-nodes (inr h) = is (answered-by (reading-short s nr rr (inl h))) (no-node-room h)
+          is a (in-contents f h l (t .within) d (refused-exactly (content-grounds f) q .0 c))
+      by (whole f end h l g w c) a = read-not-refused a
 
   -- a refusal is given exactly when one of its ways holds
   pub refused-when : Bytes s → (nr rr : ℕ) (r : Refusal) → (reading s nr rr .answer ≡ Refused r) ↔ Refuses s nr rr (r .number) (r .place)

@@ -15,7 +15,7 @@ use Rattle.flowfile.specs.Plan.{Plan, done, refuse, _>>=_, Ran, got, bad
 use Rattle.flowfile.specs.Plans.{bind-bad, bind-got}
 use Rattle.flowfile.specs.Reading.{number, entry, met, new-entry, entries, name-count, names, some-count, numbers, over}
 use Rattle.flowfile.specs.Items.{number-at, values, entry-at, entry-end, entries-at, entries-end}
-use Rattle.flowfile.specs.ItemLaws.{le-or-lt, got-value, got-next, number-cut, number-got, entry-there, EntryThere}
+use Rattle.flowfile.specs.ItemLaws.{le-or-lt, got-value, got-next, number-cut, number-got, entry-there, EntryThere, got-not-bad}
 
 ---- A number ----
 
@@ -87,26 +87,20 @@ module _ (s : List ℕ) (at : ℕ) where
   pub name-count-there : {v next : ℕ} → run s at name-count ≡ got v next → CountThere s at 256 v next
   name-count-there {v} {next} e = by-number (run s at number) refl
     where
-      not-bad : {k p : ℕ} → run s at name-count ≡ bad k p → CountThere s at 256 v next
-      not-bad b = let z : _≡_ {A = ℕ} 0 1 = cc in absurd (omega arith)
-
       by-size : {w last : ℕ} → run s at number ≡ got w last → (w ≤ 256) ⊎ (256 < w) → CountThere s at 256 v next
       by-size {w} {last} a (inl l) =
           let q : got w last ≡ got v next = sym (name-count-got s at a l) ∙ e in
           record { there = number-there s at (a ∙ q); few = subst (λ (x : ℕ). x ≤ 256) (got-value q) l }
-      by-size a (inr l) = not-bad (name-count-many s at a l)
+      by-size a (inr l) = got-not-bad e (name-count-many s at a l)
 
       by-number : (x : Ran ℕ) → run s at number ≡ x → CountThere s at 256 v next
       by-number (got w last) a = by-size a (le-or-lt w 256)
-      by-number (bad k p) a = not-bad (name-count-bad s at a)
+      by-number (bad k p) a = got-not-bad e (name-count-bad s at a)
 
   module _ (none over most : ℕ) where
     pub some-count-there : {v next : ℕ} → run s at (some-count none over most) ≡ got v next → CountThere s at most v next × (1 ≤ v)
     some-count-there {v} {next} e = by-number (run s at number) refl
       where
-        not-bad : {k p : ℕ} → run s at (some-count none over most) ≡ bad k p → CountThere s at most v next × (1 ≤ v)
-        not-bad b = let z : _≡_ {A = ℕ} 0 1 = cc in absurd (omega arith)
-
         by-most : {w last : ℕ} → run s at number ≡ got w last → (w ≡ 0 → ⊥) → (w ≤ most) ⊎ (most < w) → CountThere s at most v next × (1 ≤ v)
         by-most {w} {last} a n (inl l) =
             let q : got w last ≡ got v next = sym (some-count-got s at none over most a n l) ∙ e in
@@ -115,15 +109,15 @@ module _ (s : List ℕ) (at : ℕ) where
           where
             by-zero : w ≡ v → 1 ≤ v
             by-zero d = not-zero v (λ z. n (d ∙ z))
-        by-most a n (inr l) = not-bad (some-count-over s at none over most a n l)
+        by-most a n (inr l) = got-not-bad e (some-count-over s at none over most a n l)
 
         by-none : {w last : ℕ} → run s at number ≡ got w last → (w ≤ 0) ⊎ (0 < w) → CountThere s at most v next × (1 ≤ v)
-        by-none a (inl z) = not-bad (some-count-none s at none over most a (omega arith))
+        by-none a (inl z) = got-not-bad e (some-count-none s at none over most a (omega arith))
         by-none {w} a (inr z) = by-most a (λ q. omega arith) (le-or-lt w most)
 
         by-number : (x : Ran ℕ) → run s at number ≡ x → CountThere s at most v next × (1 ≤ v)
         by-number (got w last) a = by-none a (le-or-lt w 0)
-        by-number (bad k p) a = not-bad (some-count-bad s at none over most a)
+        by-number (bad k p) a = got-not-bad e (some-count-bad s at none over most a)
 
 ---- Numbers ----
 
@@ -242,11 +236,8 @@ module _ (s : List ℕ) (at : ℕ) (earlier : List Entry) where
   pub new-entry-there : {e : Entry} {next : ℕ} → run s at (new-entry earlier) ≡ got e next → NewThere e next
   new-entry-there {e} {next} h = by-entry (run s at entry) refl
     where
-      not-bad : {k p : ℕ} → run s at (new-entry earlier) ≡ bad k p → NewThere e next
-      not-bad b = let z : _≡_ {A = ℕ} 0 1 = cc in absurd (omega arith)
-
       by-met : {g : Entry} {last : ℕ} → run s at entry ≡ got g last → (b : Bool) → met g earlier ≡ b → NewThere e next
-      by-met a true m = not-bad (new-entry-met a m)
+      by-met a true m = got-not-bad h (new-entry-met a m)
       by-met {g} {last} a false m =
           let q : got g last ≡ got e next = sym (new-entry-got a m) ∙ h in
           let d : g ≡ e = got-value q in
@@ -254,7 +245,7 @@ module _ (s : List ℕ) (at : ℕ) (earlier : List Entry) where
 
       by-entry : (x : Ran Entry) → run s at entry ≡ x → NewThere e next
       by-entry (got g last) a = by-met a (met g earlier) refl
-      by-entry (bad k p) a = not-bad (new-entry-bad a)
+      by-entry (bad k p) a = got-not-bad h (new-entry-bad a)
 
   then-more : ℕ → Entry → Plan (List Entry)
   then-more k e = entries k (earlier ++ (e ∷ []))

@@ -10,7 +10,7 @@ use lib.ListN.{length, getD, take, drop, length-append, length-drop, take-append
 use lib.Seq.{take-at, drop-at, drop-drop, drop-cons, drop-length, getD-drop, length-take-le}
 use Rattle.flowfile.specs.Format.{word, Entry, name-bytes, entry-bytes}
 use Rattle.flowfile.specs.Plan.{got, run}
-use Rattle.flowfile.specs.Reading.{number, name, entry, numbers}
+use Rattle.flowfile.specs.Reading.{number, name, entry}
 use Rattle.flowfile.specs.Limits.{GoodEntry, Bytes, Stands}
 use Rattle.flowfile.specs.Items.{number-at, name-at, name-end}
 use Rattle.flowfile.specs.ItemLaws.{number-got, name-got, NameThere, name-there, name-length, entry-got, entry-runs}
@@ -26,15 +26,6 @@ module _ (s : List ℕ) where
   stands-all =
       let e : length s ≡ 0 + length s = omega arith in
       record { begins = sym (append-nil s) ∙ ap (λ (xs : List ℕ). s ++ xs) (sym (drop-length s) ∙ ap (λ (n : ℕ). drop n s) e); inside = omega arith }
-
-  -- so many bytes
-  pub stands-taken : (at n : ℕ) → at + n ≤ length s → Stands s at (take n (drop at s))
-  stands-taken at n h =
-      let l : length (take n (drop at s)) ≡ n = length-take-le n (drop at s) (rw length-drop (omega arith)) in
-      record {
-        begins = sym (take-append-drop n (drop at s)) ∙ ap (λ (xs : List ℕ). take n (drop at s) ++ xs) (drop-drop n at s ∙ ap (λ (k : ℕ). drop (at + k) s) (sym l));
-        inside = omega arith;
-      }
 
   pub stands-left : (at : ℕ) (xs ys : List ℕ) → Stands s at (xs ++ ys) → Stands s at xs
   stands-left at xs ys h =

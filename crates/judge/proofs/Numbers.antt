@@ -13,10 +13,8 @@ use borrow.Author.Tests.{ne-eqb, lt-leb, le-leb}
 use Rattle.calculus.specs.Term.{Closing, done, withdrawn, failed}
 use Rattle.calculus.specs.Records.{Record, event, close, Closed, ClosedTwice, turn, Fits}
 use Rattle.flow.specs.Records.{done-number, withdrawn-number, failed-number, is-event-number, is-closing-number, record-of, records}
-use Rattle.flow.specs.Refusals.{no-record, value-grounds, values-grounds, values-check}
-use Rattle.flow.specs.Tests.{is-false}
-use Rattle.flow.specs.FirstRefusal.{None, more, fine-exactly, none-each}
-use Rattle.flow.specs.declared.Check.the-variants.{Fine}
+use Rattle.flow.specs.Refusals.{no-record}
+use Rattle.flow.specs.FirstRefusal.{more}
 use Rattle.judge.specs.declared.Role.{Role}
 use Rattle.judge.specs.declared.Role.the-variants.{Standard, Running, Left}
 use Rattle.judge.specs.Visits.{state, closing-of, Known, Inner}
@@ -90,12 +88,3 @@ first-inner ns t role (r ∷ []) k h f = absurd (omega arith)
 first-inner ns t Standard (r ∷ q ∷ rs) k h f = event-first r (k .each 0 (omega arith)) f
 first-inner ns t Running (r ∷ q ∷ rs) k h f = known-low r (k .each 0 (omega arith))
 first-inner ns t Left (r ∷ q ∷ rs) k h f = event-first r (k .each 0 (omega arith)) f
-
--- check 12
-fine-value : (rs : List ℕ) (i : ℕ) → None (value-grounds rs i) → no-record (getD rs i 0) ≡ false
-unfolding value-grounds
-fine-value rs i (None.more t n) = is-false (no-record (getD rs i 0)) t
-
-pub known-records : (rs : List ℕ) → length rs ≤ 256 → values-check rs ≡ Fine → Known rs
-unfolding values-check values-grounds
-known-records rs few e = record { few = few; each = λ i h. fine-value rs i (none-each (value-grounds rs) 0 (length rs) i (fine-exactly (values-grounds rs) .0 e) (omega arith) (omega arith)) }

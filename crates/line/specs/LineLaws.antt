@@ -3,17 +3,15 @@
 use Prim.Native.Nat.{ℕ, zero, suc, _+_, _-_, _*_, _/_, _%_, _^_, _≤_, _<_}
 use native.Mathlib.Nat.{pow-succ', one-le-pow, zero-lt-suc}
 use native.Mathlib.Omega.{arith}
-use mathlib.Core.Bool.{Bool, true, false, cond}
+use mathlib.Core.Bool.{Bool, true, false}
 use mathlib.Core.List.{List, [], _∷_, _++_, append-assoc}
-use mathlib.Core.Path.{_≡_, refl, sym, ap, subst, _∙_}
+use mathlib.Core.Path.{_≡_, refl, sym, ap, _∙_}
 use borrow.Author.Tests.{lt-ltb, le-ltb, ltb-true, ltb-false}
 use lib.Dec.{ltb}
 use lib.ListN.{length, take, drop, length-append, length-take, length-drop, take-append-drop}
 use lib.Seq.{length-take-le, take-length, take-at, drop-at, drop-drop, drop-append-le}
 use Rattle.io.specs.Digits.{digits, Fewest, glyph}
-use Rattle.line.specs.declared.Word.{Word}
-use Rattle.line.specs.declared.Word.the-variants.{Accepted, Rejected, Undecided, Refused}
-use Rattle.line.specs.Line.{places, size, decimal, spaced, spelled, Put}
+use Rattle.line.specs.Line.{places, size, decimal, spaced, Put}
 
 ---- Digits ----
 
@@ -134,10 +132,3 @@ module _ {text out out′ : List ℕ} {at r : ℕ} (p : Put text out at out′ r
       joined = rw (front, back) (append-assoc (take at out) text (more ++ drop r′ out) ∙ ap (λ (l : List ℕ). take at out ++ l) (sym (append-assoc text more (drop r′ out))))
 
 ---- The whole line ----
-
-pub spelled-most : (w : Word) → length (spelled w) ≤ 9
-unfolding spelled
-spelled-most Accepted = omega arith
-spelled-most Rejected = omega arith
-spelled-most Undecided = omega arith
-spelled-most Refused = omega arith

@@ -1,6 +1,5 @@
 // The line that the program prints, as text: the verdict word, the refusal number or 0, the place and the count, with single
 // spaces, and one line feed. What is written is defined in specs/Line.antt.
-ghost use mathlib.Core.Path.{_≡_};
 ghost use Prim.Native.Nat.{_+_, _≤_};
 ghost use lib.ListN.{length};
 ghost use Rattle.io.specs.Counts.{Counts};

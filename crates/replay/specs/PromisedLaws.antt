@@ -18,6 +18,7 @@ use Rattle.flow.specs.declared.Check.the-variants.{Fine}
 use Rattle.flow.specs.declared.Check.the-variants as check
 use Rattle.flow.specs.Records.{records}
 use Rattle.flow.specs.Draws.{flow-of}
+use Rattle.flow.specs.Tests.{both-true}
 use Rattle.judge.specs.declared.Answer.{Answer}
 use Rattle.judge.specs.Judged.{Judged, judged, judge-check, room-wanted, cleared, work-after, answer-of, unless-refused, unless-refused-bytes}
 use Rattle.line.specs.Line.{Put}
@@ -30,15 +31,11 @@ unfolding all-are
 all-replicate b zero = refl
 all-replicate b (suc n) = rw (eq-eqb b b refl) (all-replicate b n)
 
-both : (p q : Bool) → p && q ≡ true → (p ≡ true) × (q ≡ true)
-both true q e = (refl, e)
-both false q e = let z : _≡_ {A = ℕ} 0 1 = cc in absurd (omega arith)
-
 all-is : (b : ℕ) (xs : List ℕ) → all-are b xs ≡ true → xs ≡ replicate (length xs) b
 unfolding all-are
 all-is b [] e = refl
 all-is b (x ∷ xs) e =
-    let h = both (eqb x b) (all-are b xs) e in
+    let h = both-true (eqb x b) (all-are b xs) e in
     ap₂ _∷_ (eqb-true x b (h .0)) (all-is b xs (h .1))
 
 module _ (b : ℕ) (part : List ℕ) (i : ℕ) where
@@ -65,8 +62,8 @@ clean-exactly zeros work = (λ e. to e, λ e. from e)
   where
     to : is-clean zeros work ≡ true → work ≡ promised zeros (length work)
     to e =
-        let h = both (leb zeros (length work)) (all-are 0 (take zeros work) && all-are 165 (drop zeros work)) e in
-        let g = both (all-are 0 (take zeros work)) (all-are 165 (drop zeros work)) (h .1) in
+        let h = both-true (leb zeros (length work)) (all-are 0 (take zeros work) && all-are 165 (drop zeros work)) e in
+        let g = both-true (all-are 0 (take zeros work)) (all-are 165 (drop zeros work)) (h .1) in
         let l : length (take zeros work) ≡ zeros = length-take-le zeros work (leb-true zeros (length work) (h .0)) in
         sym (take-append-drop zeros work)
         ∙ ap₂ _++_

@@ -26,7 +26,7 @@ use Rattle.tallies.specs.declared.Weight.{Weight}
 use Rattle.states.specs.State.{Part, build, part, modes}
 use Rattle.states.specs.StateLaws.{part-is}
 use Rattle.states.specs.Roles.{plain, undoing}
-use Rattle.states.specs.Contracts.{Spot, Kept, Sets, Counted, Chosen, weight-of}
+use Rattle.states.specs.Contracts.{Spot, Sets, Counted, Chosen, weight-of}
 use Rattle.states.specs.ChildLaws.{set-sets, lower-spot, same-room, kept-set, kept-part, kid-lower, kept-kid, same-part, spot-down}
 use Rattle.seek.specs.Asked.{Fallen, runs, left, own-of, Wanted, Below, Marked, followed, Follows, Followed, PairChosen}
 use Rattle.seek.specs.NodeLaws.{Fork, first-kid, second-kid, sides-apart, node-is, room-is, sought-is, marked-kept, marked-part}

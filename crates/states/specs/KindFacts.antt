@@ -1,17 +1,17 @@
 -- What the number of a kind says of a node: the children that it has, that these are lower, and that what is under the one is not
 -- under the other. Assumes nothing.
-use Prim.Native.Nat.{ℕ, zero, suc, _+_, _*_, _<_, _≤_}
-use mathlib.Core.Path.{_≡_, refl, sym, ap, subst}
+use Prim.Native.Nat.{ℕ, zero, suc, _*_, _<_, _≤_}
+use mathlib.Core.Path.{_≡_, refl, sym, subst}
 use mathlib.Core.Bool.{Bool, true, false, not, _&&_, _||_}
 use mathlib.Core.List.{List}
-use mathlib.Core.Logic.{_≢_, _⊎_, inl, inr}
+use mathlib.Core.Logic.{_≢_}
 use native.Mathlib.Omega.{arith}
 use native.Mathlib.Decide.{decLt}
 use lib.Dec.{T, eqb, leb}
 use lib.ListN.{getD}
 use borrow.Author.Tests.{le-leb, ne-eqb}
-use Rattle.flow.specs.Kinds.{kids, kindOf, kind, one-of, two-of, shape}
-use Rattle.flow.specs.Nodes.{Kid, kid1, kid2, Under, Tree, disjoint, not-under}
+use Rattle.flow.specs.Kinds.{kids, kindOf, one-of, two-of, shape}
+use Rattle.flow.specs.Nodes.{Kid, kid1, kid2, Under, Tree, disjoint}
 
 -- a test that holds of all numbers below n
 below : ℕ → (ℕ → Bool) → Bool
@@ -54,18 +54,12 @@ module _ (ns : List ℕ) (tree : Tree (shape ns)) (i : ℕ) (low : 5 ≤ getD ns
   pub one-lower : one-of ns i < i
   one-lower = tree .lower i (one-of ns i) one-kid
 
-  pub one-not-above : Under (shape ns) (one-of ns i) i → ⊥
-  one-not-above u = not-under (shape ns) tree one-kid u
-
   module _ (n : getD ns (3 * i) 0 ≢ 9) where
     pub two-kid : Kid (shape ns) i (two-of ns i)
     two-kid = kid2 (has-second (getD ns (3 * i) 0) low high n) refl
 
     pub two-lower : two-of ns i < i
     two-lower = tree .lower i (two-of ns i) two-kid
-
-    pub two-not-above : Under (shape ns) (two-of ns i) i → ⊥
-    two-not-above u = not-under (shape ns) tree two-kid u
 
     -- nothing is under both
     pub apart : {j : ℕ} → Under (shape ns) (one-of ns i) j → Under (shape ns) (two-of ns i) j → ⊥

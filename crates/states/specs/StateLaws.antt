@@ -1,16 +1,15 @@
 -- Laws of states and of stored counts: what a node's part and its counts are from its children's (`part-is`, `stored-is`), and
 -- that both depend only on what is under the node (`part-frame`, `stored-frame`). Assumes nothing.
-use Prim.Native.Nat.{ℕ, _<_}
+use Prim.Native.Nat.{ℕ}
 use mathlib.Core.Path.{_≡_, refl, sym, _∙_, ap, subst}
-use mathlib.Core.Bool.{Bool, true, false, not, _&&_, cond}
+use mathlib.Core.Bool.{not}
 use mathlib.Core.List.{List}
-use mathlib.Core.Logic.{_≢_}
 use lib.Dec.{T, eqb}
 use lib.ListN.{length}
 use Rattle.calculus.specs.Term.{skip}
 use Rattle.calculus.specs.Successors.{steps, csteps}
 use Rattle.flow.specs.Kinds.{Kind, Event, Skip, Throw, Yield, Seq, Alt, Par, Hnd, Blk, Pair, CSeq, CAlt, CPar, Skipp, Throww, Yieldd, Unknown, kids, kind, one-of, two-of, shape}
-use Rattle.flow.specs.Nodes.{Under, self, up, under-kid, Tree, fold, fold-node, fold-frame}
+use Rattle.flow.specs.Nodes.{Under, self, up, Tree, fold-node, fold-frame}
 use Rattle.tallies.specs.Capped.{cap}
 use Rattle.states.specs.State.{Part, standard, build, part-node, part}
 use Rattle.states.specs.Stored.{Right, wrong, right, own, stored}

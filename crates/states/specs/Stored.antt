@@ -10,7 +10,7 @@ use Rattle.calculus.specs.Successors.{steps, csteps}
 use Rattle.flow.specs.Kinds.{Kind, Event, Skip, Throw, Yield, Seq, Alt, Par, Hnd, Blk, Pair, CSeq, CAlt, CPar, Skipp, Throww, Yieldd, Unknown, kind, shape}
 use Rattle.flow.specs.Nodes.{fold}
 use Rattle.tallies.specs.Capped.{cap}
-use Rattle.states.specs.State.{Part, by-mode, part}
+use Rattle.states.specs.State.{by-mode, part}
 
 -- whether all counts under a node are right, by its role
 pub record Right : Type 0 where

@@ -4,13 +4,13 @@
 use tallies::Weight;
 ghost use mathlib.Core.Path.{_≡_};
 ghost use mathlib.Core.Logic.{_≢_};
-ghost use Prim.Native.Nat.{_+_, _*_, _<_, _≤_, _-_};
+ghost use Prim.Native.Nat.{_*_, _<_, _≤_, _-_};
 ghost use lib.ListN.{getD};
-ghost use Rattle.flow.specs.Kinds.{one-of, two-of};
+ghost use Rattle.flow.specs.Kinds.{one-of};
 ghost use Rattle.states.specs.State.{modes, counts};
 ghost use Rattle.states.specs.Roles.{plain, running, undoing};
 ghost use Rattle.states.specs.Contracts.{Ready, Stepped};
-ghost use Rattle.words.specs.Sides.{live, pairL};
+ghost use Rattle.words.specs.Sides.{live};
 ghost use Rattle.steps.specs.Turns.{role-of, Turned, Twofold, Twofold-inner, first-mode, second-mode};
 
 // Where a step goes on: a child, and the place among the child's steps.

@@ -1,5 +1,4 @@
 -- The product of two numbers of k bits has at most k + k. Assumes nothing.
-use mathlib.Core.Path.{_≡_}
 use Prim.Native.Nat.{ℕ, _+_, _*_, _^_, _<_}
 use native.Mathlib.Nat.{le-of-lt, lt-of-le-of-lt, mul-le-mul-left, mul-lt-mul-of-pos-right}
 use lib.Pow.{pow-pos, pow-add}

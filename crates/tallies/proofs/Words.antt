@@ -1,8 +1,7 @@
 -- Words from the tallies that the code makes one after the other: each formula of a word, with a name for every part that is
 -- computed on the way. Assumes nothing.
-use Prim.Native.Nat.{ℕ, _+_, _*_}
-use mathlib.Core.Path.{_≡_, refl}
-use mathlib.Core.Bool.{Bool}
+use Prim.Native.Nat.{ℕ, _+_}
+use mathlib.Core.Path.{_≡_}
 use Rattle.calculus.specs.Term.{Closing, done, withdrawn, failed}
 use Rattle.tallies.specs.Capped.{cap}
 use Rattle.tallies.specs.Formulas.{worded, oneT, skipV, whenT, plusT, seqT, parT, pairW, heldW, cparW, fittingT, partnersT}

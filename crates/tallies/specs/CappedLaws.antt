@@ -1,6 +1,6 @@
 -- Laws of numbers that stop at the greatest 32-bit number: sums and products of capped numbers are capped sums and products.
 -- Assumes nothing.
-use Prim.Native.Nat.{ℕ, suc, zero, _+_, _*_, _≤_, _<_}
+use Prim.Native.Nat.{ℕ, suc, zero, _+_, _*_}
 use mathlib.Core.Path.{_≡_, sym, _∙_, ap, ap₂}
 use native.Mathlib.Omega.{arith, min-cases}
 use native.Mathlib.Nat.{mul-comm}
@@ -27,19 +27,6 @@ cap-mul-right x y = ap cap (mul-comm x (cap y)) ∙ cap-mul-left y x ∙ ap cap 
 
 pub cap-mul : (x y : ℕ) → cap (cap x * cap y) ≡ cap (x * y)
 cap-mul x y = cap-mul-left x (cap y) ∙ cap-mul-right x y
-
-pub cap-zero : (x : ℕ) → cap x ≡ 0 → x ≡ 0
-cap-zero x e = omega arith
-
-pub below-cap : (j x : ℕ) → j < cap x → j < x
-below-cap j x h = omega arith
-
-pub cap-below : (j x : ℕ) → j < most → j < x → j < cap x
-cap-below j x h k = omega arith
-
--- a capped number that an index reaches is the number itself
-pub cap-exact : (j x : ℕ) → cap x ≤ j → j < most → cap x ≡ x
-cap-exact j x h k = omega arith
 
 -- what numbers come to depends on their caps only
 pub cap-sum : (x x′ y y′ : ℕ) → cap x ≡ cap x′ → cap y ≡ cap y′ → cap (x + y) ≡ cap (x′ + y′)

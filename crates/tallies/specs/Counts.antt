@@ -1,10 +1,10 @@
 -- Views, tallies and words of terms: the counts themselves, that the formulas of Formulas give from part to whole (CountsLaws).
 -- Throughout, a is the event of the next record. Definitions only. Assumes nothing.
 use Prim.Native.Nat.{ℕ, _+_, _*_}
-use mathlib.Core.Bool.{Bool, cond}
+use mathlib.Core.Bool.{cond}
 use mathlib.Core.List.{List, [], _∷_}
 use lib.ListN.{length}
-use Rattle.calculus.specs.Term.{Closing, done, withdrawn, failed, Std, Cmp}
+use Rattle.calculus.specs.Term.{done, withdrawn, failed, Std, Cmp}
 use Rattle.calculus.specs.Successors.{some-of, ends, steps, comps, csteps}
 use Rattle.tallies.specs.Capped.{cap}
 use Rattle.tallies.specs.Formulas.{viewed, tallied, worded}

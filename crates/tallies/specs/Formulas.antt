@@ -1,7 +1,7 @@
 -- The formulas that the code of this crate computes: views, tallies, words and weights of a whole from those of its parts. What
 -- they mean for terms is in Counts, and that they are right in CountsLaws. Definitions only. Assumes nothing.
 use Prim.Native.Nat.{ℕ, _+_, _*_}
-use mathlib.Core.Bool.{Bool, true, false, not, _&&_, _||_, cond, toNat}
+use mathlib.Core.Bool.{Bool, true, false, not, _&&_, _||_, cond}
 use lib.Dec.{eqb}
 use Rattle.calculus.specs.Term.{Closing, done, withdrawn, failed, join}
 use Rattle.calculus.specs.Successors.{eqc}

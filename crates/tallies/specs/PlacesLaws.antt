@@ -4,7 +4,7 @@ use Prim.Native.Nat.{ℕ, suc, _+_, _-_, _≤_, _<_}
 use native.Mathlib.Omega.{arith}
 use native.Mathlib.Nat.{suc-add}
 use mathlib.Core.Path.{_≡_, refl}
-use mathlib.Core.Bool.{Bool, true, false}
+use mathlib.Core.Bool.{Bool, true}
 use mathlib.Core.List.{List, [], _∷_, _++_, map}
 use lib.Dec.{T}
 use lib.ListN.{length, drop}
@@ -30,10 +30,6 @@ module _ {A : Type 0} where
 
   pub at-after : (l : List A) {m : List A} {k : ℕ} {x : A} → length l ≤ k → At m (k - length l) x → At (l ++ m) k x
   at-after l h p = at-is (omega arith) (at-right l p)
-
-  pub at-below : {l : List A} {k : ℕ} {x : A} → At l k x → k < length l
-  at-below At.here = omega arith
-  at-below (At.past h) = let d = at-below h in omega arith
 
   pub at-drop : {l : List A} {k : ℕ} {x : A} → At l k x → drop k l ≡ x ∷ drop (suc k) l
   at-drop At.here = refl
@@ -78,11 +74,6 @@ module _ {A : Type 0} {f : A → ℕ} where
   pub finds-rest-le : {l : List A} {j : ℕ} {x : A} {r : ℕ} → Finds f l j x r → r ≤ j
   finds-rest-le (Finds.here h) = omega arith
   finds-rest-le (Finds.past h) = let d = finds-rest-le h in omega arith
-
-  pub finds-below : {l : List A} {j : ℕ} {x : A} {r : ℕ} → Finds f l j x r → j < sum-of f l
-  unfolding sum-of
-  finds-below (Finds.here h) = omega arith
-  finds-below (Finds.past h) = let d = finds-below h in omega arith
 
   pub finds-only : (b : Bool) {l : List A} {j : ℕ} {x : A} {r : ℕ} → T b → Finds f l j x r → Finds f (only b l) j x r
   unfolding only

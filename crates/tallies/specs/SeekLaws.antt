@@ -106,9 +106,6 @@ eqc-done n = by (eqb n 0) (eqb n 1)
     by false true = refl
     by false false = refl
 
-pub closing-done : (n : ℕ) → n ≡ 0 → closing n ≡ done
-closing-done n e = ap closing e
-
 pub closing-other : (n : ℕ) → n ≢ 0 → T (not (eqc (closing n) done))
 closing-other n h = rw eqc-done (not-T (eqb n 0) (λ t. h (eqb→eq n 0 t)))
 
@@ -137,10 +134,6 @@ total-by a g pp w e d f = f ∙ ap (λ t. total t g) (tally-by a pp w e d) ∙ w
 -- the same under a condition
 pub total-when : (a : ℕ) (g : Weight) (pp : Cmp) (w : Closing) (b : Bool) {x : Word} {c : ℕ} → x ≡ word a pp → c ≡ total (whenT b (byW x w)) g → c ≡ cap (sum-of (weight a g) (only b (comps pp w)))
 total-when a g pp w b e f = f ∙ ap (λ t. total (whenT b t) g) (ap (λ x. byW x w) e ∙ by-word a pp w) ∙ ap (λ t. total t g) (sym (tally-only a b (comps pp w))) ∙ weight-total a g (only b (comps pp w))
-
--- what PP's own compensations in PP;QQ weigh: none where it ends done
-pub total-own : (a : ℕ) (g : Weight) (pp : Cmp) (n : ℕ) {x : Word} {c : ℕ} → x ≡ word a pp → c ≡ total (whenT (not (eqb n 0)) (byW x (closing n))) g → c ≡ cap (sum-of (weight a g) (only (not (eqc (closing n) done)) (comps pp (closing n))))
-total-own a g pp n e f = rw eqc-done (total-when a g pp (closing n) (not (eqb n 0)) e f)
 
 -- Two lists, one after the other ----------------------------------------------------------------------------------------
 

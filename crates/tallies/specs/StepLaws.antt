@@ -159,11 +159,6 @@ module _ (a : ℕ) where
   unfolding weight moves
   moves-weight k = omega arith
 
-  -- each compensation weighs its steps
-  pub moves-found : {l : List Std} {j : ℕ} {k : Std} {r : ℕ} → Finds (weight a movesG) l j k r → Finds (moves a) l j k r
-  unfolding moves
-  moves-found f = finds-same _ _ moves-weight f
-
   hold-weight : (n : ℕ) (k : Std) → weight a (holdG n) k ≡ n
   unfolding weight
   hold-weight n k = omega arith

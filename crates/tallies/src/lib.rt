@@ -2,7 +2,7 @@
 // their steps and compensations one by one. Counts stop at MOST, one more than any index a search can use: an
 // allowance is a 32-bit number, and the root is counted too.
 ghost use mathlib.Core.Path.{_≡_};
-ghost use Prim.Native.Nat.{_+_, _*_, _<_, _≤_};
+ghost use Prim.Native.Nat.{_+_, _*_, _<_};
 ghost use Rattle.tallies.specs.Capped.{cap};
 ghost use Rattle.tallies.specs.Formulas.{skipV, throwV, yieldV, evV, seqV, hndV, altV, parV, noneT, oneT, whenT, plusT, seqT, parT, blkV, pairW, cseqW, heldW, caltW, cparW, skippW, throwwW, yielddW, byW, fittingT, partnersT, total, afterG, insideG, besideG, withinG, closing, either-withdraws, either-fails, viewed, tallied, worded, weighs};
 ghost use mathlib.Core.Bool.{cond};

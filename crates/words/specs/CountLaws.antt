@@ -1,6 +1,6 @@
 -- One lemma for each way in which a function of the counting pass returns. Each takes what the code has learnt, in the code's
 -- order, and concludes Counted of the node in its role. Assumes nothing.
-use Prim.Native.Nat.{ℕ, _*_, _<_, _≤_}
+use Prim.Native.Nat.{ℕ, _*_, _≤_}
 use mathlib.Core.Path.{_≡_, refl, sym, _∙_, ap, subst}
 use mathlib.Core.Bool.{true, false, _&&_, and-true}
 use mathlib.Core.List.{List}

@@ -1,11 +1,11 @@
 -- What each kind of node makes of its parts, by its number: which of them are live (`choose`), the node's term and the rightness
 -- of its counts from theirs (`two-parts`), and the same of a node without live parts. Assumes nothing.
-use Prim.Native.Nat.{ℕ, _<_, _≤_}
+use Prim.Native.Nat.{ℕ, _≤_}
 use mathlib.Core.Path.{_≡_, refl, _∙_, ap}
 use mathlib.Core.Bool.{Bool, true, false, _&&_, cond, and-comm}
 use mathlib.Core.Logic.{_≢_}
 use native.Mathlib.Omega.{arith}
-use lib.Dec.{T, eqb}
+use lib.Dec.{eqb}
 use borrow.Author.Tests.{ne-eqb}
 use Rattle.calculus.specs.Term.{leaf, Std, Cmp, skip, ev, seq, alt, par, hnd, calt, cpar, skipp}
 use Rattle.flow.specs.Kinds.{kindOf}

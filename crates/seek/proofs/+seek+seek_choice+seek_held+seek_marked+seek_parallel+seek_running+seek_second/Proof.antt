@@ -4,7 +4,7 @@
 use Rattle.seek.specs.Branches.{other-chosen, choice-first-below, choice-first, choice-second-below, choice-second, open-first-below, open-first, open-second-below, open-second, second-below, second-followed, held-follows, held-chosen, own-below, own-chosen, both-room, both-spot, both-follows, both-chosen, par-first-room, par-second-room, par-chosen}
 use Rattle.states.specs.ChildLaws.{lower-spot, same-room, kid-lower}
 use Rattle.seek.specs.NodeLaws.{below-spot, below-room, below-marked}
-use mathlib.Core.Path.{refl, sym, _∙_}
+use mathlib.Core.Path.{sym, _∙_}
 use native.Mathlib.Omega.{arith}
 use borrow.Author.Needs.{needs}
 use Prim.Native.Nat.{ℕ, _<_, _+_, _*_}
