@@ -91,15 +91,15 @@ fn successors(ns: &[u16], number: u16, c: &mut [u32; 64], t: &[u8], role: Role) 
     let i = root_of(ns);
     match role {
         Role::Standard => {
-            let v = words::count_std(ns, t, number, c, i);
+            let v = counting::count_std(ns, t, number, c, i);
             v.moves
         }
         Role::Left => {
-            let v = words::count_left(ns, t, number, c, i);
+            let v = counting::count_left(ns, t, number, c, i);
             v.moves
         }
         Role::Running => {
-            let w = words::count_run(ns, t, number, c, i);
+            let w = counting::count_run(ns, t, number, c, i);
             if number < flow::DONE {
                 w.moves
             } else {
@@ -171,11 +171,11 @@ fn can_end(ns: &[u16], number: u16, t: &[u8], role: Role) -> bool
     let mut c = [0u32; 64];
     match role {
         Role::Standard => {
-            let v = words::count_std(ns, t, number, &mut c, i);
+            let v = counting::count_std(ns, t, number, &mut c, i);
             ends_by(v, number)
         }
         Role::Left => {
-            let v = words::count_left(ns, t, number, &mut c, i);
+            let v = counting::count_left(ns, t, number, &mut c, i);
             ends_by(v, number)
         }
         Role::Running => false,

@@ -7,6 +7,6 @@ fn main() {
     let mut file = [0u8; 21895];
     let got = io::read_full(STDIN_FILENO, &mut file);
     let mut line = [0u8; 64];
-    let end = batch::write_file_line(&file[..got], &mut line);
+    let end = program::write_file_line(&file[..got], &mut line);
     io::write_all(STDOUT_FILENO, &line[..end]);
 }

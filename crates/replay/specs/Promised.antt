@@ -9,7 +9,7 @@ use lib.ListN.{length, take, drop, replicate}
 use Rattle.judge.specs.declared.Answer.{Answer}
 use Rattle.judge.specs.declared.Answer.the-variants.{Accepted, Rejected, Undecided, Refused}
 use Rattle.line.specs.Line.{text-of}
-use Rattle.batch.specs.Program.{line-for}
+use Rattle.program.specs.Program.{line-for}
 
 -- so many node numbers and records want so many work bytes
 unfoldable pub work-wanted : ℕ → ℕ → ℕ

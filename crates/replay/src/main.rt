@@ -116,7 +116,7 @@ fn write_case(answer: Answer, clean: bool, out: &mut [u8]) -> usize
     ensures { λ r. ⌜ Put (case-line answer clean) (now (out .entry)) 0 (now (out .exit)) r ⌝ }
     ensures { λ r. ⌜ r ≤ 49 ⌝ }
 {
-    let end = line::write_text(batch::line_for(answer), out);
+    let end = line::write_text(program::line_for(answer), out);
     put_note(clean, out, end)
 }
 
@@ -156,7 +156,7 @@ fn file_case() -> bool {
         return bad_case();
     }
     let mut out = [0u8; 64];
-    let end = batch::write_file_line(&file[..n], &mut out);
+    let end = program::write_file_line(&file[..n], &mut out);
     io::write_all(STDOUT_FILENO, &out[..end])
 }
 

@@ -70,7 +70,7 @@ fn word_at(ns: &[u16], a: u16, t: &[u8], i: usize) -> Word
     ensures { λ r. ⌜ r ≡ word a (runs (now (ns .entry)) (now (t .entry)) i) ⌝ }
 {
     let mut c = [0u32; 64];
-    words::count_run(ns, t, a, &mut c, i)
+    counting::count_run(ns, t, a, &mut c, i)
 }
 
 // What is known of its compensations by w.
@@ -199,7 +199,7 @@ fn seek_pair(ns: &[u16], a: u16, t: &mut [u8], i: usize, w: u8, j: u32) -> Sough
     if w == tallies::DONE {
         states::set_mode(t, i, LEFT_Q);
         let mut c = [0u32; 64];
-        let v = words::count_std(ns, t, a, &mut c, states::second_child(ns, i));
+        let v = counting::count_std(ns, t, a, &mut c, states::second_child(ns, i));
         return Sought {
             rest: j,
             moves: v.moves,
@@ -254,7 +254,7 @@ fn seek_held(ns: &[u16], a: u16, t: &mut [u8], i: usize, w: u8, g: Weight, j: u3
     ensures { λ r. ⌜ Chosen (now (ns .entry)) (now (t .entry)) a i (closing w) g j (now (t .exit)) (r .rest) (r .moves) (r .able) ⌝ }
 {
     let mut c = [0u32; 64];
-    let v = words::count_left(ns, t, a, &mut c, states::first_child(ns, i));
+    let v = counting::count_left(ns, t, a, &mut c, states::first_child(ns, i));
     seek_second(
         ns,
         a,

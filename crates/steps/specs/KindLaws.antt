@@ -21,7 +21,7 @@ use Rattle.tallies.specs.StepLaws.{at-ev, no-skip-step, no-throw-step, no-yield
 use Rattle.states.specs.State.{Part, build}
 use Rattle.states.specs.Stored.{Right, right}
 use Rattle.states.specs.Roles.{Role, plain, running, undoing, get, nexts, many, ok}
-use Rattle.words.specs.Sides.{live, pairL}
+use Rattle.counting.specs.Sides.{live, pairL}
 use Rattle.steps.specs.Turns.{role-of, first-mode, second-mode}
 use Rattle.steps.specs.NodeLaws.{Like, like-same}
 

@@ -24,7 +24,7 @@ use Rattle.states.specs.KindFacts.{one-kid}
 use Rattle.states.specs.Roles.{Role, plain, running, undoing, many, ok}
 use Rattle.states.specs.Contracts.{Spot, Kept, Both, Sets, Chosen, Counted, Ready, Stepped, weight-of}
 use Rattle.states.specs.ChildLaws.{set-sets, sets-none, kept-set, same-part, spot-down, same-room, mode-after, kept-up, beside-part, beside-stored, kid-one, kid-two, one-off-two, two-off-one, both-of}
-use Rattle.words.specs.Sides.{live, pairL}
+use Rattle.counting.specs.Sides.{live, pairL}
 use Rattle.steps.specs.Turns.{role-of, Turned, Twofold, Twofold-inner, first-mode, second-mode}
 use Rattle.steps.specs.NodeLaws.{Like, like-same, own-count, node-room, node-right, goes-of, turned, turned-first, turned-second}
 use Rattle.steps.specs.KindLaws.{Two, two-kind, as-live, both-live, sequence-drawn, both-right, first-goes, second-room, second-goes, ByFirst, BySecond, first-alone, second-alone, Inner, inner-kind, left-first-alone, left-second-alone, left-back, left-beside, back-like, beside-like, back-right, beside-right, back-first-goes, beside-first-goes, back-room, back-second-goes, beside-room, beside-second-goes, pair-right, pair-first-room, pair-goes, left-pair-right, left-pair-room, left-pair-goes, out-like, inside-right, out-right, inside-goes, out-room, out-goes, leave-room, leave-rest, leave-goes, hold-room, hold-rest, hold-goes, event-goes, no-plain, no-running, no-undoing, no-left-pair}

@@ -10,7 +10,7 @@ ghost use Rattle.flow.specs.Kinds.{one-of};
 ghost use Rattle.states.specs.State.{modes, counts};
 ghost use Rattle.states.specs.Roles.{plain, running, undoing};
 ghost use Rattle.states.specs.Contracts.{Ready, Stepped};
-ghost use Rattle.words.specs.Sides.{live};
+ghost use Rattle.counting.specs.Sides.{live};
 ghost use Rattle.steps.specs.Turns.{role-of, Turned, Twofold, Twofold-inner, first-mode, second-mode};
 
 // Where a step goes on: a child, and the place among the child's steps.
@@ -52,11 +52,11 @@ fn turn_two(ns: &[u16], a: u16, c: &[u32; 64], t: &mut [u8], i: usize, k: u32, k
     requires { ⌜ Twofold (now ns) i kind ⌝ }
     ensures { λ r. ⌜ Turned (now (ns .entry)) a (role-of kind) (role-of kind) (now (c .entry)) (now (t .entry)) i k (now (t .exit)) (r .node) (r .at) ⌝ }
 {
-    let side = words::live_parts(kind, states::mode_of(t, i));
-    if side == words::FIRST {
+    let side = counting::live_parts(kind, states::mode_of(t, i));
+    if side == counting::FIRST {
         let f = states::first_child(ns, i);
         Turn { node: f, at: k }
-    } else if side == words::SECOND {
+    } else if side == counting::SECOND {
         let s = states::second_child(ns, i);
         Turn { node: s, at: k }
     } else {
@@ -115,11 +115,11 @@ fn turn_left(ns: &[u16], a: u16, c: &[u32; 64], t: &mut [u8], i: usize, k: u32, 
     requires { ⌜ Twofold-inner (now ns) i kind ⌝ }
     ensures { λ r. ⌜ Turned (now (ns .entry)) a undoing undoing (now (c .entry)) (now (t .entry)) i k (now (t .exit)) (r .node) (r .at) ⌝ }
 {
-    let side = words::left_parts(kind, states::mode_of(t, i));
-    if side == words::FIRST {
+    let side = counting::left_parts(kind, states::mode_of(t, i));
+    if side == counting::FIRST {
         let f = states::first_child(ns, i);
         Turn { node: f, at: k }
-    } else if side == words::SECOND {
+    } else if side == counting::SECOND {
         let s = states::second_child(ns, i);
         Turn { node: s, at: k }
     } else if kind == 11 {
@@ -190,7 +190,7 @@ fn turn_out(
         able: 0,
     };
     let x = seek::seek(ns, a, t, f, tallies::FAILED, each, k - n);
-    words::count_left(ns, t, a, d, f);
+    counting::count_left(ns, t, a, d, f);
     x.rest
 }
 

@@ -41,7 +41,7 @@ use Rattle.seek.proofs.seek_pair.Reads as seek-pair-reads
 use Rattle.seek.proofs.weight_before.Reads as weight-before-reads
 use Rattle.seek.proofs.weight_by.Reads as weight-by-reads
 use Rattle.seek.proofs.word_at.Reads as word-at-reads
-use Rattle.words.proofs.count_left.Reads as count-left-reads
+use Rattle.counting.proofs.count_left.Reads as count-left-reads
 use Rattle.states.proofs.first_child.Reads as first-child-reads
 use Rattle.states.proofs.mode_of.Reads as mode-of-reads
 use Rattle.states.proofs.second_child.Reads as second-child-reads

@@ -1,6 +1,6 @@
 -- `steps::turn_left` meets its contract: one compensation alone makes the step, or both are left. Assumes nothing.
 use Rattle.steps.specs.TurnLaws.{left-first-only, left-second-only, left-in-turn, left-sides}
-use Rattle.words.specs.Sides.{pairL}
+use Rattle.counting.specs.Sides.{pairL}
 use mathlib.Core.Path.{sym, _∙_, ap}
 use borrow.Author.Needs.{needs}
 use Rattle.steps.proofs.turn_left.Statement.{statement}

@@ -1,6 +1,6 @@
 -- `steps::turn_two` meets its contract: one part alone makes the step, or both are live. Assumes nothing.
 use Rattle.steps.specs.TurnLaws.{first-only, second-only, neither-alone}
-use Rattle.words.specs.Sides.{live}
+use Rattle.counting.specs.Sides.{live}
 use mathlib.Core.Path.{sym, _∙_, ap}
 use borrow.Author.Needs.{needs}
 use Rattle.steps.proofs.turn_two.Statement.{statement}

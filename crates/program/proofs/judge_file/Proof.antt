@@ -1,0 +1,91 @@
+-- `program::judge_file` meets its contract: what is read stands first in the two tables, and is judged. Assumes nothing.
+use Prim.Native.Nat.{ℕ, _*_}
+use native.Mathlib.Omega.{arith}
+use mathlib.Core.Path.{refl, sym, ap₂, _∙_}
+use lib.ListN.{take}
+use lib.Seq.{length-take-le}
+use borrow.Author.Needs.{needs}
+use denote.Ref.{now}
+use Rattle.program.specs.ProgramLaws.{Held, file-refused, file-read}
+use Rattle.judge.specs.Judged.{judged}
+use Rattle.program.proofs.judge_file.Statement.{statement}
+use Rattle.program.proofs.judge_file.Tie as tie
+use Rattle.program.proofs.judge_file.Reads as reads
+use Rattle.program.proofs.judge_file.Lts as lts
+use Rattle.program.proofs.judge_tables.Reads as judge-tables-reads
+use Rattle.program.proofs.wide.Reads as wide-reads
+use Rattle.flowfile.proofs.read.Reads as read-reads
+
+-- the tables hold what the reader read
+held : (c : lts.After-wide2 (read-reads.Asked, read-reads.Learnt, wide-reads.Asked, wide-reads.Learnt, judge-tables-reads.Asked, judge-tables-reads.Learnt) reads.Pre reads.Post)
+    → Held (now (c .before .before .before .before .before .before .before .before .before .before .before .args .file)) (c .before .before .before .before .before .before .before .read .last .1 .0) (c .before .before .before .before .before .before .before .read .last .1 .1 .0) (c .before .before .before .counts .given .0 .0)
+held c = file-read refl refl (c .before .before .before .before .before .before .before .read .ensures) (λ i. omega (arith, c .before .before .before .before .before .before .before .before .before .before .shared-slice-known .given i)) (c .before .before .before .counts .given .1)
+
+slice-aggregate-read : tie.Need-slice-aggregate-read
+slice-aggregate-read c = search needs
+
+slice-aggregate-read-2 : tie.Need-slice-aggregate-read-2
+slice-aggregate-read-2 c = search needs
+
+read-requires : tie.Need-read-requires
+read-requires c κs = search needs
+
+enum-known-counts : tie.Need-enum-known-counts
+enum-known-counts c = search needs
+
+wide-requires : tie.Need-wide-requires
+wide-requires c κs = search needs
+
+mul-n : tie.Need-mul-n
+mul-n c = search needs
+
+wide-requires-2 : tie.Need-wide-requires-2
+wide-requires-2 c κs = search needs
+
+array-share-prefix-nodes : tie.Need-array-share-prefix-nodes
+array-share-prefix-nodes c = omega (arith, held c .nodes-inside, c .before .wide .ensures)
+
+slice-aggregate-judge-tables : tie.Need-slice-aggregate-judge-tables
+slice-aggregate-judge-tables c = sym (length-take-le _ _ (omega (arith, held (c .before) .nodes-inside, c .before .before .wide .ensures)))
+
+array-share-prefix-records : tie.Need-array-share-prefix-records
+array-share-prefix-records c = omega (arith, held (c .before) .records-inside, c .before .wide2 .ensures)
+
+slice-aggregate-judge-tables-2 : tie.Need-slice-aggregate-judge-tables-2
+slice-aggregate-judge-tables-2 c = sym (length-take-le _ _ (omega (arith, held (c .before .before) .records-inside, c .before .before .wide2 .ensures)))
+
+judge-tables-requires : tie.Need-judge-tables-requires
+judge-tables-requires c κs = search needs
+
+enum-known-r : tie.Need-enum-known-r
+enum-known-r c = search needs
+
+returns : tie.Need-returns
+returns c =
+    let r = c .before .before .before .before .before .before .before .before .before .before .read in
+    c .judge-tables .ensures
+    ∙ ap₂ (λ (n k : ℕ). judged (take (3 * n) (r .last .1 .0)) (take k (r .last .1 .1 .0)) 32896 1000000) (c .before .before .before .before .wide .ensures) (c .before .before .before .wide2 .ensures)
+    ∙ held (c .before .before .before) .answer
+
+returns-2 : tie.Need-returns-2
+returns-2 c = file-refused refl refl (c .before .before .before .before .before .read .ensures) (c .before .r .given .1)
+
+pub judge-file-spec : {M : Type 1} → statement M
+judge-file-spec =
+    tie.close
+    (tie.spec
+    slice-aggregate-read
+    slice-aggregate-read-2
+    read-requires
+    enum-known-counts
+    wide-requires
+    mul-n
+    wide-requires-2
+    array-share-prefix-nodes
+    slice-aggregate-judge-tables
+    array-share-prefix-records
+    slice-aggregate-judge-tables-2
+    judge-tables-requires
+    enum-known-r
+    returns
+    returns-2)

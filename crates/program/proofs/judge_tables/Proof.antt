@@ -1,0 +1,16 @@
+-- `program::judge_tables` meets its contract: with so many work bytes and so many states, the judge's answer. Assumes nothing.
+use borrow.Author.Needs.{needs}
+use Rattle.program.proofs.judge_tables.Statement.{statement}
+use Rattle.program.proofs.judge_tables.Tie as tie
+
+slice-aggregate-judge : tie.Need-slice-aggregate-judge
+slice-aggregate-judge c = search needs
+
+judge-requires : tie.Need-judge-requires
+judge-requires c κs = search needs
+
+returns : tie.Need-returns
+returns c = c .before .judge .ensures .answers
+
+pub judge-tables-spec : {M : Type 1} → statement M
+judge-tables-spec = tie.close (tie.spec slice-aggregate-judge judge-requires returns)

@@ -1,0 +1,84 @@
+// A flow file judged as the program judges it, and the line that the program prints. What both are is defined in
+// specs/Program.antt.
+use flowfile::Reading;
+use judge::Answer;
+use line::Line;
+use line::Word;
+ghost use mathlib.Core.Path.{_≡_};
+ghost use Rattle.io.specs.Counts.{Counts};
+ghost use Rattle.judge.specs.Judged.{judged};
+ghost use Rattle.line.specs.Line.{Put};
+ghost use Rattle.program.specs.Program.{answer-of-file, line-for, printed};
+
+// "allows 1,000,000 states"
+const ALLOWANCE: u32 = 1000000;
+
+fn wide(x: u16) -> usize
+    ensures { λ r. ⌜ r ≡ x ⌝ }
+{
+    x as usize
+}
+
+// The tables judged with work bytes for the largest flow.
+fn judge_tables(nodes: &[u16], records: &[u16]) -> Answer
+    ensures { λ r. ⌜ r ≡ judged (now (nodes .entry)) (now (records .entry)) 32896 1000000 ⌝ }
+{
+    let mut work = [0u8; 32896];
+    judge::judge(nodes, records, &mut work, ALLOWANCE)
+}
+
+// Reads the file, and judges what it holds.
+pub fn judge_file(file: &[u8]) -> Answer
+    ensures { λ r. ⌜ r ≡ answer-of-file (now (file .entry)) ⌝ }
+{
+    let mut nodes = [0u16; 192];
+    let mut records = [0u16; 256];
+    match flowfile::read(file, &mut nodes, &mut records) {
+        Reading::Read(counts) => {
+            let n = 3 * wide(counts.nodes);
+            let k = wide(counts.records);
+            judge_tables(&nodes[..n], &records[..k])
+        }
+        Reading::Refused(r) => Answer::Refused(r),
+    }
+}
+
+// What the line tells of an answer.
+pub fn line_for(answer: Answer) -> Line
+    ensures { λ r. ⌜ r ≡ line-for answer ⌝ }
+{
+    match answer {
+        Answer::Accepted(v) => Line {
+            word: Word::Accepted,
+            number: 0,
+            place: v.place,
+            count: v.count,
+        },
+        Answer::Rejected(v) => Line {
+            word: Word::Rejected,
+            number: 0,
+            place: v.place,
+            count: v.count,
+        },
+        Answer::Undecided(v) => Line {
+            word: Word::Undecided,
+            number: 0,
+            place: v.place,
+            count: v.count,
+        },
+        Answer::Refused(r) => Line {
+            word: Word::Refused,
+            number: r.number,
+            place: r.place,
+            count: 0,
+        },
+    }
+}
+
+// Writes the line for a file at the start of the room, leaves the rest, and answers the line's length.
+pub fn write_file_line(file: &[u8], out: &mut [u8; 64]) -> usize
+    ensures { λ r. ⌜ Put (printed (now (file .entry))) (now (out .entry)) 0 (now (out .exit)) r ⌝ }
+    ensures { λ r. ⌜ Counts r (now (out .exit)) ⌝ }
+{
+    line::write_line(line_for(judge_file(file)), out)
+}
