@@ -1,0 +1,1 @@
+-- Theorems about the contracts of the crates below.
