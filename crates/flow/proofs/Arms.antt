@@ -1,40 +1,44 @@
--- What `form` is on each arm of the match on a kind's number. Assumes nothing.
-use Prim.Native.Nat.{ℕ, _≤_, _<_}
-use mathlib.Core.Path.{_≡_, refl, sym, ap, subst}
-use mathlib.Core.Bool.{true, false}
-use mathlib.Core.Logic.{⊎-elim}
+-- What `node-of` is on each arm of the match on a kind's number. Assumes nothing.
+use Prim.Native.Nat.{ℕ, _-_, _≤_, _<_}
+use mathlib.Core.Path.{_≡_, refl, sym, subst}
+use mathlib.Core.List.{[], _∷_}
 use native.Mathlib.Omega.{arith}
-use native.Mathlib.Nat.{eq-or-lt-of-le}
 use lib.ListN.{List·getD-eq-default}
-use Rattle.flow.specs.declared.Form.{Form}
-use Rattle.flow.specs.Kinds.{kinds, kindOf, Unknown}
-use Rattle.flow.specs.Forms.{form, leaf-form, branch-form}
+use Rattle.flow.specs.declared.Simple.the-variants.{Skip, Throw, Yield}
+use Rattle.flow.specs.declared.Operator.the-variants.{Sequence, Choice, Parallel}
+use Rattle.flow.specs.declared.Node.the-variants.{Basic, Standard, Compensable, Paired, Unknown}
+use Rattle.flow.specs.Kinds.{simple-of, operator-of, two, node-of}
+use Rattle.flow.specs.EachKind.{from, unknown}
 
--- what holds of a number and, if k is above it, of k, holds of k
-or-above : (P : ℕ → Type 0) (k lo : ℕ) → P lo → (lo < k → P k) → lo ≤ k → P k
-or-above P k lo here up h = ⊎-elim (λ e. subst P e here) up (eq-or-lt-of-le h)
+pub last-simple : (k : ℕ) → (k ≡ 0 → ⊥) → (k ≡ 1 → ⊥) → Yield ≡ simple-of k
+last-simple k n m = let h : 2 ≤ k = omega (arith, n, m) in sym (List·getD-eq-default (Skip ∷ Throw ∷ []) Yield h)
 
-abbrev pub none : Form
-none = record { known = false; standard = false; event = false; kids = 0; inner = false }
+pub last-operator : (k : ℕ) → (k ≡ 0 → ⊥) → (k ≡ 1 → ⊥) → Parallel ≡ operator-of k
+last-operator k n m = let h : 2 ≤ k = omega (arith, n, m) in sym (List·getD-eq-default (Sequence ∷ Choice ∷ []) Parallel h)
 
-abbrev Is : Form → ℕ → Type 0
-Is f k = f ≡ form (kindOf k)
+module _ (k x y : ℕ) where
+  pub is-basic : 2 ≤ k → k < 5 → Basic (simple-of (k - 2)) ≡ node-of k x y
+  is-basic l h =
+      let P : ℕ → Type 0 = λ k. k < 5 → Basic (simple-of (k - 2)) ≡ node-of k x y in
+      from P 2 (λ h. refl) (from P 3 (λ h. refl) (from P 4 (λ h. refl) (λ k l h. absurd (omega arith)))) k l h
 
-module _ (k : ℕ) where
-  pub is-leaf : 1 ≤ k → (k ≡ 1 → ⊥) → k < 5 → leaf-form true false ≡ form (kindOf k)
-  is-leaf lo n hi = or-above (Is (leaf-form true false)) k 2 refl (or-above (Is (leaf-form true false)) k 3 refl (or-above (Is (leaf-form true false)) k 4 refl (λ h. absurd (omega arith)))) (omega (arith, n))
+  pub is-standard-two : 5 ≤ k → k < 8 → Standard (operator-of (k - 5)) (two x y) ≡ node-of k x y
+  is-standard-two l h =
+      let P : ℕ → Type 0 = λ k. k < 8 → Standard (operator-of (k - 5)) (two x y) ≡ node-of k x y in
+      from P 5 (λ h. refl) (from P 6 (λ h. refl) (from P 7 (λ h. refl) (λ k l h. absurd (omega arith)))) k l h
 
-  pub is-two : 5 ≤ k → k < 9 → branch-form true 2 true ≡ form (kindOf k)
-  is-two lo hi = or-above (Is (branch-form true 2 true)) k 5 refl (or-above (Is (branch-form true 2 true)) k 6 refl (or-above (Is (branch-form true 2 true)) k 7 refl (or-above (Is (branch-form true 2 true)) k 8 refl (λ h. absurd (omega arith))))) lo
+  pub is-compensable-two : 11 ≤ k → k < 14 → Compensable (operator-of (k - 11)) (two x y) ≡ node-of k x y
+  is-compensable-two l h =
+      let P : ℕ → Type 0 = λ k. k < 14 → Compensable (operator-of (k - 11)) (two x y) ≡ node-of k x y in
+      from P 11 (λ h. refl) (from P 12 (λ h. refl) (from P 13 (λ h. refl) (λ k l h. absurd (omega arith)))) k l h
 
-  pub is-two-inner : 9 ≤ k → (k ≡ 9 → ⊥) → (k ≡ 10 → ⊥) → k < 14 → branch-form false 2 false ≡ form (kindOf k)
-  is-two-inner lo n m hi = or-above (Is (branch-form false 2 false)) k 11 refl (or-above (Is (branch-form false 2 false)) k 12 refl (or-above (Is (branch-form false 2 false)) k 13 refl (λ h. absurd (omega arith)))) (omega (arith, n, m))
+  pub is-paired : 14 ≤ k → k < 17 → Paired (simple-of (k - 14)) ≡ node-of k x y
+  is-paired l h =
+      let P : ℕ → Type 0 = λ k. k < 17 → Paired (simple-of (k - 14)) ≡ node-of k x y in
+      from P 14 (λ h. refl) (from P 15 (λ h. refl) (from P 16 (λ h. refl) (λ k l h. absurd (omega arith)))) k l h
 
-  pub is-leaf-inner : 14 ≤ k → k < 17 → leaf-form false false ≡ form (kindOf k)
-  is-leaf-inner lo hi = or-above (Is (leaf-form false false)) k 14 refl (or-above (Is (leaf-form false false)) k 15 refl (or-above (Is (leaf-form false false)) k 16 refl (λ h. absurd (omega arith)))) lo
+  pub is-none-high : 17 ≤ k → Unknown ≡ node-of k x y
+  is-none-high h = sym (unknown k x y h)
 
-  pub is-none-high : 17 ≤ k → none ≡ form (kindOf k)
-  is-none-high h = sym (ap form (List·getD-eq-default kinds Unknown h))
-
-  pub is-none-low : k < 1 → none ≡ form (kindOf k)
-  is-none-low h = let e : 0 ≡ k = omega arith in subst (Is none) e refl
+  pub is-none-low : k < 1 → Unknown ≡ node-of k x y
+  is-none-low h = let e : 0 ≡ k = omega arith in subst (λ k. Unknown ≡ node-of k x y) e refl

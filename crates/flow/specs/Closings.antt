@@ -9,7 +9,7 @@ use native.Mathlib.Numerals.{add-one}
 use lib.ListN.{length, getD, drop, drop-of-length-le, length-drop}
 use lib.Seq.{drop-cons}
 use Rattle.flow.specs.declared.Check.the-variants.{Fine}
-use Rattle.flow.specs.Kinds.{kind, is-standard}
+use Rattle.flow.specs.Kinds.{node, is-standard}
 use Rattle.flow.specs.Records.{is-closing-number}
 use Rattle.flow.specs.Refusals.{root, closed, after-closings, closings-wanted, wrong-closings, closing-grounds, closings-check, refused}
 use Rattle.flow.specs.FirstRefusal.{single-held, single-passed}
@@ -141,7 +141,7 @@ module _ (ns rs : List ℕ) where
 
 pub wanted-some : (ns : List ℕ) → 1 ≤ closings-wanted ns
 unfolding closings-wanted
-wanted-some ns = by (is-standard (kind ns (root ns)))
+wanted-some ns = by (is-standard (node ns (root ns)))
   where
     by : (b : Bool) → 1 ≤ cond b 1 2
     by true = omega arith

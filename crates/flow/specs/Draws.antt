@@ -1,33 +1,53 @@
--- The flow that a node table means. `Draws ns i s`: node i of the table draws the part s, one constructor to a kind. `drawn` is
--- the same as a function, by going down from a node. Definitions only: OneFlow proves that a table that is not refused means
--- exactly one flow. Assumes nothing.
+-- The flow that a node table means. `Draws ns i s`: node i of the table draws the part s, one constructor to a form of node.
+-- `drawn` is the same as a function, by going down from a node. Definitions only: OneFlow proves that a table that is not refused
+-- means exactly one flow. Assumes nothing.
 use Prim.Native.Nat.{ℕ}
 use mathlib.Core.Path.{_≡_}
 use mathlib.Core.List.{List}
 use Rattle.calculus.specs.Term.{Std, Cmp, leaf, ev, skip, throw, yield, seq, alt, par, hnd, blk, pair, cseq, calt, cpar, skipp, throww, yieldd}
 use Rattle.calculus.specs.Records.{State, over, std, cmp}
-use Rattle.flow.specs.Nodes.{fold}
-use Rattle.flow.specs.Kinds.{Kind, Event, Skip, Throw, Yield, Seq, Alt, Par, Hnd, Blk, Pair, CSeq, CAlt, CPar, Skipp, Throww, Yieldd, Unknown, kind, one-of, two-of, shape}
+use Rattle.flow.specs.declared.Simple.{Simple}
+use Rattle.flow.specs.declared.Simple.the-variants.{Skip, Throw, Yield}
+use Rattle.flow.specs.declared.Operator.{Operator}
+use Rattle.flow.specs.declared.Operator.the-variants.{Sequence, Choice, Parallel}
+use Rattle.flow.specs.declared.Two.{Two}
+use Rattle.flow.specs.declared.Node.{Node}
+use Rattle.flow.specs.declared.Node.the-variants.{Event, Basic, Standard, Handler, Block, Pair, Compensable, Paired, Unknown}
+use Rattle.flow.specs.Nodes.{descend}
+use Rattle.flow.specs.Kinds.{node}
 use Rattle.flow.specs.Refusals.{root}
+
+-- the calculus's words, by sort
+abbrev pub basic : Simple → Std
+basic Skip = skip
+basic Throw = throw
+basic Yield = yield
+
+abbrev pub paired : Simple → Cmp
+paired Skip = skipp
+paired Throw = throww
+paired Yield = yieldd
+
+abbrev pub standard : Operator → Std → Std → Std
+standard Sequence p q = seq p q
+standard Choice p q = alt p q
+standard Parallel p q = par p q
+
+abbrev pub compensable : Operator → Cmp → Cmp → Cmp
+compensable Sequence pp qq = cseq pp qq
+compensable Choice pp qq = calt pp qq
+compensable Parallel pp qq = cpar pp qq
 
 module _ (ns : List ℕ) where
   pub data Draws : ℕ → State → Type 0 where
-    at-event : {i : ℕ} → kind ns i ≡ Event → Draws i (std (ev (leaf (one-of ns i))))
-    at-skip : {i : ℕ} → kind ns i ≡ Skip → Draws i (std skip)
-    at-throw : {i : ℕ} → kind ns i ≡ Throw → Draws i (std throw)
-    at-yield : {i : ℕ} → kind ns i ≡ Yield → Draws i (std yield)
-    at-seq : {i : ℕ} {p q : Std} → kind ns i ≡ Seq → Draws (one-of ns i) (std p) → Draws (two-of ns i) (std q) → Draws i (std (seq p q))
-    at-alt : {i : ℕ} {p q : Std} → kind ns i ≡ Alt → Draws (one-of ns i) (std p) → Draws (two-of ns i) (std q) → Draws i (std (alt p q))
-    at-par : {i : ℕ} {p q : Std} → kind ns i ≡ Par → Draws (one-of ns i) (std p) → Draws (two-of ns i) (std q) → Draws i (std (par p q))
-    at-hnd : {i : ℕ} {p q : Std} → kind ns i ≡ Hnd → Draws (one-of ns i) (std p) → Draws (two-of ns i) (std q) → Draws i (std (hnd p q))
-    at-blk : {i : ℕ} {pp : Cmp} → kind ns i ≡ Blk → Draws (one-of ns i) (cmp pp) → Draws i (std (blk pp))
-    at-pair : {i : ℕ} {p q : Std} → kind ns i ≡ Pair → Draws (one-of ns i) (std p) → Draws (two-of ns i) (std q) → Draws i (cmp (pair p q))
-    at-cseq : {i : ℕ} {pp qq : Cmp} → kind ns i ≡ CSeq → Draws (one-of ns i) (cmp pp) → Draws (two-of ns i) (cmp qq) → Draws i (cmp (cseq pp qq))
-    at-calt : {i : ℕ} {pp qq : Cmp} → kind ns i ≡ CAlt → Draws (one-of ns i) (cmp pp) → Draws (two-of ns i) (cmp qq) → Draws i (cmp (calt pp qq))
-    at-cpar : {i : ℕ} {pp qq : Cmp} → kind ns i ≡ CPar → Draws (one-of ns i) (cmp pp) → Draws (two-of ns i) (cmp qq) → Draws i (cmp (cpar pp qq))
-    at-skipp : {i : ℕ} → kind ns i ≡ Skipp → Draws i (cmp skipp)
-    at-throww : {i : ℕ} → kind ns i ≡ Throww → Draws i (cmp throww)
-    at-yieldd : {i : ℕ} → kind ns i ≡ Yieldd → Draws i (cmp yieldd)
+    at-event : {i e : ℕ} → node ns i ≡ Event e → Draws i (std (ev (leaf e)))
+    at-basic : {i : ℕ} {b : Simple} → node ns i ≡ Basic b → Draws i (std (basic b))
+    at-standard : {i : ℕ} {o : Operator} {t : Two} {p q : Std} → node ns i ≡ Standard o t → Draws (t .first) (std p) → Draws (t .second) (std q) → Draws i (std (standard o p q))
+    at-handler : {i : ℕ} {t : Two} {p q : Std} → node ns i ≡ Handler t → Draws (t .first) (std p) → Draws (t .second) (std q) → Draws i (std (hnd p q))
+    at-block : {i c : ℕ} {pp : Cmp} → node ns i ≡ Block c → Draws c (cmp pp) → Draws i (std (blk pp))
+    at-pair : {i : ℕ} {t : Two} {p q : Std} → node ns i ≡ Pair t → Draws (t .first) (std p) → Draws (t .second) (std q) → Draws i (cmp (pair p q))
+    at-compensable : {i : ℕ} {o : Operator} {t : Two} {pp qq : Cmp} → node ns i ≡ Compensable o t → Draws (t .first) (cmp pp) → Draws (t .second) (cmp qq) → Draws i (cmp (compensable o pp qq))
+    at-paired : {i : ℕ} {b : Simple} → node ns i ≡ Paired b → Draws i (cmp (paired b))
 
 -- a part made of a standard or of a compensable one; of anything else nothing is made
 abbrev of-std : (Std → State) → State → State
@@ -40,28 +60,20 @@ of-cmp f over = over
 of-cmp f (std p) = over
 of-cmp f (cmp pp) = f pp
 
--- the part that a kind makes of its event and its two children's parts
-unfoldable pub part : Kind → ℕ → State → State → State
-part Event k a b = std (ev (leaf k))
-part Skip k a b = std skip
-part Throw k a b = std throw
-part Yield k a b = std yield
-part Seq k a b = of-std (λ p. of-std (λ q. std (seq p q)) b) a
-part Alt k a b = of-std (λ p. of-std (λ q. std (alt p q)) b) a
-part Par k a b = of-std (λ p. of-std (λ q. std (par p q)) b) a
-part Hnd k a b = of-std (λ p. of-std (λ q. std (hnd p q)) b) a
-part Blk k a b = of-cmp (λ pp. std (blk pp)) a
-part Pair k a b = of-std (λ p. of-std (λ q. cmp (pair p q)) b) a
-part CSeq k a b = of-cmp (λ pp. of-cmp (λ qq. cmp (cseq pp qq)) b) a
-part CAlt k a b = of-cmp (λ pp. of-cmp (λ qq. cmp (calt pp qq)) b) a
-part CPar k a b = of-cmp (λ pp. of-cmp (λ qq. cmp (cpar pp qq)) b) a
-part Skipp k a b = cmp skipp
-part Throww k a b = cmp throww
-part Yieldd k a b = cmp yieldd
-part Unknown k a b = over
+-- the part that a node makes of what its children draw
+unfoldable pub made : Node → (ℕ → State) → State
+made (Event e) at = std (ev (leaf e))
+made (Basic b) at = std (basic b)
+made (Standard o t) at = of-std (λ p. of-std (λ q. std (standard o p q)) (at (t .second))) (at (t .first))
+made (Handler t) at = of-std (λ p. of-std (λ q. std (hnd p q)) (at (t .second))) (at (t .first))
+made (Block c) at = of-cmp (λ pp. std (blk pp)) (at c)
+made (Pair t) at = of-std (λ p. of-std (λ q. cmp (pair p q)) (at (t .second))) (at (t .first))
+made (Compensable o t) at = of-cmp (λ pp. of-cmp (λ qq. cmp (compensable o pp qq)) (at (t .second))) (at (t .first))
+made (Paired b) at = cmp (paired b)
+made Unknown at = over
 
 unfoldable pub drawn : List ℕ → ℕ → State
-drawn ns i = fold (shape ns) over (λ j a b. part (kind ns j) (one-of ns j) a b) i
+drawn ns i = descend over (λ j at. made (node ns j) at) i
 
 -- the flow of the last node
 unfoldable pub flow-of : List ℕ → State

@@ -12,7 +12,9 @@ use borrow.Author.Tests.{eqb-true, eqb-false, ltb-true, ltb-false, not-false}
 use Rattle.calculus.specs.Members.{or-in-left, or-in-right, and-in, and-left, and-right}
 use Rattle.flow.specs.declared.Check.the-variants.{Fine}
 use Rattle.flow.specs.Nodes.{Kid, kid1, kid2, Tree}
-use Rattle.flow.specs.Kinds.{Kind, Unknown, kindOf, kids, kind, one-of, two-of, shape, is-standard, of-standard}
+use Rattle.flow.specs.declared.Node.{Node}
+use Rattle.flow.specs.declared.Node.the-variants.{Unknown}
+use Rattle.flow.specs.Kinds.{node-of, form, node, one-of, two-of, shape, is-standard}
 use Rattle.flow.specs.Refusals.{count, has-one, has-two, no-nodes, not-whole, too-many-nodes, wrong-sort, child-taken, nobodys-child, is-child, taken, table-check, table-grounds, nodes-grounds, node-grounds, child-grounds, each}
 use Rattle.flow.specs.Tests.{is-false, not-both, neither-one, neither-two, then-false, same-of-xor}
 use Rattle.flow.specs.FirstRefusal.{None, more, fine-exactly, none-append, none-each}
@@ -98,11 +100,11 @@ module _ (ns : List ℕ) where
 
 module _ (ns : List ℕ) (fine : FineTable ns) where
   -- behind the last node there is nothing
-  beyond : (i : ℕ) → count ns ≤ i → kind ns i ≡ Unknown
-  beyond i h = ap kindOf (List·getD-eq-default ns 0 (omega (arith, fine .whole)))
+  beyond : (i : ℕ) → count ns ≤ i → node ns i ≡ Unknown
+  beyond i h = ap (λ (k : ℕ). node-of k (one-of ns i) (two-of ns i)) (List·getD-eq-default ns 0 (omega (arith, fine .whole)))
 
   two-means-one : (i : ℕ) → T (has-two ns i) → T (has-one ns i)
-  two-means-one i t = subst (λ (n : ℕ). T (not (eqb n 0))) (sym (eqb→eq (kids (kind ns i)) 2 t)) tt
+  two-means-one i t = subst (λ (n : ℕ). T (not (eqb n 0))) (sym (eqb→eq (form (node ns i) .kids) 2 t)) tt
 
   -- a node with a child is one of the table's
   parent-within : (i : ℕ) → T (has-one ns i) → i < count ns
@@ -110,7 +112,7 @@ module _ (ns : List ℕ) (fine : FineTable ns) where
     where
       by : (b : Bool) → ltb i (count ns) ≡ b → i < count ns
       by true e = ltb-true i (count ns) e
-      by false e = absurd (subst (λ (k : Kind). T (not (eqb (kids k) 0))) (beyond i (ltb-false i (count ns) e)) t)
+      by false e = absurd (subst (λ (n : Node). T (not (eqb (form n .kids) 0))) (beyond i (ltb-false i (count ns) e)) t)
 
   -- 6
   pub kid-lower : (i c : ℕ) → Kid (shape ns) i c → c < i
@@ -118,21 +120,21 @@ module _ (ns : List ℕ) (fine : FineTable ns) where
   kid-lower i c (kid2 t e) = omega (arith, e, lower-two ns i (fine .node i (parent-within i (two-means-one i t)) .lower) t)
 
   -- 7
-  pub sort-one : (i : ℕ) → T (has-one ns i) → is-standard (kind ns (one-of ns i)) ≡ of-standard (kind ns i)
+  pub sort-one : (i : ℕ) → T (has-one ns i) → is-standard (node ns (one-of ns i)) ≡ form (node ns i) .inner
   unfolding wrong-sort
   sort-one i t =
-      let w : ℕ → Bool = λ c. xor (is-standard (kind ns c)) (of-standard (kind ns i)) in
+      let w : ℕ → Bool = λ c. xor (is-standard (node ns c)) (form (node ns i) .inner) in
       same-of-xor _ _ (then-false (has-one ns i) (w (one-of ns i)) (neither-one _ (has-two ns i && w (two-of ns i)) (fine .node i (parent-within i t) .sorts)) t)
 
-  pub sort-two : (i : ℕ) → T (has-two ns i) → is-standard (kind ns (two-of ns i)) ≡ of-standard (kind ns i)
+  pub sort-two : (i : ℕ) → T (has-two ns i) → is-standard (node ns (two-of ns i)) ≡ form (node ns i) .inner
   unfolding wrong-sort
   sort-two i t =
-      let w : ℕ → Bool = λ c. xor (is-standard (kind ns c)) (of-standard (kind ns i)) in
+      let w : ℕ → Bool = λ c. xor (is-standard (node ns c)) (form (node ns i) .inner) in
       same-of-xor _ _ (then-false (has-two ns i) (w (two-of ns i)) (neither-two (has-one ns i && w (one-of ns i)) _ (fine .node i (parent-within i (two-means-one i t)) .sorts)) t)
 
-  pub kid-sort : (i c : ℕ) → Kid (shape ns) i c → is-standard (kind ns c) ≡ of-standard (kind ns i)
-  kid-sort i c (kid1 t e) = ap (λ (x : ℕ). is-standard (kind ns x)) e ∙ sort-one i t
-  kid-sort i c (kid2 t e) = ap (λ (x : ℕ). is-standard (kind ns x)) e ∙ sort-two i t
+  pub kid-sort : (i c : ℕ) → Kid (shape ns) i c → is-standard (node ns c) ≡ form (node ns i) .inner
+  kid-sort i c (kid1 t e) = ap (λ (x : ℕ). is-standard (node ns x)) e ∙ sort-one i t
+  kid-sort i c (kid2 t e) = ap (λ (x : ℕ). is-standard (node ns x)) e ∙ sort-two i t
 
   -- 8: not taken before
   kid-free : (i c : ℕ) → Kid (shape ns) i c → taken ns i c ≡ false

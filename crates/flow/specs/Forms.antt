@@ -1,16 +1,12 @@
--- What the code goes by instead of sixteen kinds: what a kind asks of its fields and children, in one struct; and what the
--- marks of taken children say. Definitions only. Assumes nothing.
+-- What the small functions of the checks go by: what is asked of a node without children and of one with them, and what the marks
+-- of taken children say. Definitions only. Assumes nothing.
 use Prim.Native.Nat.{ℕ, _<_}
 use mathlib.Core.Path.{_≡_}
 use mathlib.Core.Bool.{Bool, true, false}
 use mathlib.Core.List.{List}
 use lib.ListN.{length, getD}
 use Rattle.flow.specs.declared.Form.{Form}
-use Rattle.flow.specs.Kinds.{Kind, kids, is-known, is-event, is-standard, of-standard}
 use Rattle.flow.specs.Refusals.{taken}
-
-abbrev pub form : Kind → Form
-form k = record { known = is-known k; standard = is-standard k; event = is-event k; kids = kids k; inner = of-standard k }
 
 -- of the kinds without children, and of those with them
 abbrev pub leaf-form : Bool → Bool → Form

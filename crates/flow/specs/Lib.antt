@@ -9,6 +9,7 @@ pub mod Draws
 -- Theorems.
 pub mod Tests
 pub mod EachKind
+pub mod NodeChildren
 pub mod FirstRefusal
 pub mod ExactlyWhen
 pub mod Children

@@ -1,5 +1,5 @@
--- What is read off a table by going down from a node: a fold over falling node numbers, and what it depends on. What a tree is,
--- and that the parts under two children are disjoint. Which tables are trees is in FineTable. Assumes nothing.
+-- What is read off a table by going down from a node, and what it depends on. What a tree is, and that the parts under two children
+-- are disjoint. Which tables are trees is in FineTable. Assumes nothing.
 use Prim.Native.Nat.{ℕ, zero, suc, _<_, _≤_}
 use mathlib.Core.Path.{_≡_, refl, sym, _∙_, ap, ap₂, subst}
 use mathlib.Core.Bool.{Bool, true, false, not, _&&_, cond}
@@ -63,84 +63,60 @@ module _ (s : Shape) where
     pub not-under : {i c : ℕ} → Kid i c → Under c i → ⊥
     not-under {i} {c} k u = omega (arith, under-le u, tree .lower i c k)
 
-  module _ {A : Type 0} (bad : A) where
-    -- what a child stands for; a child that is not lower stands for nothing
-    abbrev child : ℕ → (ℕ → A) → Bool → ℕ → A
-    child i g b c = cond (b && ltb c i) (g c) bad
+-- What is read off by going down: what a node makes of what the lower nodes stand for. A node that is not lower stands for nothing.
+module _ {A : Type 0} (bad : A) where
+  abbrev pub below : ℕ → (ℕ → A) → ℕ → A
+  below i g c = cond (ltb c i) (g c) bad
 
-    go : (ℕ → A → A → A) → ℕ → ℕ → A
-    go f zero i = bad
-    go f (suc k) i = f i (child i (go f k) (s .has1 i) (s .one i)) (child i (go f k) (s .has2 i) (s .two i))
+  go : (ℕ → (ℕ → A) → A) → ℕ → ℕ → A
+  go f zero i = bad
+  go f (suc k) i = f i (below i (go f k))
 
-    unfoldable pub fold : (ℕ → A → A → A) → ℕ → A
-    unfolding go
-    fold f i = go f (suc i) i
+  unfoldable pub descend : (ℕ → (ℕ → A) → A) → ℕ → A
+  unfolding go
+  descend f i = go f (suc i) i
 
-    child-by : (i : ℕ) (g h : ℕ → A) (b : Bool) (c : ℕ) → (T b → c < i → g c ≡ h c) → child i g b c ≡ child i h b c
-    child-by i g h true c e = by (ltb c i) (λ t. e tt (ltb→lt c i t))
-      where
-        by : (x : Bool) → (T x → g c ≡ h c) → cond x (g c) bad ≡ cond x (h c) bad
-        by true e = e tt
-        by false e = refl
-    child-by i g h false c e = refl
+  below-by : (i : ℕ) (g h : ℕ → A) (c : ℕ) → (c < i → g c ≡ h c) → below i g c ≡ below i h c
+  below-by i g h c e = by (ltb c i) (λ t. e (ltb→lt c i t))
+    where
+      by : (x : Bool) → (T x → g c ≡ h c) → cond x (g c) bad ≡ cond x (h c) bad
+      by true e = e tt
+      by false e = refl
 
-    fuel : (f : ℕ → A → A → A) (k l i : ℕ) → i < k → i < l → go f k i ≡ go f l i
-    unfolding go
-    fuel f zero l i h h′ = absurd (omega arith)
-    fuel f (suc k) zero i h h′ = absurd (omega arith)
-    fuel f (suc k) (suc l) i h h′ = ap₂ (f i)
-        (child-by i (go f k) (go f l) (s .has1 i) (s .one i) (λ b g. fuel f k l (s .one i) (omega arith) (omega arith)))
-        (child-by i (go f k) (go f l) (s .has2 i) (s .two i) (λ b g. fuel f k l (s .two i) (omega arith) (omega arith)))
+  pub below-is : (i : ℕ) (g : ℕ → A) (c : ℕ) → c < i → below i g c ≡ g c
+  below-is i g c h = by (ltb c i) (lt→ltb c i h)
+    where
+      by : (x : Bool) → T x → cond x (g c) bad ≡ g c
+      by true t = refl
+      by false t = absurd t
 
-    -- one node
-    pub fold-is : (f : ℕ → A → A → A) (i : ℕ) → fold f i ≡ f i (child i (fold f) (s .has1 i) (s .one i)) (child i (fold f) (s .has2 i) (s .two i))
-    unfolding fold go
-    fold-is f i = ap₂ (f i)
-        (child-by i (go f i) (fold f) (s .has1 i) (s .one i) (λ b g. fuel f i (suc (s .one i)) (s .one i) g (omega arith)))
-        (child-by i (go f i) (fold f) (s .has2 i) (s .two i) (λ b g. fuel f i (suc (s .two i)) (s .two i) g (omega arith)))
+  fuel : (f : ℕ → (ℕ → A) → A) (k l i : ℕ) → i < k → i < l → go f k i ≡ go f l i
+  unfolding go
+  fuel f zero l i h h′ = absurd (omega arith)
+  fuel f (suc k) zero i h h′ = absurd (omega arith)
+  fuel f (suc k) (suc l) i h h′ = λ z. f i (λ c. below-by i (go f k) (go f l) c (λ g. fuel f k l c (omega arith) (omega arith)) z)
 
-    child-is : (i : ℕ) (g : ℕ → A) (b : Bool) (c : ℕ) → T b → c < i → child i g b c ≡ g c
-    child-is i g true c t h = by (ltb c i) (lt→ltb c i h)
-      where
-        by : (x : Bool) → T x → cond x (g c) bad ≡ g c
-        by true t = refl
-        by false t = absurd t
-    child-is i g false c t h = absurd t
+  -- one node
+  pub descend-is : (f : ℕ → (ℕ → A) → A) (i : ℕ) → descend f i ≡ f i (below i (descend f))
+  unfolding descend go
+  descend-is f i = λ z. f i (λ c. below-by i (go f i) (descend f) c (λ g. fuel f i (suc c) c g (omega arith)) z)
 
-    pub fold-one : Tree → (f : ℕ → A → A → A) (i : ℕ) → T (s .has1 i) → fold f i ≡ f i (fold f (s .one i)) (child i (fold f) (s .has2 i) (s .two i))
-    fold-one tree f i a = fold-is f i ∙ ap (λ (x : A). f i x (child i (fold f) (s .has2 i) (s .two i)))
-        (child-is i (fold f) (s .has1 i) (s .one i) a (tree .lower i (s .one i) (kid1 a refl)))
+  module _ (s : Shape) where
+    -- a node looks at its children only
+    abbrev pub Local : (ℕ → (ℕ → A) → A) → ℕ → Type 0
+    Local f i = (g h : ℕ → A) → ((c : ℕ) → Kid s i c → g c ≡ h c) → f i g ≡ f i h
 
-    pub fold-two : Tree → (f : ℕ → A → A → A) (i : ℕ) → T (s .has1 i) → T (s .has2 i) → fold f i ≡ f i (fold f (s .one i)) (fold f (s .two i))
-    fold-two tree f i a b = fold-is f i ∙ ap₂ (f i)
-        (child-is i (fold f) (s .has1 i) (s .one i) a (tree .lower i (s .one i) (kid1 a refl)))
-        (child-is i (fold f) (s .has2 i) (s .two i) b (tree .lower i (s .two i) (kid2 b refl)))
-
-    -- the same for every node, where a node does nothing with a child that it has not
-    pub fold-node : Tree → (f : ℕ → A → A → A) (i : ℕ)
-        → (T (not (s .has1 i)) → (x x′ y : A) → f i x y ≡ f i x′ y) → (T (not (s .has2 i)) → (x y y′ : A) → f i x y ≡ f i x y′)
-        → fold f i ≡ f i (fold f (s .one i)) (fold f (s .two i))
-    fold-node tree f i skip1 skip2 = fold-is f i ∙ first (s .has1 i) (λ b. kid1 b refl) skip1 ∙ second (s .has2 i) (λ b. kid2 b refl) skip2
-      where
-        first : (b : Bool) → (T b → Kid i (s .one i)) → (T (not b) → (x x′ y : A) → f i x y ≡ f i x′ y)
-            → f i (child i (fold f) b (s .one i)) (child i (fold f) (s .has2 i) (s .two i)) ≡ f i (fold f (s .one i)) (child i (fold f) (s .has2 i) (s .two i))
-        first true k e = ap (λ x. f i x (child i (fold f) (s .has2 i) (s .two i))) (child-is i (fold f) true (s .one i) tt (tree .lower i (s .one i) (k tt)))
-        first false k e = e tt (child i (fold f) false (s .one i)) (fold f (s .one i)) (child i (fold f) (s .has2 i) (s .two i))
-
-        second : (b : Bool) → (T b → Kid i (s .two i)) → (T (not b) → (x y y′ : A) → f i x y ≡ f i x y′)
-            → f i (fold f (s .one i)) (child i (fold f) b (s .two i)) ≡ f i (fold f (s .one i)) (fold f (s .two i))
-        second true k e = ap (f i (fold f (s .one i))) (child-is i (fold f) true (s .two i) tt (tree .lower i (s .two i) (k tt)))
-        second false k e = e tt (fold f (s .one i)) (child i (fold f) false (s .two i)) (fold f (s .two i))
+    pub descend-node : Tree s → (f : ℕ → (ℕ → A) → A) (i : ℕ) → Local f i → descend f i ≡ f i (descend f)
+    descend-node tree f i local = descend-is f i ∙ local (below i (descend f)) (descend f) (λ c k. below-is i (descend f) c (tree .lower i c k))
 
     -- it depends only on what is under the node
-    go-frame : (f g : ℕ → A → A → A) (k i : ℕ) → ((j : ℕ) → Under i j → f j ≡ g j) → go f k i ≡ go g k i
+    go-frame : (f g : ℕ → (ℕ → A) → A) → ((j : ℕ) → Local g j) → (k i : ℕ) → ((j : ℕ) → Under s i j → f j ≡ g j) → go f k i ≡ go g k i
     unfolding go
-    go-frame f g zero i e = refl
-    go-frame f g (suc k) i e =
-        let a = child-by i (go f k) (go g k) (s .has1 i) (s .one i) (λ b h. go-frame f g k (s .one i) (λ j u. e j (under-kid (kid1 b refl) u))) in
-        let b = child-by i (go f k) (go g k) (s .has2 i) (s .two i) (λ b h. go-frame f g k (s .two i) (λ j u. e j (under-kid (kid2 b refl) u))) in
-        λ x. e i (self refl) x (a x) (b x)
+    go-frame f g local zero i e = refl
+    go-frame f g local (suc k) i e =
+        (λ z. e i (self refl) z (below i (go f k)))
+        ∙ local i (below i (go f k)) (below i (go g k)) (λ c kid. below-by i (go f k) (go g k) c (λ h. go-frame f g local k c (λ j u. e j (under-kid s kid u))))
 
-    pub fold-frame : (f g : ℕ → A → A → A) (i : ℕ) → ((j : ℕ) → Under i j → f j ≡ g j) → fold f i ≡ fold g i
-    unfolding fold
-    fold-frame f g i e = go-frame f g (suc i) i e
+    pub descend-frame : (f g : ℕ → (ℕ → A) → A) → ((j : ℕ) → Local g j) → (i : ℕ) → ((j : ℕ) → Under s i j → f j ≡ g j) → descend f i ≡ descend g i
+    unfolding descend
+    descend-frame f g local i e = go-frame f g local (suc i) i e

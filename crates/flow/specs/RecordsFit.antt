@@ -11,7 +11,7 @@ use borrow.Author.Tests.{not-false}
 use Rattle.calculus.specs.Term.{Closing, done, withdrawn, failed}
 use Rattle.calculus.specs.Records.{Record, event, close, State, Closed, last, ClosedTwice, turn, Fits}
 use Rattle.flow.specs.declared.Check.the-variants.{Fine}
-use Rattle.flow.specs.Kinds.{kind, is-standard}
+use Rattle.flow.specs.Kinds.{node, is-standard}
 use Rattle.flow.specs.Records.{done-number, withdrawn-number, failed-number, is-closing-number, record-of, records}
 use Rattle.flow.specs.Refusals.{root, closed, closings-wanted, wrong-closings, closing-grounds, closings-check, table-check, no-record, value-grounds}
 use Rattle.flow.specs.Tests.{is-false}
@@ -86,9 +86,9 @@ module _ (ns rs : List ℕ) where
   -- 13 leaves the closings that the root needs
   pub records-fit : table-check ns ≡ Fine → closings-check ns rs ≡ Fine → Fits (flow-of ns) (records rs)
   unfolding closings-wanted
-  records-fit e f = by (is-standard (kind ns (root ns))) refl (closings-closed f)
+  records-fit e f = by (is-standard (node ns (root ns))) refl (closings-closed f)
     where
-      by : (b : Bool) → is-standard (kind ns (root ns)) ≡ b → closed rs (closings-wanted ns) ≡ true → Fits (flow-of ns) (records rs)
+      by : (b : Bool) → is-standard (node ns (root ns)) ≡ b → closed rs (closings-wanted ns) ≡ true → Fits (flow-of ns) (records rs)
       by true h c =
           let p = flow-standard ns (fine-table ns e) h in
           subst (λ (s : State). Fits s (records rs)) (sym (p .1)) (closed-once rs (ap (λ (b : Bool). closed rs (cond b 1 2)) (sym h) ∙ c))

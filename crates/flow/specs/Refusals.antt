@@ -11,7 +11,7 @@ use lib.ListN.{length, getD}
 use Rattle.flow.specs.declared.Refusal.{Refusal}
 use Rattle.flow.specs.declared.Check.{Check}
 use Rattle.flow.specs.declared.Check.the-variants.{Fine, Refused}
-use Rattle.flow.specs.Kinds.{kids, is-known, is-event, is-standard, of-standard, kind, one-of, two-of}
+use Rattle.flow.specs.Kinds.{form, is-standard, node, one-of, two-of}
 use Rattle.flow.specs.Records.{is-event-number, is-closing-number}
 
 ---- The conditions on a node table ----
@@ -41,20 +41,20 @@ too-many-nodes ns = ltb most-nodes (count ns)
 
 module _ (ns : List ℕ) (i : ℕ) where
   abbrev pub has-one : Bool
-  has-one = not (eqb (kids (kind ns i)) 0)
+  has-one = not (eqb (form (node ns i) .kids) 0)
 
   abbrev pub has-two : Bool
-  has-two = eqb (kids (kind ns i)) 2
+  has-two = eqb (form (node ns i) .kids) 2
 
   -- 4: "unknown kind"
   unfoldable pub unknown-kind : Bool
-  unknown-kind = not (is-known (kind ns i))
+  unknown-kind = not (form (node ns i) .known)
 
   -- 5: "event out of 1 to 256, or an unused field not 0"
   unfoldable pub wrong-field : Bool
   wrong-field =
-      (is-event (kind ns i) && not (is-event-number (one-of ns i)))
-      || ((not (is-event (kind ns i)) && (eqb (kids (kind ns i)) 0 && not (eqb (one-of ns i) 0)))
+      (form (node ns i) .event && not (is-event-number (one-of ns i)))
+      || ((not (form (node ns i) .event) && (eqb (form (node ns i) .kids) 0 && not (eqb (one-of ns i) 0)))
       || (not has-two && not (eqb (two-of ns i) 0)))
 
   -- 6: "child not lower than its parent"
@@ -74,7 +74,7 @@ module _ (ns : List ℕ) (i : ℕ) where
   -- 7: "child of the wrong sort"
   unfoldable pub wrong-sort : Bool
   wrong-sort =
-      let wrong : ℕ → Bool = λ c. xor (is-standard (kind ns c)) (of-standard (kind ns i)) in
+      let wrong : ℕ → Bool = λ c. xor (is-standard (node ns c)) (form (node ns i) .inner) in
       (has-one ns i && wrong (one-of ns i)) || (has-two ns i && wrong (two-of ns i))
 
   -- 8: "child taken already, or the same child twice"
@@ -108,7 +108,7 @@ no-record r = not (is-event-number r || is-closing-number r)
 -- 01: "A standard root takes events and then one closing, last. A compensable root takes forward events, a closing, compensation
 -- events, and a closing, last."
 unfoldable pub closings-wanted : List ℕ → ℕ
-closings-wanted ns = cond (is-standard (kind ns (root ns))) 1 2
+closings-wanted ns = cond (is-standard (node ns (root ns))) 1 2
 
 -- the records end with the n-th closing
 unfoldable pub closed : List ℕ → ℕ → Bool

@@ -7,8 +7,8 @@ ghost use mathlib.Core.Bool.{true, false, cond, xor, _&&_};
 ghost use Prim.Native.Nat.{_+_, _*_, _-_, _<_, _≤_};
 ghost use lib.Dec.{T};
 ghost use lib.ListN.{length, getD, set};
-ghost use Rattle.flow.specs.Kinds.{kindOf, kind, one-of, two-of, is-standard};
-ghost use Rattle.flow.specs.Forms.{form, leaf-form, branch-form, Marks};
+ghost use Rattle.flow.specs.Kinds.{simple-of, operator-of, node-of, node, one-of, two-of, form, is-standard};
+ghost use Rattle.flow.specs.Forms.{leaf-form, branch-form, Marks};
 ghost use Rattle.flow.specs.Records.{is-event-number, is-closing-number};
 ghost use Rattle.flow.specs.Refusals.{unknown-kind, wrong-field, not-lower, wrong-sort, child-taken, no-record, closings-wanted, refused, first, node-grounds, child-grounds, each, count, table-check, nodes-check, values-check, closings-check, records-check};
 
@@ -23,8 +23,42 @@ pub enum Check {
     Refused(Refusal),
 }
 
-// What a kind asks of a node: whether there is such a kind, its sort, whether its first field is an event, how many children
-// its fields name, and whether these are standard.
+// SKIP, THROW and YIELD, alone or paired with SKIP.
+pub enum Simple {
+    Skip,
+    Throw,
+    Yield,
+}
+
+// What joins two parts of either sort.
+pub enum Operator {
+    Sequence,
+    Choice,
+    Parallel,
+}
+
+// The two children of a node.
+pub struct Two {
+    pub first: usize,
+    pub second: usize,
+}
+
+// What a node is, in the calculus's words, with its event or its children: the one place that goes by the number of a kind is
+// `node_of`.
+pub enum Node {
+    Event(u16),
+    Basic(Simple),
+    Standard(Operator, Two),
+    Handler(Two),
+    Block(usize),
+    Pair(Two),
+    Compensable(Operator, Two),
+    Paired(Simple),
+    Unknown,
+}
+
+// What is asked of a node's fields and children: whether there is such a kind, its sort, whether its first field is an event,
+// how many children its fields name, and whether these are standard.
 pub struct Form {
     pub known: bool,
     pub standard: bool,
@@ -71,19 +105,63 @@ fn branch(standard: bool, kids: u8, inner: bool) -> Form
     }
 }
 
-// The sixteen kinds.
-pub fn form_of(kind: u16) -> Form
-    ensures { λ r. ⌜ r ≡ form (kindOf kind) ⌝ }
+// SKIP, THROW and YIELD stand in this order in both sorts.
+fn simple_at(k: u16) -> Simple
+    ensures { λ r. ⌜ r ≡ simple-of k ⌝ }
 {
+    match k {
+        0 => Simple::Skip,
+        1 => Simple::Throw,
+        _ => Simple::Yield,
+    }
+}
+
+// So do ; choice and parallel.
+fn operator_at(k: u16) -> Operator
+    ensures { λ r. ⌜ r ≡ operator-of k ⌝ }
+{
+    match k {
+        0 => Operator::Sequence,
+        1 => Operator::Choice,
+        _ => Operator::Parallel,
+    }
+}
+
+// The sixteen kinds, by a node's three numbers.
+pub fn node_of(kind: u16, first: u16, second: u16) -> Node
+    ensures { λ r. ⌜ r ≡ node-of kind first second ⌝ }
+{
+    let two = Two {
+        first: first as usize,
+        second: second as usize,
+    };
     match kind {
-        1 => leaf(true, true),
-        2..=4 => leaf(true, false),
-        5..=8 => branch(true, 2, true),
-        9 => branch(true, 1, false),
-        10 => branch(false, 2, true),
-        11..=13 => branch(false, 2, false),
-        14..=16 => leaf(false, false),
-        _ => Form {
+        1 => Node::Event(first),
+        2..=4 => Node::Basic(simple_at(kind - 2)),
+        5..=7 => Node::Standard(operator_at(kind - 5), two),
+        8 => Node::Handler(two),
+        9 => Node::Block(first as usize),
+        10 => Node::Pair(two),
+        11..=13 => Node::Compensable(operator_at(kind - 11), two),
+        14..=16 => Node::Paired(simple_at(kind - 14)),
+        _ => Node::Unknown,
+    }
+}
+
+// What is asked of a node.
+pub fn form_of(node: Node) -> Form
+    ensures { λ r. ⌜ r ≡ form node ⌝ }
+{
+    match node {
+        Node::Event(_) => leaf(true, true),
+        Node::Basic(_) => leaf(true, false),
+        Node::Standard(_, _) => branch(true, 2, true),
+        Node::Handler(_) => branch(true, 2, true),
+        Node::Block(_) => branch(true, 1, false),
+        Node::Pair(_) => branch(false, 2, true),
+        Node::Compensable(_, _) => branch(false, 2, false),
+        Node::Paired(_) => leaf(false, false),
+        Node::Unknown => Form {
             known: false,
             standard: false,
             event: false,
@@ -94,7 +172,7 @@ pub fn form_of(kind: u16) -> Form
 }
 
 // A node's three numbers.
-pub fn kind_at(nodes: &[u16], i: usize) -> u16
+fn kind_at(nodes: &[u16], i: usize) -> u16
     requires { ⌜ 3 * i + 2 < length (now nodes) ⌝ }
     ensures { λ r. ⌜ r ≡ getD (now (nodes .entry)) (3 * i) 0 ⌝ }
 {
@@ -115,12 +193,20 @@ pub fn second_at(nodes: &[u16], i: usize) -> u16
     nodes[3 * i + 2]
 }
 
-// What node i's kind asks.
+// What node i is.
+pub fn node_at(nodes: &[u16], i: usize) -> Node
+    requires { ⌜ 3 * i + 2 < length (now nodes) ⌝ }
+    ensures { λ r. ⌜ r ≡ node (now (nodes .entry)) i ⌝ }
+{
+    node_of(kind_at(nodes, i), first_at(nodes, i), second_at(nodes, i))
+}
+
+// What is asked of node i.
 pub fn form_at(nodes: &[u16], i: usize) -> Form
     requires { ⌜ 3 * i + 2 < length (now nodes) ⌝ }
-    ensures { λ r. ⌜ r ≡ form (kind (now (nodes .entry)) i) ⌝ }
+    ensures { λ r. ⌜ r ≡ form (node (now (nodes .entry)) i) ⌝ }
 {
-    form_of(kind_at(nodes, i))
+    form_of(node_at(nodes, i))
 }
 
 pub fn is_event(number: u16) -> bool
@@ -188,7 +274,7 @@ fn not_lower(nodes: &[u16], i: usize) -> bool
 // Whether a child, if there is one, is not of the sort asked for.
 fn sort_differs(nodes: &[u16], child: usize, used: bool, standard: bool) -> bool
     requires { ⌜ (T used → 3 * child + 2 < length (now nodes)) ⌝ }
-    ensures { λ r. ⌜ r ≡ used && xor (is-standard (kind (now (nodes .entry)) child)) standard ⌝ }
+    ensures { λ r. ⌜ r ≡ used && xor (is-standard (node (now (nodes .entry)) child)) standard ⌝ }
 {
     if !used {
         return false;
