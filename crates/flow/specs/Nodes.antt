@@ -34,6 +34,10 @@ module _ (s : Shape) where
   under-kid {i} k (self e) = up (subst (Kid i) (sym e) k) (self refl)
   under-kid k (up k′ u) = up k′ (under-kid k u)
 
+  pub under-trans : {i j k : ℕ} → Under i j → Under j k → Under i k
+  under-trans {i} u (self e) = subst (λ z. Under i z) (sym e) u
+  under-trans u (up h v) = up h (under-trans u v)
+
   module _ (tree : Tree) where
     pub under-le : {i j : ℕ} → Under i j → j ≤ i
     under-le (self e) = omega arith

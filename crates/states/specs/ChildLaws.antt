@@ -7,13 +7,12 @@ use mathlib.Core.Logic.{_≢_}
 use native.Mathlib.Omega.{arith}
 use lib.ListN.{length, getD, set, length-set}
 use lib.Seq.{getD-set-same, getD-set-other}
-use Rattle.flow.specs.Kinds.{one-of, two-of, shape}
+use Rattle.flow.specs.Kinds.{shape}
 use Rattle.flow.specs.Nodes.{Kid, Under, self, under-kid, Tree, not-under}
 use Rattle.states.specs.State.{part, modes, counts}
 use Rattle.states.specs.Stored.{stored}
 use Rattle.states.specs.StateLaws.{part-frame, stored-frame}
-use Rattle.states.specs.KindFacts.{one-kid, two-kid, apart}
-use Rattle.states.specs.Contracts.{Spot, Both, Kept, Sets}
+use Rattle.states.specs.Contracts.{Spot, Kept, Sets}
 
 -- A number is set ------------------------------------------------------------------------------------------------------------
 
@@ -41,8 +40,8 @@ module _ (ns : List ℕ) where
   kept-set w j u = w .others j (λ e. u (self e))
 
   -- what is not under c stays
-  pub kept-part : (c : ℕ) {s : ℕ} {d d′ : ℕ → ℕ} → ((j : ℕ) → Under (shape ns) c j → Under (shape ns) s j → ⊥) → Kept ns c d d′ → part ns d′ s ≡ part ns d s
-  kept-part c {s} {d} {d′} free h = part-frame ns d′ d s (λ j u. h j (λ v. free j v u))
+  pub kept-part : Tree (shape ns) → (c : ℕ) {s : ℕ} {d d′ : ℕ → ℕ} → ((j : ℕ) → Under (shape ns) c j → Under (shape ns) s j → ⊥) → Kept ns c d d′ → part ns d′ s ≡ part ns d s
+  kept-part tree c {s} {d} {d′} free h = part-frame ns tree d′ d s (λ j u. h j (λ v. free j v u))
 
   module _ (tree : Tree (shape ns)) {i : ℕ} where
     module _ {c : ℕ} (kid : Kid (shape ns) i c) where
@@ -61,10 +60,10 @@ module _ (ns : List ℕ) where
       -- the node's mode is set
       module _ {t : List ℕ} {m : ℕ} {t′ : List ℕ} (w : Sets t i m t′) where
         pub same-part : part ns (modes t′) c ≡ part ns (modes t) c
-        same-part = part-frame ns (modes t′) (modes t) c (λ j u. w .others j (not-own u))
+        same-part = part-frame ns tree (modes t′) (modes t) c (λ j u. w .others j (not-own u))
 
         pub same-stored : (a : ℕ) (b : List ℕ) → stored ns a (modes t′) (counts b) c ≡ stored ns a (modes t) (counts b) c
-        same-stored a b = stored-frame ns a (modes t′) (modes t) (counts b) (counts b) c (λ j u. w .others j (not-own u)) (λ j u. refl)
+        same-stored a b = stored-frame ns tree a (modes t′) (modes t) (counts b) (counts b) c (λ j u. w .others j (not-own u)) (λ j u. refl)
 
         pub spot-down : Spot ns t i → Spot ns t′ c
         spot-down s = lower-spot (same-room s (w .long)) kid-lower
@@ -83,25 +82,7 @@ module _ (ns : List ℕ) where
             stays j u = k j (λ v. free j v u) ∙ w .others j (λ e. not-under (shape ns) tree other (subst (Under (shape ns) s) e u))
 
             pub beside-part : part ns (modes t″) s ≡ part ns (modes t) s
-            beside-part = part-frame ns (modes t″) (modes t) s stays
+            beside-part = part-frame ns tree (modes t″) (modes t) s stays
 
             pub beside-stored : (a : ℕ) (b : List ℕ) → stored ns a (modes t″) (counts b) s ≡ stored ns a (modes t) (counts b) s
-            beside-stored a b = stored-frame ns a (modes t″) (modes t) (counts b) (counts b) s stays (λ j u. refl)
-
-    -- the children of a node that has both
-    module _ (b : Both ns i) where
-      pub kid-one : Kid (shape ns) i (one-of ns i)
-      kid-one = one-kid ns tree i (b .low) (b .high)
-
-      pub kid-two : Kid (shape ns) i (two-of ns i)
-      kid-two = two-kid ns tree i (b .low) (b .high) (b .two)
-
-      pub one-off-two : (j : ℕ) → Under (shape ns) (one-of ns i) j → Under (shape ns) (two-of ns i) j → ⊥
-      one-off-two j u v = apart ns tree i (b .low) (b .high) (b .two) u v
-
-      pub two-off-one : (j : ℕ) → Under (shape ns) (two-of ns i) j → Under (shape ns) (one-of ns i) j → ⊥
-      two-off-one j u v = one-off-two j v u
-
--- a node of a known number of a kind has both
-pub both-of : {ns : List ℕ} {i k : ℕ} → k ≡ getD ns (3 * i) 0 → 5 ≤ k → k ≤ 13 → k ≢ 9 → Both ns i
-both-of e l h n = record { low = omega arith; high = omega arith; two = λ z. n (e ∙ z) }
+            beside-stored a b = stored-frame ns tree a (modes t″) (modes t) (counts b) (counts b) s stays (λ j u. refl)

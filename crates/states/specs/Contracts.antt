@@ -19,7 +19,9 @@ use Rattle.tallies.specs.Sought.{Sought}
 use Rattle.tallies.specs.declared.Weight.{Weight}
 use Rattle.states.specs.State.{part, modes, counts}
 use Rattle.states.specs.Stored.{stored}
-use Rattle.states.specs.Roles.{Role, get, nexts, many, Seen, look, ok}
+use Rattle.states.specs.declared.Role.{Role}
+use Rattle.states.specs.declared.Sense.the-variants.{Undoing}
+use Rattle.states.specs.Roles.{get, nexts, many, Seen, look, ok}
 
 -- a table that checks 1 to 9 passed
 pub record Sound (ns : List ℕ) : Type 0 where
@@ -27,13 +29,13 @@ pub record Sound (ns : List ℕ) : Type 0 where
   pub tree : Tree (shape ns)
 
 -- node i of such a table
-pub record Node (ns : List ℕ) (i : ℕ) : Type 0 where
+pub record Inside (ns : List ℕ) (i : ℕ) : Type 0 where
   pub sound : Sound ns
   pub inside : 3 * i + 2 < length ns
 
 -- and its place in a stretch t of the work bytes
 pub record Spot (ns t : List ℕ) (i : ℕ) : Type 0 where
-  pub node : Node ns i
+  pub node : Inside ns i
   pub room : i < length t
 
 -- t′ is t, but for number i, which is n
@@ -41,16 +43,6 @@ pub record Sets (t : List ℕ) (i n : ℕ) (t′ : List ℕ) : Type 0 where
   pub here : getD t′ i 0 ≡ n
   pub others : (j : ℕ) → j ≢ i → getD t′ j 0 ≡ getD t j 0
   pub long : length t′ ≡ length t
-
--- a node with a first child, and with two
-pub record First (ns : List ℕ) (i : ℕ) : Type 0 where
-  pub low : 5 ≤ getD ns (3 * i) 0
-  pub high : getD ns (3 * i) 0 ≤ 13
-
-pub record Both (ns : List ℕ) (i : ℕ) : Type 0 where
-  pub low : 5 ≤ getD ns (3 * i) 0
-  pub high : getD ns (3 * i) 0 ≤ 13
-  pub two : getD ns (3 * i) 0 ≢ 9
 
 module _ (ns : List ℕ) where
   -- outside what is under i, d′ is as d
@@ -64,7 +56,7 @@ module _ (ns : List ℕ) where
   -- a compensation is chosen: modes t before and t′ after, event a, closing w, weights g, the number j that falls on it, the
   -- rest of j within it, its steps and whether it can end done
   pub record Chosen (t : List ℕ) (a i : ℕ) (w : Closing) (g : Weight) (j : ℕ) (t′ : List ℕ) (rest steps : ℕ) (able : Bool) : Type 0 where
-    pub sought : Sought a g (comps (part ns (modes t) i .run) w) j (part ns (modes t′) i .left) rest steps able
+    pub sought : Sought a g (comps (part ns (modes t) i .run) w) j (part ns (modes t′) i .std Undoing) rest steps able
     pub kept : Kept i (modes t) (modes t′)
 
 module _ (ns : List ℕ) (a : ℕ) where

@@ -1,9 +1,10 @@
 -- Definitions.
+pub mod Standings
 pub mod State
 pub mod Stored
 pub mod Roles
 pub mod Contracts
 -- Theorems.
+pub mod Rests
 pub mod StateLaws
-pub mod KindFacts
 pub mod ChildLaws

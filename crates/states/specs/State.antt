@@ -1,66 +1,52 @@
 -- What a state means: a state keeps one number a node, its mode, and the drawn table; from both come the term of each node as a
--- standard part, as a compensable part that runs, and as a part that has become its compensation. All modes 0 is the drawn flow.
---
---   event                 0 ahead, else done
---   P;Q, handler          0 as drawn, else second only
---   choice, both sorts    0 open, 1 first taken, else second
---   block                 0 inside, else compensating
---   pair                  0 running, 1 left Q, else left SKIP
---   PP;QQ                 0 first, 1 held, 2 left PP's compensation only, else QQ's then PP's
---
--- Definitions only; their laws are in StateLaws. Assumes nothing.
+-- standard part, drawn or a compensation, and as a compensable part that runs. Definitions only; their laws are in StateLaws.
+-- Assumes nothing.
 use Prim.Native.Nat.{ℕ}
-use mathlib.Core.Bool.{cond}
 use mathlib.Core.List.{List}
-use lib.Dec.{eqb}
 use lib.ListN.{getD}
-use Rattle.calculus.specs.Term.{leaf, Std, Cmp, skip, throw, yield, ev, seq, alt, par, hnd, blk, pair, cseq, calt, cpar, held, skipp, throww, yieldd}
-use Rattle.flow.specs.Kinds.{Kind, Event, Skip, Throw, Yield, Seq, Alt, Par, Hnd, Blk, Pair, CSeq, CAlt, CPar, Skipp, Throww, Yieldd, Unknown, kind, one-of, shape}
-use Rattle.flow.specs.Nodes.{fold}
+use Rattle.calculus.specs.Term.{leaf, Std, Cmp, skip, ev, hnd, blk, pair, held, skipp}
+use Rattle.flow.specs.declared.Node.{Node}
+use Rattle.flow.specs.Nodes.{descend}
+use Rattle.flow.specs.Kinds.{node}
+use Rattle.flow.specs.Draws.{basic, paired, standard, compensable}
+use Rattle.states.specs.declared.Sense.{Sense}
+use Rattle.states.specs.declared.Sense.the-variants.{Drawn, Undoing}
+use Rattle.states.specs.declared.Standing.{Standing}
+use Rattle.states.specs.declared.Standing.the-variants as standing
+use Rattle.states.specs.declared.Course.{Course}
+use Rattle.states.specs.declared.Course.the-variants as course
+use Rattle.states.specs.Standings.{stand, course-of}
 
+-- the terms of a node
 pub record Part : Type 0 where
-  pub std : Std
+  pub std : Sense → Std
   pub run : Cmp
-  pub left : Std
 
-abbrev pub standard : Std → Part
-standard p = record { std = p; run = skipp; left = skip }
+abbrev pub nothing : Part
+nothing = record { std = λ s. skip; run = skipp }
 
-abbrev pub compensable : Cmp → Std → Part
-compensable pp q = record { std = skip; run = pp; left = q }
+-- what the nodes stand for is `at`
+unfoldable pub std-of : Standing → Sense → (ℕ → Part) → Std
+std-of (standing.Event e) s at = ev (leaf e)
+std-of (standing.Basic b) s at = basic b
+std-of (standing.Both o t) s at = standard o (at (t .first) .std s) (at (t .second) .std s)
+std-of (standing.Handler t) s at = hnd (at (t .first) .std s) (at (t .second) .std s)
+std-of (standing.Block c) s at = blk (at c .run)
+std-of (standing.As x) s at = at (x .node) .std (x .sense)
 
--- by mode: 0, 1, else
-abbrev pub by-mode : {A : Type 0} → ℕ → A → A → A → A
-by-mode m x y z = cond (eqb m 0) x (cond (eqb m 1) y z)
+unfoldable pub run-of : Course → (ℕ → Part) → Cmp
+run-of (course.Basic b) at = paired b
+run-of (course.Pair t) at = pair (at (t .first) .std Drawn) (at (t .second) .std Drawn)
+run-of (course.Both o t) at = compensable o (at (t .first) .run) (at (t .second) .run)
+run-of (course.Held t) at = held (at (t .second) .run) (at (t .first) .std Undoing)
+run-of (course.As c) at = at c .run
 
--- a node: its kind, its mode, its event, its first and its second part
-unfoldable pub build : Kind → ℕ → ℕ → Part → Part → Part
-build Event m e x y = standard (cond (eqb m 0) (ev (leaf e)) skip)
-build Skip m e x y = standard skip
-build Throw m e x y = standard throw
-build Yield m e x y = standard yield
-build Seq m e x y = standard (cond (eqb m 0) (seq (x .std) (y .std)) (y .std))
-build Alt m e x y = standard (by-mode m (alt (x .std) (y .std)) (x .std) (y .std))
-build Par m e x y = standard (par (x .std) (y .std))
-build Hnd m e x y = standard (cond (eqb m 0) (hnd (x .std) (y .std)) (y .std))
-build Blk m e x y = standard (cond (eqb m 0) (blk (x .run)) (x .left))
-build Pair m e x y = compensable (pair (x .std) (y .std)) (cond (eqb m 1) (y .std) skip)
-build CSeq m e x y = compensable (cond (eqb m 0) (cseq (x .run) (y .run)) (held (y .run) (x .left))) (cond (eqb m 2) (x .left) (seq (y .left) (x .left)))
-build CAlt m e x y = compensable (by-mode m (calt (x .run) (y .run)) (x .run) (y .run)) (cond (eqb m 1) (x .left) (y .left))
-build CPar m e x y = compensable (cpar (x .run) (y .run)) (par (x .left) (y .left))
-build Skipp m e x y = compensable skipp skip
-build Throww m e x y = compensable throww skip
-build Yieldd m e x y = compensable yieldd skip
-build Unknown m e x y = standard skip
+unfoldable pub build : Node → ℕ → (ℕ → Part) → Part
+build n m at = record { std = λ s. std-of (stand s n m) s at; run = run-of (course-of n m) at }
 
-module _ (ns : List ℕ) where
-  abbrev pub part-node : (ℕ → ℕ) → ℕ → Part → Part → Part
-  part-node m i x y = build (kind ns i) (m i) (one-of ns i) x y
-
-  -- the part of node i, by the modes m
-  unfoldable pub part : (ℕ → ℕ) → ℕ → Part
-  unfolding fold build
-  part m i = fold (shape ns) (standard skip) (part-node m) i
+-- the part of node i, by the modes m
+unfoldable pub part : List ℕ → (ℕ → ℕ) → ℕ → Part
+part ns m i = descend nothing (λ j at. build (node ns j) (m j) at) i
 
 -- the modes that a stretch of the work bytes holds: node j's at byte j
 abbrev pub modes : List ℕ → ℕ → ℕ

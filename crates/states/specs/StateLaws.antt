@@ -1,143 +1,127 @@
--- Laws of states and of stored counts: what a node's part and its counts are from its children's (`part-is`, `stored-is`), and
--- that both depend only on what is under the node (`part-frame`, `stored-frame`). Assumes nothing.
+-- Laws of states and of stored counts: what a node's part and its counts are from those of its live parts (`std-part`, `run-part`,
+-- `std-stored`, `run-stored`), and that both depend only on what is under the node (`part-frame`, `stored-frame`). Assumes nothing.
 use Prim.Native.Nat.{ℕ}
 use mathlib.Core.Path.{_≡_, refl, sym, _∙_, ap, subst}
-use mathlib.Core.Bool.{not}
+use mathlib.Core.Bool.{Bool, _&&_}
 use mathlib.Core.List.{List}
-use lib.Dec.{T, eqb}
+use lib.Dec.{eqb}
 use lib.ListN.{length}
-use Rattle.calculus.specs.Term.{skip}
+use Rattle.calculus.specs.Term.{hnd, blk, pair, held}
 use Rattle.calculus.specs.Successors.{steps, csteps}
-use Rattle.flow.specs.Kinds.{Kind, Event, Skip, Throw, Yield, Seq, Alt, Par, Hnd, Blk, Pair, CSeq, CAlt, CPar, Skipp, Throww, Yieldd, Unknown, kids, kind, one-of, two-of, shape}
-use Rattle.flow.specs.Nodes.{Under, self, up, Tree, fold-node, fold-frame}
+use Rattle.flow.specs.Nodes.{Kid, Under, under-trans, Tree, Local, descend-node, descend-frame}
+use Rattle.flow.specs.Kinds.{node, shape}
+use Rattle.flow.specs.Draws.{standard, compensable}
 use Rattle.tallies.specs.Capped.{cap}
-use Rattle.states.specs.State.{Part, standard, build, part-node, part}
-use Rattle.states.specs.Stored.{Right, wrong, right, own, stored}
+use Rattle.states.specs.declared.Sense.{Sense}
+use Rattle.states.specs.declared.Sense.the-variants.{Drawn, Undoing}
+use Rattle.states.specs.declared.Standing.{Standing}
+use Rattle.states.specs.declared.Standing.the-variants as standing
+use Rattle.states.specs.declared.Course.{Course}
+use Rattle.states.specs.declared.Course.the-variants as course
+use Rattle.states.specs.Standings.{stand, course-of}
+use Rattle.states.specs.State.{Part, nothing, std-of, run-of, build, part}
+use Rattle.states.specs.Stored.{Right, wrong, std-right, run-right, right, own, stored}
+use Rattle.states.specs.Rests.{Twins, Rests, CRests, stand-rests, course-rests}
 
--- A kind does nothing with a child that it has not -------------------------------------------------------------------------
+-- A node looks at its children only -----------------------------------------------------------------------------------------
 
-module _ (m e : ℕ) where
-  build-first : (k : Kind) → T (not (not (eqb (kids k) 0))) → (x x′ y : Part) → build k m e x y ≡ build k m e x′ y
-  unfolding build
-  build-first Event h x x′ y = refl
-  build-first Skip h x x′ y = refl
-  build-first Throw h x x′ y = refl
-  build-first Yield h x x′ y = refl
-  build-first Seq h x x′ y = absurd h
-  build-first Alt h x x′ y = absurd h
-  build-first Par h x x′ y = absurd h
-  build-first Hnd h x x′ y = absurd h
-  build-first Blk h x x′ y = absurd h
-  build-first Pair h x x′ y = absurd h
-  build-first CSeq h x x′ y = absurd h
-  build-first CAlt h x x′ y = absurd h
-  build-first CPar h x x′ y = absurd h
-  build-first Skipp h x x′ y = refl
-  build-first Throww h x x′ y = refl
-  build-first Yieldd h x x′ y = refl
-  build-first Unknown h x x′ y = refl
+module _ (ns : List ℕ) (i : ℕ) where
+  module _ (g h : ℕ → Part) (e : (c : ℕ) → Kid (shape ns) i c → g c ≡ h c) where
+    std-local : (x : Standing) (s : Sense) → Rests ns i x → std-of x s g ≡ std-of x s h
+    unfolding std-of
+    std-local (standing.Event v) s w = refl
+    std-local (standing.Basic b) s w = refl
+    std-local (standing.Both o t) s w = λ z. standard o (e (t .first) (w .one) z .std s) (e (t .second) (w .other) z .std s)
+    std-local (standing.Handler t) s w = λ z. hnd (e (t .first) (w .one) z .std s) (e (t .second) (w .other) z .std s)
+    std-local (standing.Block c) s w = λ z. blk (e c w z .run)
+    std-local (standing.As x) s w = λ z. e (x .node) w z .std (x .sense)
 
-  build-second : (k : Kind) → T (not (eqb (kids k) 2)) → (x y y′ : Part) → build k m e x y ≡ build k m e x y′
-  unfolding build
-  build-second Event h x y y′ = refl
-  build-second Skip h x y y′ = refl
-  build-second Throw h x y y′ = refl
-  build-second Yield h x y y′ = refl
-  build-second Seq h x y y′ = absurd h
-  build-second Alt h x y y′ = absurd h
-  build-second Par h x y y′ = absurd h
-  build-second Hnd h x y y′ = absurd h
-  build-second Blk h x y y′ = refl
-  build-second Pair h x y y′ = absurd h
-  build-second CSeq h x y y′ = absurd h
-  build-second CAlt h x y y′ = absurd h
-  build-second CPar h x y y′ = absurd h
-  build-second Skipp h x y y′ = refl
-  build-second Throww h x y y′ = refl
-  build-second Yieldd h x y y′ = refl
-  build-second Unknown h x y y′ = refl
+    run-local : (x : Course) → CRests ns i x → run-of x g ≡ run-of x h
+    unfolding run-of
+    run-local (course.Basic b) w = refl
+    run-local (course.Pair t) w = λ z. pair (e (t .first) (w .one) z .std Drawn) (e (t .second) (w .other) z .std Drawn)
+    run-local (course.Both o t) w = λ z. compensable o (e (t .first) (w .one) z .run) (e (t .second) (w .other) z .run)
+    run-local (course.Held t) w = λ z. held (e (t .second) (w .other) z .run) (e (t .first) (w .one) z .std Undoing)
+    run-local (course.As c) w = λ z. e c w z .run
 
-module _ (m : ℕ) (o : Right) where
-  right-first : (k : Kind) → T (not (not (eqb (kids k) 0))) → (x x′ y : Right) → right k m o x y ≡ right k m o x′ y
-  unfolding right
-  right-first Event h x x′ y = refl
-  right-first Skip h x x′ y = refl
-  right-first Throw h x x′ y = refl
-  right-first Yield h x x′ y = refl
-  right-first Seq h x x′ y = absurd h
-  right-first Alt h x x′ y = absurd h
-  right-first Par h x x′ y = absurd h
-  right-first Hnd h x x′ y = absurd h
-  right-first Blk h x x′ y = absurd h
-  right-first Pair h x x′ y = absurd h
-  right-first CSeq h x x′ y = absurd h
-  right-first CAlt h x x′ y = absurd h
-  right-first CPar h x x′ y = absurd h
-  right-first Skipp h x x′ y = refl
-  right-first Throww h x x′ y = refl
-  right-first Yieldd h x x′ y = refl
-  right-first Unknown h x x′ y = refl
+  module _ (g h : ℕ → Right) (e : (c : ℕ) → Kid (shape ns) i c → g c ≡ h c) where
+    std-right-local : (x : Standing) (s : Sense) → Rests ns i x → std-right x s g ≡ std-right x s h
+    unfolding std-right
+    std-right-local (standing.Event v) s w = refl
+    std-right-local (standing.Basic b) s w = refl
+    std-right-local (standing.Both o t) s w = λ z. e (t .first) (w .one) z .std s && e (t .second) (w .other) z .std s
+    std-right-local (standing.Handler t) s w = λ z. e (t .first) (w .one) z .std s && e (t .second) (w .other) z .std s
+    std-right-local (standing.Block c) s w = λ z. e c w z .run
+    std-right-local (standing.As x) s w = λ z. e (x .node) w z .std (x .sense)
 
-  right-second : (k : Kind) → T (not (eqb (kids k) 2)) → (x y y′ : Right) → right k m o x y ≡ right k m o x y′
-  unfolding right
-  right-second Event h x y y′ = refl
-  right-second Skip h x y y′ = refl
-  right-second Throw h x y y′ = refl
-  right-second Yield h x y y′ = refl
-  right-second Seq h x y y′ = absurd h
-  right-second Alt h x y y′ = absurd h
-  right-second Par h x y y′ = absurd h
-  right-second Hnd h x y y′ = absurd h
-  right-second Blk h x y y′ = refl
-  right-second Pair h x y y′ = absurd h
-  right-second CSeq h x y y′ = absurd h
-  right-second CAlt h x y y′ = absurd h
-  right-second CPar h x y y′ = absurd h
-  right-second Skipp h x y y′ = refl
-  right-second Throww h x y y′ = refl
-  right-second Yieldd h x y y′ = refl
-  right-second Unknown h x y y′ = refl
-
--- One node -----------------------------------------------------------------------------------------------------------------
+    run-right-local : (x : Course) → CRests ns i x → run-right x g ≡ run-right x h
+    unfolding run-right
+    run-right-local (course.Basic b) w = refl
+    run-right-local (course.Pair t) w = λ z. e (t .first) (w .one) z .std Drawn
+    run-right-local (course.Both o t) w = λ z. e (t .first) (w .one) z .run && e (t .second) (w .other) z .run
+    run-right-local (course.Held t) w = λ z. e (t .second) (w .other) z .run
+    run-right-local (course.As c) w = λ z. e c w z .run
 
 module _ (ns : List ℕ) (tree : Tree (shape ns)) where
-  pub part-is : (m : ℕ → ℕ) (i : ℕ) → part ns m i ≡ build (kind ns i) (m i) (one-of ns i) (part ns m (one-of ns i)) (part ns m (two-of ns i))
-  unfolding part
-  part-is m i = fold-node (shape ns) (standard skip) tree (part-node ns m) i (build-first (m i) (one-of ns i) (kind ns i)) (build-second (m i) (one-of ns i) (kind ns i))
+  build-local : (m : ℕ → ℕ) (i : ℕ) → Local nothing (shape ns) (λ j at. build (node ns j) (m j) at) i
+  unfolding build
+  build-local m i g h e = λ z. record {
+    std = λ s. std-local ns i g h e (stand s (node ns i) (m i)) s (stand-rests ns i tree s (m i)) z;
+    run = run-local ns i g h e (course-of (node ns i) (m i)) (course-rests ns i tree (m i)) z;
+  }
 
-  -- the same, of a known kind
-  pub part-of : (m : ℕ → ℕ) (i : ℕ) {k : Kind} → kind ns i ≡ k → part ns m i ≡ build k (m i) (one-of ns i) (part ns m (one-of ns i)) (part ns m (two-of ns i))
-  part-of m i e = part-is m i ∙ ap (λ z. build z (m i) (one-of ns i) (part ns m (one-of ns i)) (part ns m (two-of ns i))) e
+  right-local : (o : ℕ → Right) (m : ℕ → ℕ) (i : ℕ) → Local wrong (shape ns) (λ j at. right (o j) (node ns j) (m j) at) i
+  unfolding right
+  right-local o m i g h e = λ z. record {
+    std = λ s. o i .std s && std-right-local ns i g h e (stand s (node ns i) (m i)) s (stand-rests ns i tree s (m i)) z;
+    run = o i .run && run-right-local ns i g h e (course-of (node ns i) (m i)) (course-rests ns i tree (m i)) z;
+  }
 
-  module _ (a : ℕ) (m c : ℕ → ℕ) where
-    pub stored-is : (i : ℕ) → stored ns a m c i ≡ right (kind ns i) (m i) (own ns a m c i) (stored ns a m c (one-of ns i)) (stored ns a m c (two-of ns i))
+  -- One node -----------------------------------------------------------------------------------------------------------------
+
+  module _ (m : ℕ → ℕ) (i : ℕ) where
+    part-is : part ns m i ≡ build (node ns i) (m i) (part ns m)
+    unfolding part
+    part-is = descend-node nothing (shape ns) tree (λ j at. build (node ns j) (m j) at) i (build-local m i)
+
+    pub std-part : (s : Sense) → part ns m i .std s ≡ std-of (stand s (node ns i) (m i)) s (part ns m)
+    unfolding build
+    std-part s = λ z. part-is z .std s
+
+    pub run-part : part ns m i .run ≡ run-of (course-of (node ns i) (m i)) (part ns m)
+    unfolding build
+    run-part = λ z. part-is z .run
+
+  module _ (a : ℕ) (m c : ℕ → ℕ) (i : ℕ) where
+    stored-is : stored ns a m c i ≡ right (own ns a m c i) (node ns i) (m i) (stored ns a m c)
     unfolding stored
-    stored-is i = fold-node (shape ns) wrong tree (λ j x y. right (kind ns j) (m j) (own ns a m c j) x y) i (right-first (m i) (own ns a m c i) (kind ns i)) (right-second (m i) (own ns a m c i) (kind ns i))
+    stored-is = descend-node wrong (shape ns) tree (λ j at. right (own ns a m c j) (node ns j) (m j) at) i (right-local (own ns a m c) m i)
 
-    pub stored-of : (i : ℕ) {k : Kind} → kind ns i ≡ k → stored ns a m c i ≡ right k (m i) (own ns a m c i) (stored ns a m c (one-of ns i)) (stored ns a m c (two-of ns i))
-    stored-of i e = stored-is i ∙ ap (λ z. right z (m i) (own ns a m c i) (stored ns a m c (one-of ns i)) (stored ns a m c (two-of ns i))) e
+    pub std-stored : (s : Sense) → stored ns a m c i .std s ≡ (own ns a m c i .std s && std-right (stand s (node ns i) (m i)) s (stored ns a m c))
+    unfolding right
+    std-stored s = λ z. stored-is z .std s
 
--- What is under the node -----------------------------------------------------------------------------------------------------
+    pub run-stored : stored ns a m c i .run ≡ (own ns a m c i .run && run-right (course-of (node ns i) (m i)) (stored ns a m c))
+    unfolding right
+    run-stored = λ z. stored-is z .run
 
-module _ (ns : List ℕ) where
-  pub under-trans : {i j k : ℕ} → Under (shape ns) i j → Under (shape ns) j k → Under (shape ns) i k
-  under-trans {i} u (self e) = subst (λ z. Under (shape ns) i z) (sym e) u
-  under-trans u (up h v) = up h (under-trans u v)
+  -- What is under the node -----------------------------------------------------------------------------------------------------
 
   pub part-frame : (m m′ : ℕ → ℕ) (i : ℕ) → ((j : ℕ) → Under (shape ns) i j → m j ≡ m′ j) → part ns m i ≡ part ns m′ i
   unfolding part
-  part-frame m m′ i e = fold-frame (shape ns) (standard skip) (part-node ns m) (part-node ns m′) i (λ j u z x y. build (kind ns j) (e j u z) (one-of ns j) x y)
+  part-frame m m′ i e = descend-frame nothing (shape ns) (λ j at. build (node ns j) (m j) at) (λ j at. build (node ns j) (m′ j) at)
+      (build-local m′) i (λ j u z at. build (node ns j) (e j u z) at)
 
   module _ (a : ℕ) (m m′ c c′ : ℕ → ℕ) where
     own-frame : (j : ℕ) → part ns m j ≡ part ns m′ j → c j ≡ c′ j → own ns a m c j ≡ own ns a m′ c′ j
     unfolding own
     own-frame j e d = λ z. record {
-      std = eqb (d z) (cap (length (steps (e z .std) a)));
+      std = λ s. eqb (d z) (cap (length (steps (e z .std s) a)));
       run = eqb (d z) (cap (length (csteps (e z .run) a)));
-      left = eqb (d z) (cap (length (steps (e z .left) a)));
     }
 
     pub stored-frame : (i : ℕ) → ((j : ℕ) → Under (shape ns) i j → m j ≡ m′ j) → ((j : ℕ) → Under (shape ns) i j → c j ≡ c′ j) → stored ns a m c i ≡ stored ns a m′ c′ i
     unfolding stored
-    stored-frame i e d = fold-frame (shape ns) wrong (λ j x y. right (kind ns j) (m j) (own ns a m c j) x y) (λ j x y. right (kind ns j) (m′ j) (own ns a m′ c′ j) x y) i
-        (λ j u z x y. right (kind ns j) (e j u z) (own-frame j (part-frame m m′ j (λ k v. e k (under-trans u v))) (d j u) z) x y)
+    stored-frame i e d = descend-frame wrong (shape ns) (λ j at. right (own ns a m c j) (node ns j) (m j) at) (λ j at. right (own ns a m′ c′ j) (node ns j) (m′ j) at)
+        (right-local (own ns a m′ c′) m′) i
+        (λ j u z at. right (own-frame j (part-frame m m′ j (λ k v. e k (under-trans (shape ns) u v))) (d j u) z) (node ns j) (e j u z) at)

@@ -1,55 +1,60 @@
--- The counts that a pass over a state leaves in its table: how many steps each live part has by the event a, capped. A part is
--- live in one role, as a standard part, as one that runs or as one that has become its compensation; only what is live under a
--- node in that role is looked at. Definitions only. Assumes nothing.
+-- The counts that a pass over a state leaves in its table: how many steps each live part has by the event a, capped. Only what is
+-- live under a node is looked at. Definitions only. Assumes nothing.
 use Prim.Native.Nat.{ℕ}
-use mathlib.Core.Bool.{Bool, true, false, _&&_, cond}
+use mathlib.Core.Bool.{Bool, true, false, _&&_}
 use mathlib.Core.List.{List}
 use lib.Dec.{eqb}
 use lib.ListN.{length}
 use Rattle.calculus.specs.Successors.{steps, csteps}
-use Rattle.flow.specs.Kinds.{Kind, Event, Skip, Throw, Yield, Seq, Alt, Par, Hnd, Blk, Pair, CSeq, CAlt, CPar, Skipp, Throww, Yieldd, Unknown, kind, shape}
-use Rattle.flow.specs.Nodes.{fold}
+use Rattle.flow.specs.declared.Node.{Node}
+use Rattle.flow.specs.Nodes.{descend}
+use Rattle.flow.specs.Kinds.{node}
 use Rattle.tallies.specs.Capped.{cap}
-use Rattle.states.specs.State.{by-mode, part}
+use Rattle.states.specs.declared.Sense.{Sense}
+use Rattle.states.specs.declared.Sense.the-variants.{Drawn}
+use Rattle.states.specs.declared.Standing.{Standing}
+use Rattle.states.specs.declared.Standing.the-variants as standing
+use Rattle.states.specs.declared.Course.{Course}
+use Rattle.states.specs.declared.Course.the-variants as course
+use Rattle.states.specs.Standings.{stand, course-of}
+use Rattle.states.specs.State.{part}
 
--- whether all counts under a node are right, by its role
+-- whether all counts under a node are right, by what it is live as
 pub record Right : Type 0 where
-  pub std : Bool
+  pub std : Sense → Bool
   pub run : Bool
-  pub left : Bool
 
 abbrev pub wrong : Right
-wrong = record { std = false; run = false; left = false }
+wrong = record { std = λ s. false; run = false }
 
--- the node's own count is right, and those of its parts in the roles that they have
-unfoldable pub right : Kind → ℕ → Right → Right → Right → Right
-right Event m o x y = o
-right Skip m o x y = o
-right Throw m o x y = o
-right Yield m o x y = o
-right Seq m o x y = record { std = o .std && cond (eqb m 0) (x .std && y .std) (y .std); run = o .run; left = o .left }
-right Alt m o x y = record { std = o .std && by-mode m (x .std && y .std) (x .std) (y .std); run = o .run; left = o .left }
-right Par m o x y = record { std = o .std && (x .std && y .std); run = o .run; left = o .left }
-right Hnd m o x y = record { std = o .std && cond (eqb m 0) (x .std && y .std) (y .std); run = o .run; left = o .left }
-right Blk m o x y = record { std = o .std && cond (eqb m 0) (x .run) (x .left); run = o .run; left = o .left }
-right Pair m o x y = record { std = o .std; run = o .run && x .std; left = o .left && cond (eqb m 1) (y .std) true }
-right CSeq m o x y = record { std = o .std; run = o .run && cond (eqb m 0) (x .run && y .run) (y .run); left = o .left && cond (eqb m 2) (x .left) (y .left && x .left) }
-right CAlt m o x y = record { std = o .std; run = o .run && by-mode m (x .run && y .run) (x .run) (y .run); left = o .left && cond (eqb m 1) (x .left) (y .left) }
-right CPar m o x y = record { std = o .std; run = o .run && (x .run && y .run); left = o .left && (x .left && y .left) }
-right Skipp m o x y = o
-right Throww m o x y = o
-right Yieldd m o x y = o
-right Unknown m o x y = o
+-- the counts of the live parts are right
+unfoldable pub std-right : Standing → Sense → (ℕ → Right) → Bool
+std-right (standing.Event e) s at = true
+std-right (standing.Basic b) s at = true
+std-right (standing.Both o t) s at = at (t .first) .std s && at (t .second) .std s
+std-right (standing.Handler t) s at = at (t .first) .std s && at (t .second) .std s
+std-right (standing.Block c) s at = at c .run
+std-right (standing.As x) s at = at (x .node) .std (x .sense)
+
+-- the second part of a pair, and what is held, make no step
+unfoldable pub run-right : Course → (ℕ → Right) → Bool
+run-right (course.Basic b) at = true
+run-right (course.Pair t) at = at (t .first) .std Drawn
+run-right (course.Both o t) at = at (t .first) .run && at (t .second) .run
+run-right (course.Held t) at = at (t .second) .run
+run-right (course.As c) at = at c .run
+
+-- and so is the node's own
+unfoldable pub right : Right → Node → ℕ → (ℕ → Right) → Right
+right o n m at = record { std = λ s. o .std s && std-right (stand s n m) s at; run = o .run && run-right (course-of n m) at }
 
 module _ (ns : List ℕ) (a : ℕ) (m c : ℕ → ℕ) where
-  -- the count of node j is that of its part, in each role
+  -- the count of node j is that of its part
   unfoldable pub own : ℕ → Right
   own j = record {
-    std = eqb (c j) (cap (length (steps (part ns m j .std) a)));
+    std = λ s. eqb (c j) (cap (length (steps (part ns m j .std s) a)));
     run = eqb (c j) (cap (length (csteps (part ns m j .run) a)));
-    left = eqb (c j) (cap (length (steps (part ns m j .left) a)));
   }
 
   unfoldable pub stored : ℕ → Right
-  unfolding fold own right
-  stored i = fold (shape ns) wrong (λ j x y. right (kind ns j) (m j) (own j) x y) i
+  stored i = descend wrong (λ j at. right (own j) (node ns j) (m j) at) i

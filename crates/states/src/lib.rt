@@ -1,42 +1,89 @@
-// The numbers of a node, and its mode in a stretch of the work bytes.
+// A state: the modes of the nodes, one byte each, beside the table that never changes. `stand_at` and `course_at` say what is left of
+// a part in a state, in the calculus's words, with the parts that are live; everything that counts, chooses or steps goes by them.
+use flow::Node;
+use flow::Operator;
+use flow::Simple;
+use flow::Two;
 ghost use mathlib.Core.Path.{_≡_};
 ghost use Prim.Native.Nat.{_<_};
 ghost use lib.ListN.{length, set};
-ghost use Rattle.flow.specs.Kinds.{one-of, two-of};
+ghost use Rattle.flow.specs.Kinds.{node};
+ghost use Rattle.states.specs.Standings.{only, drawn-two, undoing-two, stand-drawn, stand-undoing, stand, course-two, course-of};
 ghost use Rattle.states.specs.State.{modes};
-ghost use Rattle.states.specs.Contracts.{Node, First, Both};
+ghost use Rattle.states.specs.Contracts.{Spot};
 
-fn wide(x: u16) -> usize
-    ensures { λ r. ⌜ r ≡ x ⌝ }
-{
-    x as usize
+// A standard part is one that is drawn, or the compensation that a compensable part has become.
+pub enum Sense {
+    Drawn,
+    Undoing,
 }
 
-// The first child of a node of kind 5 to 13.
-pub fn first_child(ns: &[u16], i: usize) -> usize
-    requires { ⌜ Node (now ns) i ⌝ }
-    requires { ⌜ First (now ns) i ⌝ }
-    ensures { λ r. ⌜ r ≡ one-of (now (ns .entry)) i ⌝ }
-    ensures lower { λ r. ⌜ r < i ⌝ }
-{
-    wide(flow::first_at(ns, i))
+// What a part is live as: a standard part, or a compensable one that runs.
+pub enum Role {
+    Plain(Sense),
+    Running,
 }
 
-// The second child of a node of kind 5 to 8 or 10 to 13.
-pub fn second_child(ns: &[u16], i: usize) -> usize
-    requires { ⌜ Node (now ns) i ⌝ }
-    requires { ⌜ Both (now ns) i ⌝ }
-    ensures { λ r. ⌜ r ≡ two-of (now (ns .entry)) i ⌝ }
-    ensures lower { λ r. ⌜ r < i ⌝ }
-{
-    wide(flow::second_at(ns, i))
+// A part that is live in place of another.
+pub struct Sub {
+    pub node: usize,
+    pub sense: Sense,
 }
 
-pub fn mode_of(state: &[u8], i: usize) -> u8
-    requires { ⌜ i < length (now state) ⌝ }
-    ensures { λ r. ⌜ r ≡ modes (now (state .entry)) i ⌝ }
+// What a standard part is in a state. The parts of `Both` and `Handler` are live in the part's own sense; that of `Block` runs.
+pub enum Standing {
+    Event(u16),
+    Basic(Simple),
+    Both(Operator, Two),
+    Handler(Two),
+    Block(usize),
+    As(Sub),
+}
+
+// What a compensable part that runs is in a state. Both parts of a pair are drawn, the parts of `Both` run; of `Held` the second
+// runs, and the first has become the compensation that is held for it.
+pub enum Course {
+    Basic(Simple),
+    Pair(Two),
+    Both(Operator, Two),
+    Held(Two),
+    As(usize),
+}
+
+// The modes of a node, by what it is. All parts of a flow that is drawn have the first.
+pub const AS_DRAWN: u8 = 0;
+
+// An event has been taken.
+pub const TAKEN: u8 = 1;
+
+// P;Q and the handler have gone on to their second part.
+pub const MOVED_ON: u8 = 1;
+
+// A choice has been made.
+pub const FIRST_TAKEN: u8 = 1;
+
+pub const SECOND_TAKEN: u8 = 2;
+
+// A block is undoing what was done in it.
+pub const COMPENSATING: u8 = 1;
+
+// A pair has left its second part to be done, or nothing.
+pub const LEFT_SECOND: u8 = 1;
+
+pub const LEFT_NOTHING: u8 = 2;
+
+// PP;QQ holds PP's compensation; it has left PP's only; it has left QQ's and then PP's.
+pub const HELD: u8 = 1;
+
+pub const LEFT_FIRST: u8 = 2;
+
+pub const LEFT_BOTH: u8 = 3;
+
+pub fn mode_of(t: &[u8], i: usize) -> u8
+    requires { ⌜ i < length (now t) ⌝ }
+    ensures { λ r. ⌜ r ≡ modes (now (t .entry)) i ⌝ }
 {
-    state[i]
+    t[i]
 }
 
 pub fn set_mode(t: &mut [u8], i: usize, mode: u8)
@@ -44,4 +91,151 @@ pub fn set_mode(t: &mut [u8], i: usize, mode: u8)
     ensures { λ r. ⌜ now (t .exit) ≡ set (now (t .entry)) i mode ⌝ }
 {
     t[i] = mode;
+}
+
+fn only(node: usize, sense: Sense) -> Standing
+    ensures { λ r. ⌜ r ≡ only node sense ⌝ }
+{
+    Standing::As(Sub { node, sense })
+}
+
+// Of two standard parts.
+fn drawn_two(operator: Operator, two: Two, mode: u8) -> Standing
+    ensures { λ r. ⌜ r ≡ drawn-two operator two mode ⌝ }
+{
+    if mode == AS_DRAWN {
+        return Standing::Both(operator, two);
+    }
+    match operator {
+        Operator::Sequence => only(two.second, Sense::Drawn),
+        Operator::Choice => {
+            if mode == FIRST_TAKEN {
+                only(two.first, Sense::Drawn)
+            } else {
+                only(two.second, Sense::Drawn)
+            }
+        }
+        Operator::Parallel => Standing::Both(operator, two),
+    }
+}
+
+fn stand_drawn(node: Node, mode: u8) -> Standing
+    ensures { λ r. ⌜ r ≡ stand-drawn node mode ⌝ }
+{
+    match node {
+        Node::Event(event) => {
+            if mode == AS_DRAWN {
+                Standing::Event(event)
+            } else {
+                Standing::Basic(Simple::Skip)
+            }
+        }
+        Node::Basic(word) => Standing::Basic(word),
+        Node::Standard(operator, two) => drawn_two(operator, two, mode),
+        Node::Handler(two) => {
+            if mode == AS_DRAWN {
+                Standing::Handler(two)
+            } else {
+                only(two.second, Sense::Drawn)
+            }
+        }
+        Node::Block(child) => {
+            if mode == AS_DRAWN {
+                Standing::Block(child)
+            } else {
+                only(child, Sense::Undoing)
+            }
+        }
+        _ => Standing::Basic(Simple::Skip),
+    }
+}
+
+// Of two parts that have become their compensations: of PP;QQ the second's comes first.
+fn undoing_two(operator: Operator, two: Two, mode: u8) -> Standing
+    ensures { λ r. ⌜ r ≡ undoing-two operator two mode ⌝ }
+{
+    match operator {
+        Operator::Sequence => {
+            if mode == LEFT_FIRST {
+                only(two.first, Sense::Undoing)
+            } else {
+                let back = Two {
+                    first: two.second,
+                    second: two.first,
+                };
+                Standing::Both(operator, back)
+            }
+        }
+        Operator::Choice => {
+            if mode == FIRST_TAKEN {
+                only(two.first, Sense::Undoing)
+            } else {
+                only(two.second, Sense::Undoing)
+            }
+        }
+        Operator::Parallel => Standing::Both(operator, two),
+    }
+}
+
+fn stand_undoing(node: Node, mode: u8) -> Standing
+    ensures { λ r. ⌜ r ≡ stand-undoing node mode ⌝ }
+{
+    match node {
+        Node::Pair(two) => {
+            if mode == LEFT_SECOND {
+                only(two.second, Sense::Drawn)
+            } else {
+                Standing::Basic(Simple::Skip)
+            }
+        }
+        Node::Compensable(operator, two) => undoing_two(operator, two, mode),
+        _ => Standing::Basic(Simple::Skip),
+    }
+}
+
+// What node i is as a standard part.
+pub fn stand_at(ns: &[u16], t: &[u8], i: usize, sense: Sense) -> Standing
+    requires { ⌜ Spot (now ns) (now t) i ⌝ }
+    ensures { λ r. ⌜ r ≡ stand sense (node (now (ns .entry)) i) (modes (now (t .entry)) i) ⌝ }
+{
+    let node = flow::node_at(ns, i);
+    let mode = mode_of(t, i);
+    match sense {
+        Sense::Drawn => stand_drawn(node, mode),
+        Sense::Undoing => stand_undoing(node, mode),
+    }
+}
+
+// Of two compensable parts.
+fn course_two(operator: Operator, two: Two, mode: u8) -> Course
+    ensures { λ r. ⌜ r ≡ course-two operator two mode ⌝ }
+{
+    if mode == AS_DRAWN {
+        return Course::Both(operator, two);
+    }
+    match operator {
+        Operator::Sequence => Course::Held(two),
+        Operator::Choice => {
+            if mode == FIRST_TAKEN {
+                Course::As(two.first)
+            } else {
+                Course::As(two.second)
+            }
+        }
+        Operator::Parallel => Course::Both(operator, two),
+    }
+}
+
+// What node i is as a part that runs.
+pub fn course_at(ns: &[u16], t: &[u8], i: usize) -> Course
+    requires { ⌜ Spot (now ns) (now t) i ⌝ }
+    ensures { λ r. ⌜ r ≡ course-of (node (now (ns .entry)) i) (modes (now (t .entry)) i) ⌝ }
+{
+    let node = flow::node_at(ns, i);
+    match node {
+        Node::Pair(two) => Course::Pair(two),
+        Node::Compensable(operator, two) => course_two(operator, two, mode_of(t, i)),
+        Node::Paired(word) => Course::Basic(word),
+        _ => Course::Basic(Simple::Skip),
+    }
 }
