@@ -17,8 +17,9 @@ use Rattle.tallies.specs.Counts.{sum-of, weight}
 use Rattle.tallies.specs.Places.{At}
 use Rattle.tallies.specs.Sought.{Sought}
 use Rattle.tallies.specs.declared.Weight.{Weight}
-use Rattle.states.specs.State.{part, modes, counts}
-use Rattle.states.specs.Stored.{stored}
+use Rattle.states.specs.State.{Part, part, modes, counts}
+use Rattle.states.specs.Stored.{Right, stored}
+use Rattle.states.specs.declared.Picked.{Picked}
 use Rattle.states.specs.declared.Role.{Role}
 use Rattle.states.specs.declared.Sense.the-variants.{Undoing}
 use Rattle.states.specs.Roles.{get, nexts, many, Seen, look, ok}
@@ -44,35 +45,57 @@ pub record Sets (t : List ℕ) (i n : ℕ) (t′ : List ℕ) : Type 0 where
   pub others : (j : ℕ) → j ≢ i → getD t′ j 0 ≡ getD t j 0
   pub long : length t′ ≡ length t
 
-module _ (ns : List ℕ) where
-  -- outside what is under i, d′ is as d
-  abbrev pub Kept : ℕ → (ℕ → ℕ) → (ℕ → ℕ) → Type 0
-  Kept i d d′ = (j : ℕ) → (Under (shape ns) i j → ⊥) → d′ j ≡ d j
+-- outside what is under i, d′ is as d
+abbrev pub Kept : List ℕ → ℕ → (ℕ → ℕ) → (ℕ → ℕ) → Type 0
+Kept ns i d d′ = (j : ℕ) → (Under (shape ns) i j → ⊥) → d′ j ≡ d j
 
-  -- how much all compensations of node i by w weigh
-  abbrev pub weight-of : List ℕ → ℕ → ℕ → Closing → Weight → ℕ
-  weight-of t a i w g = cap (sum-of (weight a g) (comps (part ns (modes t) i .run) w))
+-- A state and the event of the next record: the table ns, the modes t, the event a
+pub record Scene : Type 0 where
+  pub ns : List ℕ
+  pub t : List ℕ
+  pub a : ℕ
 
-  -- a compensation is chosen: modes t before and t′ after, event a, closing w, weights g, the number j that falls on it, the
-  -- rest of j within it, its steps and whether it can end done
-  pub record Chosen (t : List ℕ) (a i : ℕ) (w : Closing) (g : Weight) (j : ℕ) (t′ : List ℕ) (rest steps : ℕ) (able : Bool) : Type 0 where
-    pub sought : Sought a g (comps (part ns (modes t) i .run) w) j (part ns (modes t′) i .std Undoing) rest steps able
-    pub kept : Kept i (modes t) (modes t′)
+abbrev pub scene : List ℕ → List ℕ → ℕ → Scene
+scene ns t a = record { ns = ns; t = t; a = a }
 
-module _ (ns : List ℕ) (a : ℕ) where
-  -- the counting pass in a role: the event a, modes t, counts c before and c′ after, answer v
-  pub record Counted (r : Role) (t : List ℕ) (i : ℕ) (c c′ : List ℕ) (v : Seen r) : Type 0 where
-    pub seen : v ≡ look r a (get r (part ns (modes t) i))
-    pub right : T (ok r (stored ns a (modes t) (counts c′) i))
-    pub kept : Kept ns i (counts c) (counts c′)
+-- the part of node i in it, and whether the counts c under it are right
+abbrev pub part-at : Scene → ℕ → Part
+part-at s i = part (s .ns) (modes (s .t)) i
 
-  -- node i of modes t has a step by a at place k, and the counts c under it are right
-  pub record Ready (r : Role) (c t : List ℕ) (i k : ℕ) : Type 0 where
-    pub spot : Spot ns t i
-    pub right : T (ok r (stored ns a (modes t) (counts c) i))
-    pub room : k < many r a (part ns (modes t) i)
+abbrev pub stored-at : Scene → List ℕ → ℕ → Right
+stored-at s c i = stored (s .ns) (s .a) (modes (s .t)) (counts c) i
 
-  -- it makes that step: modes t before and t′ after
-  pub record Stepped (r : Role) (t : List ℕ) (i k : ℕ) (t′ : List ℕ) : Type 0 where
-    pub goes : At (nexts r (get r (part ns (modes t) i)) a) k (get r (part ns (modes t′) i))
-    pub kept : Kept ns i (modes t) (modes t′)
+-- how much all compensations of node i by w weigh
+abbrev pub weight-of : Scene → ℕ → Closing → Weight → ℕ
+weight-of s i w g = cap (sum-of (weight (s .a) g) (comps (part-at s i .run) w))
+
+-- what is asked of a choice among compensations: the closing, what each weighs, and the number that falls on one
+pub record Ask : Type 0 where
+  pub closing : Closing
+  pub weight : Weight
+  pub number : ℕ
+
+abbrev pub ask : Closing → Weight → ℕ → Ask
+ask w g j = record { closing = w; weight = g; number = j }
+
+-- a compensation is chosen: t′ are the modes after, p what is known of it
+pub record Chosen (s : Scene) (i : ℕ) (q : Ask) (t′ : List ℕ) (p : Picked) : Type 0 where
+  pub sought : Sought (s .a) (q .weight) (comps (part-at s i .run) (q .closing)) (q .number) (part (s .ns) (modes t′) i .std Undoing) (p .rest) (p .moves) (p .able)
+  pub kept : Kept (s .ns) i (modes (s .t)) (modes t′)
+
+-- the counting pass in a role: counts c before and c′ after, answer v
+pub record Counted (s : Scene) (r : Role) (i : ℕ) (c c′ : List ℕ) (v : Seen r) : Type 0 where
+  pub seen : v ≡ look r (s .a) (get r (part-at s i))
+  pub right : T (ok r (stored-at s c′ i))
+  pub kept : Kept (s .ns) i (counts c) (counts c′)
+
+-- node i has a step by the event at place k, and the counts c under it are right
+pub record Ready (s : Scene) (r : Role) (c : List ℕ) (i k : ℕ) : Type 0 where
+  pub spot : Spot (s .ns) (s .t) i
+  pub right : T (ok r (stored-at s c i))
+  pub room : k < many r (s .a) (part-at s i)
+
+-- it makes that step: t′ are the modes after
+pub record Stepped (s : Scene) (r : Role) (i k : ℕ) (t′ : List ℕ) : Type 0 where
+  pub goes : At (nexts r (get r (part-at s i)) (s .a)) k (get r (part (s .ns) (modes t′) i))
+  pub kept : Kept (s .ns) i (modes (s .t)) (modes t′)

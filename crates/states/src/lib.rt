@@ -50,6 +50,14 @@ pub enum Course {
     As(usize),
 }
 
+// What is known of a compensation that was picked by a number: how far into its weight the number falls, how many steps it has by
+// the event, and whether it can end done.
+pub struct Picked {
+    pub rest: u32,
+    pub moves: u32,
+    pub able: bool,
+}
+
 // The modes of a node, by what it is. All parts of a flow that is drawn have the first.
 pub const AS_DRAWN: u8 = 0;
 
