@@ -18,11 +18,11 @@ use Rattle.flow.specs.Refusals.{count, root, no-record}
 use Rattle.tallies.specs.Capped.{cap}
 use Rattle.tallies.specs.Places.{At}
 use Rattle.states.specs.Contracts.{Spot}
-use Rattle.judge.specs.declared.Role.{Role}
-use Rattle.judge.specs.declared.Role.the-variants.{Standard, Running, Left}
+use Rattle.states.specs.declared.Role.{Role}
+use Rattle.states.specs.declared.Role.the-variants.{Plain, Running}
 use Rattle.judge.specs.declared.Out.{Out}
 use Rattle.judge.specs.declared.Out.the-variants.{Spent}
-use Rattle.judge.specs.Visits.{state, role-next, out-of, onward, stretches, Known, Ready, Used, Visited, Tried, Followed, Inner, RightCounts, successor-count, Applied}
+use Rattle.judge.specs.Visits.{state, role-next, out-of, onward, stretches, Known, VisitReady, Used, Visited, Tried, Followed, Inner, RightCounts, successor-count, Applied}
 use Rattle.judge.proofs.Numbers.{first-inner}
 use Rattle.judge.proofs.Stretches.{copy-same, copy-length, tail-is, back-is, front-length, stretches-next, stretches-some, used-same, used-deeper, kept-from, state-same, right-same, used-modes}
 
@@ -30,11 +30,10 @@ use Rattle.judge.proofs.Stretches.{copy-same, copy-length, tail-is, bac
 
 none-fits : (ns t : List ℕ) (role : Role) → Fits (state ns role t) [] → ⊥
 unfolding state
-none-fits ns t Standard f = elim f [ ]
+none-fits ns t (Plain s) f = elim f [ ]
 none-fits ns t Running f = elim f [ ]
-none-fits ns t Left f = elim f [ ]
 
-pub ready-some : {ns rs t : List ℕ} {role : Role} → Ready ns rs t role → 1 ≤ length rs
+pub ready-some : {ns rs t : List ℕ} {role : Role} → VisitReady ns rs t role → 1 ≤ length rs
 ready-some {ns} {rs} {t} {role} ready = by rs (ready .fits)
   where
     by : (rs : List ℕ) → Fits (state ns role t) (records rs) → 1 ≤ length rs
@@ -51,7 +50,7 @@ only-one (r ∷ []) h = refl
 only-one (r ∷ q ∷ rs) h = absurd (omega arith)
 
 -- the root's place
-pub ready-spot : {ns rs t : List ℕ} {role : Role} → Ready ns rs t role → Spot ns t (root ns)
+pub ready-spot : {ns rs t : List ℕ} {role : Role} → VisitReady ns rs t role → Spot ns t (root ns)
 ready-spot {ns} {rs} {t} {role} ready =
     let o = stretches-some (count ns) (length rs) (ready-some ready) in
     let l = ready .room in
@@ -84,16 +83,16 @@ module _ (ns rs t : List ℕ) (role : Role) (left : ℕ) where
     pub visited-tried : (o : Out) (t′ : List ℕ) → 1 ≤ length rs → Tried ns rs t role (left - 1) t′ o → Visited ns rs t role left t′ o
     visited-tried o t′ h e = record { out = e .out ∙ visit-on (getD rs 0 0) (drop 1 rs) (first-rest rs h); used = e .used }
 
-pub last-fits : {ns rs t : List ℕ} {role : Role} → Ready ns rs t role → length rs ≡ 1 → Fits (state ns role t) (records (getD rs 0 0 ∷ []))
+pub last-fits : {ns rs t : List ℕ} {role : Role} → VisitReady ns rs t role → length rs ≡ 1 → Fits (state ns role t) (records (getD rs 0 0 ∷ []))
 last-fits {ns} {rs} {t} {role} ready h = subst (λ l. Fits (state ns role t) (records l)) (only-one rs h) (ready .fits)
 
 -- Between two successors ----------------------------------------------------------------------------------------------------
 
-module _ {ns rs t : List ℕ} {role : Role} (ready : Ready ns rs t role) (t′ : List ℕ) (used : Used (count ns) (length rs) t t′) where
+module _ {ns rs t : List ℕ} {role : Role} (ready : VisitReady ns rs t role) (t′ : List ℕ) (used : Used (count ns) (length rs) t t′) where
   pub same-state : state ns role t ≡ state ns role t′
   same-state = state-same ns (ready .sound) (ready .some) t t′ (used-modes ns (ready .sound) (ready .some) (length rs) t t′ used) role
 
-  pub ready-still : length t′ ≡ length t → Ready ns rs t′ role
+  pub ready-still : length t′ ≡ length t → VisitReady ns rs t′ role
   ready-still l =
       let q = ready .room in
       record { sound = ready .sound; some = ready .some; known = ready .known; fits = subst (λ s. Fits s (records rs)) same-state (ready .fits); room = omega arith }
@@ -126,7 +125,7 @@ known-rest rs h k =
     let q = k .few in
     record { few = omega arith; each = λ i b. subst (λ x. no-record x ≡ false) (sym (getD-drop 1 rs i 0)) (k .each (1 + i) (omega arith)) }
 
-pub two-stretches : {ns rs t : List ℕ} {role : Role} → Ready ns rs t role → 2 ≤ length rs → 2 * count ns + 2 * count ns ≤ length t
+pub two-stretches : {ns rs t : List ℕ} {role : Role} → VisitReady ns rs t role → 2 ≤ length rs → 2 * count ns + 2 * count ns ≤ length t
 two-stretches {ns} {rs} {t} {role} ready two =
     let e : suc (length rs - 1) ≡ length rs = omega arith in
     let q = ap (stretches (count ns)) (sym e) ∙ stretches-next (count ns) (length rs - 1) in
@@ -134,7 +133,7 @@ two-stretches {ns} {rs} {t} {role} ready two =
     omega (arith, ready .room)
 
 -- x has the copy, p is the part that is lent
-module _ {ns rs d : List ℕ} {role : Role} (ready : Ready ns rs d role) (two : 2 ≤ length rs) (x : List ℕ) (e : x ≡ paste d (2 * count ns) d (count ns)) where
+module _ {ns rs d : List ℕ} {role : Role} (ready : VisitReady ns rs d role) (two : 2 ≤ length rs) (x : List ℕ) (e : x ≡ paste d (2 * count ns) d (count ns)) where
   fits-copy : 2 * count ns + count ns ≤ length d
   fits-copy = omega (arith, two-stretches ready two)
 
@@ -205,7 +204,7 @@ module _ {ns rs d : List ℕ} {role : Role} (ready : Ready ns rs d role) (two : 
     part′-is = tail-is (2 * count ns) y back-room ∙ ap (drop (2 * count ns)) y-is ∙ drop-at (take (2 * count ns) x) p (2 * count ns) (front-length (2 * count ns) x copied-room)
 
     module _ (rs′ : List ℕ) (er : rs′ ≡ drop 1 rs) (role′ : Role) (eo : role′ ≡ role-next role (getD rs 0 0)) where
-      deeper : Ready ns (drop 1 rs) p (role-next role (getD rs 0 0))
+      deeper : VisitReady ns (drop 1 rs) p (role-next role (getD rs 0 0))
       deeper =
           let l = length-drop 1 rs in
           let j : suc (length (drop 1 rs)) ≡ length rs = omega arith in
@@ -220,8 +219,8 @@ module _ {ns rs d : List ℕ} {role : Role} (ready : Ready ns rs d role) (two : 
             room = omega (arith, ready .room);
           }
 
-      pub visit-asked : Ready ns rs′ part′ role′
-      visit-asked = subst (λ l. Ready ns l part′ role′) (sym er) (subst (λ l. Ready ns (drop 1 rs) l role′) (sym part′-is) (subst (λ o. Ready ns (drop 1 rs) p o) (sym eo) deeper))
+      pub visit-asked : VisitReady ns rs′ part′ role′
+      visit-asked = subst (λ l. VisitReady ns l part′ role′) (sym er) (subst (λ l. VisitReady ns (drop 1 rs) l role′) (sym part′-is) (subst (λ o. VisitReady ns (drop 1 rs) p o) (sym eo) deeper))
 
       pub followed : (left : ℕ) (o : Out) (q : List ℕ) → Visited ns rs′ part′ role′ left q o
           → Followed ns rs d role left (putMid (2 * count ns) (length y - 2 * count ns) y q) o k

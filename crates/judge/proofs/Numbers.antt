@@ -15,8 +15,8 @@ use Rattle.calculus.specs.Records.{Record, event, close, Closed, ClosedTwice, t
 use Rattle.flow.specs.Records.{done-number, withdrawn-number, failed-number, is-event-number, is-closing-number, record-of, records}
 use Rattle.flow.specs.Refusals.{no-record}
 use Rattle.flow.specs.FirstRefusal.{more}
-use Rattle.judge.specs.declared.Role.{Role}
-use Rattle.judge.specs.declared.Role.the-variants.{Standard, Running, Left}
+use Rattle.states.specs.declared.Role.{Role}
+use Rattle.states.specs.declared.Role.the-variants.{Plain, Running}
 use Rattle.judge.specs.Visits.{state, closing-of, Known, Inner}
 
 module _ (r : ℕ) where
@@ -85,6 +85,5 @@ pub first-inner : (ns t : List ℕ) (role : Role) (rs : List ℕ) → Known rs �
 unfolding state
 first-inner ns t role [] k h f = absurd (omega arith)
 first-inner ns t role (r ∷ []) k h f = absurd (omega arith)
-first-inner ns t Standard (r ∷ q ∷ rs) k h f = event-first r (k .each 0 (omega arith)) f
+first-inner ns t (Plain s) (r ∷ q ∷ rs) k h f = event-first r (k .each 0 (omega arith)) f
 first-inner ns t Running (r ∷ q ∷ rs) k h f = known-low r (k .each 0 (omega arith))
-first-inner ns t Left (r ∷ q ∷ rs) k h f = event-first r (k .each 0 (omega arith)) f

@@ -25,42 +25,41 @@ use Rattle.tallies.specs.declared.View.{View}
 use Rattle.tallies.specs.declared.Tally.{Tally}
 use Rattle.tallies.specs.declared.Word.{Word}
 use Rattle.states.specs.State.{Part, part, modes}
-use Rattle.states.specs.Roles.{Role as Live, plain, running, undoing, Term, get, nexts, many, Seen, look, moves-of}
-use Rattle.states.specs.Contracts.{Spot, weight-of, Chosen}
-use Rattle.states.specs.Contracts as Pass
-use Rattle.judge.specs.declared.Role.{Role}
-use Rattle.judge.specs.declared.Role.the-variants.{Standard, Running, Left}
-use Rattle.judge.specs.Visits.{live, state, role-next, closing-of, ends-by, onward, Inner, RightCounts, successor-count, Counted, Applied}
+use Rattle.states.specs.declared.Picked.{Picked}
+use Rattle.states.specs.declared.Sense.{Sense}
+use Rattle.states.specs.declared.Sense.the-variants.{Undoing}
+use Rattle.states.specs.declared.Role.{Role}
+use Rattle.states.specs.declared.Role.the-variants.{Plain, Running}
+use Rattle.states.specs.Roles.{Term, get, nexts, many, Seen, look, moves-of}
+use Rattle.states.specs.Contracts.{Spot, scene, weight-of, ask, Counted, Ready, Stepped, Chosen}
+use Rattle.judge.specs.Visits.{state, role-next, closing-of, ends-by, onward, Inner, RightCounts, successor-count, SuccessorsCounted, Applied}
 use Rattle.judge.proofs.Numbers.{record-event, record-close, last-close, not-twice}
 
 -- Successors, by the role -------------------------------------------------------------------------------------------------
 
 -- a part in its role is a state
-abbrev as-state : (x : Role) → Term (live x) → State
-as-state Standard p = std p
+abbrev as-state : (x : Role) → Term x → State
+as-state (Plain s) p = std p
 as-state Running pp = cmp pp
-as-state Left p = std p
 
 module _ (ns t : List ℕ) where
   abbrev at-root : Part
   at-root = part ns (modes t) (root ns)
 
-  state-is : (x : Role) → state ns x t ≡ as-state x (get (live x) at-root)
+  state-is : (x : Role) → state ns x t ≡ as-state x (get x at-root)
   unfolding state
-  state-is Standard = refl
+  state-is (Plain s) = refl
   state-is Running = refl
-  state-is Left = refl
 
   module _ (r : ℕ) where
     -- by an event
-    next-event : (x : Role) → r < done-number → next (state ns x t) (record-of r) ≡ map (as-state x) (nexts (live x) (get (live x) at-root) r)
+    next-event : (x : Role) → r < done-number → next (state ns x t) (record-of r) ≡ map (as-state x) (nexts x (get x at-root) r)
     unfolding state next
-    next-event Standard h = ap (next (state ns Standard t)) (record-event r h)
+    next-event (Plain s) h = ap (next (state ns (Plain s) t)) (record-event r h)
     next-event Running h = ap (next (state ns Running t)) (record-event r h)
-    next-event Left h = ap (next (state ns Left t)) (record-event r h)
 
-    count-event : (x : Role) → r < done-number → successor-count ns x r t ≡ many (live x) r at-root
-    count-event x h = ap (λ l. cap (length l)) (next-event x h) ∙ ap cap (length-map (nexts (live x) (get (live x) at-root) r) (as-state x))
+    count-event : (x : Role) → r < done-number → successor-count ns x r t ≡ many x r at-root
+    count-event x h = ap (λ l. cap (length l)) (next-event x h) ∙ ap cap (length-map (nexts x (get x at-root) r) (as-state x))
 
     -- a part that runs, by a closing
     next-closing : done-number ≤ r → r ≤ failed-number → next (state ns Running t) (record-of r) ≡ map std (comps (at-root .run) (closing-of r))
@@ -71,18 +70,16 @@ module _ (ns t : List ℕ) where
     count-closing h k = ap (λ l. cap (length l)) (next-closing h k) ∙ ap cap (length-map (comps (at-root .run) (closing-of r)) std)
 
 -- the number of steps that is seen
-moves-seen : (q : Live) (a : ℕ) (p : Part) {v : Seen q} → v ≡ look q a (get q p) → moves-of q v ≡ many q a p
+moves-seen : (q : Role) (a : ℕ) (p : Part) {v : Seen q} → v ≡ look q a (get q p) → moves-of q v ≡ many q a p
 unfolding moves
-moves-seen plain a p e = view-moves a (p .std) e
-moves-seen running a p e = word-moves a (p .run) e
-moves-seen undoing a p e = view-moves a (p .left) e
+moves-seen (Plain s) a p e = view-moves a (p .std s) e
+moves-seen Running a p e = word-moves a (p .run) e
 
 -- the role after an event
 role-stays : (x : Role) (r : ℕ) → r < done-number → role-next x r ≡ x
 unfolding role-next
-role-stays Standard r h = refl
-role-stays Running r h = ap (λ b. cond b Running Left) (lt-ltb r done-number h)
-role-stays Left r h = refl
+role-stays (Plain s) r h = refl
+role-stays Running r h = ap (λ b. cond b Running (Plain Undoing)) (lt-ltb r done-number h)
 
 -- the role that the code has found
 module _ (ns t : List ℕ) (r i : ℕ) (e : i ≡ root ns) {role x : Role} (g : role ≡ x) where
@@ -92,22 +89,22 @@ module _ (ns t : List ℕ) (r i : ℕ) (e : i ≡ root ns) {role x : Role} (g : 
   -- An event ------------------------------------------------------------------------------------------------------------
 
   module _ (event : r < done-number) where
-    pub counted-event : {c c′ : List ℕ} {v : Seen (live x)} → Pass.Counted ns r (live x) t i c c′ v → Counted ns role r t c′ (moves-of (live x) v)
+    pub counted-event : {c c′ : List ℕ} {v : Seen x} → Counted (scene ns t r) x i c c′ v → SuccessorsCounted ns role r t c′ (moves-of x v)
     counted-event {c} {c′} {v} k =
-        let q : Pass.Counted ns r (live x) t (root ns) c c′ v = subst (λ j. Pass.Counted ns r (live x) t j c c′ v) e k in
-        subst (λ z. Counted ns z r t c′ (moves-of (live x) v)) (sym g)
-        (record { many = moves-seen (live x) r (at-root ns t) (q .seen) ∙ sym (count-event ns t r x event); right = q .right })
+        let q : Counted (scene ns t r) x (root ns) c c′ v = subst (λ j. Counted (scene ns t r) x j c c′ v) e k in
+        subst (λ z. SuccessorsCounted ns z r t c′ (moves-of x v)) (sym g)
+        (record { many = moves-seen x r (at-root ns t) (q .seen) ∙ sym (count-event ns t r x event); right = q .right })
 
-    pub step-asked : Spot ns t (root ns) → {c : List ℕ} → RightCounts ns role r t c → {k : ℕ} → k < successor-count ns role r t → Pass.Ready ns r (live x) c t i k
-    step-asked spot {c} right {k} h = subst (λ j. Pass.Ready ns r (live x) c t j k) (sym e) (record {
+    pub step-asked : Spot ns t (root ns) → {c : List ℕ} → RightCounts ns role r t c → {k : ℕ} → k < successor-count ns role r t → Ready (scene ns t r) x c i k
+    step-asked spot {c} right {k} h = subst (λ j. Ready (scene ns t r) x c j k) (sym e) (record {
       spot = spot;
       right = subst (λ z. RightCounts ns z r t c) g right;
       room = subst (λ n. k < n) (ap (λ z. successor-count ns z r t) g ∙ count-event ns t r x event) h;
     })
 
-    pub step-applied : {k : ℕ} {t′ : List ℕ} → Pass.Stepped ns r (live x) t i k t′ → Applied ns role r t k t′
+    pub step-applied : {k : ℕ} {t′ : List ℕ} → Stepped (scene ns t r) x i k t′ → Applied ns role r t k t′
     step-applied {k} {t′} s =
-        let q : Pass.Stepped ns r (live x) t (root ns) k t′ = subst (λ j. Pass.Stepped ns r (live x) t j k t′) e s in
+        let q : Stepped (scene ns t r) x (root ns) k t′ = subst (λ j. Stepped (scene ns t r) x j k t′) e s in
         subst (λ z. Applied ns z r t k t′) (sym g) (record {
           goes = subst₂ (λ l z. At l k z) (sym (next-event ns t r x event)) (sym (state-is ns t′ x) ∙ ap (λ z. state ns z t′) (sym (role-stays x r event))) (at-map (as-state x) (q .goes));
           kept = q .kept;
@@ -119,26 +116,26 @@ module _ (ns t : List ℕ) (r i : ℕ) (e : i ≡ root ns) {role : Role} (g : ro
   high : r ≤ failed-number
   high = subst (λ z. Inner z r) g inner
 
-  pub counted-closing : {c c′ : List ℕ} {v : Word} → Pass.Counted ns r running t i c c′ v → {y : Tally} → y ≡ byW v (closing w) → Counted ns role r t c′ (y .many)
+  pub counted-closing : {c c′ : List ℕ} {v : Word} → Counted (scene ns t r) Running i c c′ v → {y : Tally} → y ≡ byW v (closing w) → SuccessorsCounted ns role r t c′ (y .many)
   unfolding tally
   counted-closing {c} {c′} {v} k {y} ey =
-      let q : Pass.Counted ns r running t (root ns) c c′ v = subst (λ j. Pass.Counted ns r running t j c c′ v) e k in
-      subst (λ z. Counted ns z r t c′ (y .many)) (sym g) (record {
+      let q : Counted (scene ns t r) Running (root ns) c c′ v = subst (λ j. Counted (scene ns t r) Running j c c′ v) e k in
+      subst (λ z. SuccessorsCounted ns z r t c′ (y .many)) (sym g) (record {
         many = ap (λ (z : Tally). z .many) (tally-by r (at-root ns t .run) (closing-of r) (q .seen) (ey ∙ ap (byW v) cw)) ∙ sym (count-closing ns t r low high);
         right = q .right;
       })
 
-  pub closing-asked : w < 3 → Spot ns t (root ns) → {k : ℕ} → k < successor-count ns role r t → Spot ns t i × ((w < 3) × (k < weight-of ns t r i (closing w) oneG))
+  pub closing-asked : w < 3 → Spot ns t (root ns) → {k : ℕ} → k < successor-count ns role r t → Spot ns t i × ((w < 3) × (k < weight-of (scene ns t r) i (closing w) oneG))
   closing-asked l spot {k} h =
       let n : k < cap (length (comps (at-root ns t .run) (closing-of r))) = subst (λ n. k < n) (ap (λ z. successor-count ns z r t) g ∙ count-closing ns t r low high) h in
-      subst (λ j. Spot ns t j × ((w < 3) × (k < weight-of ns t r j (closing w) oneG))) (sym e)
-      (spot, (l, subst (λ z. k < weight-of ns t r (root ns) z oneG) (sym cw) (seek-one-room r (comps (at-root ns t .run) (closing-of r)) n)))
+      subst (λ j. Spot ns t j × ((w < 3) × (k < weight-of (scene ns t r) j (closing w) oneG))) (sym e)
+      (spot, (l, subst (λ z. k < weight-of (scene ns t r) (root ns) z oneG) (sym cw) (seek-one-room r (comps (at-root ns t .run) (closing-of r)) n)))
 
-  pub closing-applied : {k : ℕ} {t′ : List ℕ} {rest n : ℕ} {able : Bool} → Chosen ns t r i (closing w) oneG k t′ rest n able → Applied ns role r t k t′
+  pub closing-applied : {k : ℕ} {t′ : List ℕ} {p : Picked} → Chosen (scene ns t r) i (ask (closing w) oneG k) t′ p → Applied ns role r t k t′
   unfolding state role-next
-  closing-applied {k} {t′} {rest} {n} {able} s =
-      let q : Chosen ns t r (root ns) (closing-of r) oneG k t′ rest n able = subst₂ (λ j z. Chosen ns t r j z oneG k t′ rest n able) e cw s in
-      let ends : role-next Running r ≡ Left = ap (λ b. cond b Running Left) (le-ltb r done-number low) in
+  closing-applied {k} {t′} {p} s =
+      let q : Chosen (scene ns t r) (root ns) (ask (closing-of r) oneG k) t′ p = subst₂ (λ j z. Chosen (scene ns t r) j (ask z oneG k) t′ p) e cw s in
+      let ends : role-next Running r ≡ Plain Undoing = ap (λ b. cond b Running (Plain Undoing)) (le-ltb r done-number low) in
       subst (λ z. Applied ns z r t k t′) (sym g) (record {
         goes = subst₂ (λ l x. At l k (state ns x t′)) (sym (next-closing ns t r low high)) (sym ends) (at-map std (seek-one r (q .sought .found)));
         kept = q .kept;
@@ -162,12 +159,8 @@ module _ (ns t : List ℕ) (r i : ℕ) (e : i ≡ root ns) (role : Role) (f : Fi
     seen-ends : (p : Std) → state ns role t ≡ std p → v ≡ view r p → next (state ns role t) (record-of r) ≡ only b (over ∷ [])
     seen-ends p d h = ap (λ s. next s (record-of r)) d ∙ last-ends p r b (subst (λ s. Fits s (records (r ∷ []))) d f) (q ∙ view-ends r p (closing-of r) h)
 
-    module _ {c c′ : List ℕ} where
-      pub std-ends : role ≡ Standard → Pass.Counted ns r plain t i c c′ v → next (state ns role t) (record-of r) ≡ only b (over ∷ [])
-      std-ends g k = seen-ends (part ns (modes t) i .std) (ap (λ x. state ns x t) g ∙ state-is ns t Standard ∙ ap (λ j. std (part ns (modes t) j .std)) (sym e)) (k .seen)
-
-      pub left-ends : role ≡ Left → Pass.Counted ns r undoing t i c c′ v → next (state ns role t) (record-of r) ≡ only b (over ∷ [])
-      left-ends g k = seen-ends (part ns (modes t) i .left) (ap (λ x. state ns x t) g ∙ state-is ns t Left ∙ ap (λ j. std (part ns (modes t) j .left)) (sym e)) (k .seen)
+    pub std-ends : (z : Sense) → role ≡ Plain z → {c c′ : List ℕ} → Counted (scene ns t r) (Plain z) i c c′ v → next (state ns role t) (record-of r) ≡ only b (over ∷ [])
+    std-ends z g k = seen-ends (part ns (modes t) i .std z) (ap (λ x. state ns x t) g ∙ state-is ns t (Plain z) ∙ ap (λ j. std (part ns (modes t) j .std z)) (sym e)) (k .seen)
 
   -- a part that runs takes two closings
   pub never-running : role ≡ Running → ⊥

@@ -18,9 +18,9 @@ use Rattle.states.specs.State.{modes, counts}
 use Rattle.states.specs.StateLaws.{part-frame, stored-frame}
 use Rattle.states.specs.Contracts.{Sound, Kept}
 use Rattle.states.specs.Roles.{ok}
-use Rattle.judge.specs.declared.Role.{Role}
-use Rattle.judge.specs.declared.Role.the-variants.{Standard, Running, Left}
-use Rattle.judge.specs.Visits.{live, state, stretches, Used, RightCounts}
+use Rattle.states.specs.declared.Role.{Role}
+use Rattle.states.specs.declared.Role.the-variants.{Plain, Running}
+use Rattle.judge.specs.Visits.{state, stretches, Used, RightCounts}
 
 -- Lists that agree from a place on ---------------------------------------------------------------------------------------
 
@@ -145,12 +145,11 @@ module _ (ns : List ℕ) (sound : Sound ns) (some : 3 ≤ length ns) where
   module _ (t t′ : List ℕ) (same : (j : ℕ) → j < count ns → getD t j 0 ≡ getD t′ j 0) where
     pub state-same : (role : Role) → state ns role t ≡ state ns role t′
     unfolding state
-    state-same Standard = ap (λ x. std (x .std)) (part-frame ns (modes t) (modes t′) (root ns) (λ j u. same j (below u)))
-    state-same Running = ap (λ x. cmp (x .run)) (part-frame ns (modes t) (modes t′) (root ns) (λ j u. same j (below u)))
-    state-same Left = ap (λ x. std (x .left)) (part-frame ns (modes t) (modes t′) (root ns) (λ j u. same j (below u)))
+    state-same (Plain s) = ap (λ x. std (x .std s)) (part-frame ns (sound .tree) (modes t) (modes t′) (root ns) (λ j u. same j (below u)))
+    state-same Running = ap (λ x. cmp (x .run)) (part-frame ns (sound .tree) (modes t) (modes t′) (root ns) (λ j u. same j (below u)))
 
     pub right-same : (role : Role) (a : ℕ) (c : List ℕ) → RightCounts ns role a t c → RightCounts ns role a t′ c
-    right-same role a c r = subst (λ x. T (ok (live role) x)) (stored-frame ns a (modes t) (modes t′) (counts c) (counts c) (root ns) (λ j u. same j (below u)) (λ j u. refl)) r
+    right-same role a c r = subst (λ x. T (ok role x)) (stored-frame ns (sound .tree) a (modes t) (modes t′) (counts c) (counts c) (root ns) (λ j u. same j (below u)) (λ j u. refl)) r
 
   pub used-modes : (m : ℕ) (t t′ : List ℕ) → Used (count ns) m t t′ → (j : ℕ) → j < count ns → getD t j 0 ≡ getD t′ j 0
   used-modes m t t′ u j h =

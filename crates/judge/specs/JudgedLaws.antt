@@ -12,7 +12,6 @@ use lib.ListN.{length, getD, set, drop, replicate, length-append, length-replica
 use lib.Seq.{drop-drop, drop-at}
 use borrow.Author.Tests.{ltb-false, lt-ltb}
 use borrow.Author.Fill.{fill-more}
-use Rattle.calculus.specs.Term.{seq, alt, par, hnd, blk, pair, cseq, calt, cpar}
 use Rattle.calculus.specs.Records.{Record, State, over, std, cmp, Fits}
 use Rattle.calculus.specs.Search.{next}
 use Rattle.calculus.specs.Search as search
@@ -21,69 +20,33 @@ use Rattle.flow.specs.declared.Refusal.{Refusal}
 use Rattle.flow.specs.declared.Check.{Check}
 use Rattle.flow.specs.declared.Check.the-variants.{Fine}
 use Rattle.flow.specs.declared.Check.the-variants as check
-use Rattle.flow.specs.Nodes.{Tree, under-le}
-use Rattle.flow.specs.Kinds.{Kind, kind, is-standard, one-of, two-of, shape}
+use Rattle.flow.specs.Nodes.{under-le}
+use Rattle.flow.specs.Kinds.{node, is-standard, shape}
 use Rattle.flow.specs.Records.{record-of, records}
 use Rattle.flow.specs.Refusals.{count, root, first, or-else-check, refused, table-check, records-check, too-many-records}
 use Rattle.flow.specs.FirstRefusal.{single-held}
 use Rattle.flow.specs.FineTable.{FineTable, fine-table, fine-tree}
-use Rattle.flow.specs.Draws.{Draws, at-event, at-skip, at-throw, at-yield, at-seq, at-alt, at-par, at-hnd, at-blk, at-pair, at-cseq, at-calt, at-cpar, at-skipp, at-throww, at-yieldd, flow-of}
+use Rattle.flow.specs.Draws.{flow-of}
 use Rattle.flow.specs.OneFlow.{flow-standard, flow-compensable, flow-drawn}
 use Rattle.flow.specs.RecordsFit.{records-fit}
-use Rattle.states.specs.State.{Part, build, part, modes}
-use Rattle.states.specs.StateLaws.{part-of, part-frame}
+use Rattle.states.specs.declared.Sense.the-variants.{Drawn}
+use Rattle.states.specs.declared.Role.{Role}
+use Rattle.states.specs.declared.Role.the-variants.{Plain, Running}
+use Rattle.states.specs.State.{Part, part, modes}
+use Rattle.states.specs.StateLaws.{part-frame}
+use Rattle.states.specs.DrawnLaws.{none-done, Means, drawn-means}
 use Rattle.judge.specs.declared.Answer.{Answer}
 use Rattle.judge.specs.declared.Answer.the-variants.{Refused}
-use Rattle.judge.specs.declared.Role.{Role}
-use Rattle.judge.specs.declared.Role.the-variants.{Standard, Running}
 use Rattle.judge.specs.declared.Out.{Out}
 use Rattle.judge.specs.declared.Out.the-variants.{Spent, Back}
 use Rattle.judge.specs.Judged.{room-wanted, too-short, room-grounds, judge-check, answer-of, unless-refused, judged, cleared, Searched, Judged}
 use Rattle.judge.specs.Given.{Passes}
 use Rattle.judge.specs.Refused.{passes-exactly, table-passes, closings-pass, records-within}
 use Rattle.judge.specs.Verdicts.{check-parts, roomy-fine, fine-is, refused-bytes, fine-bytes}
-use Rattle.judge.specs.Visits.{state, out-of, stretches, Ready, Used, Visited}
-use Rattle.judge.specs.Settled.{role-of, Within, answer-to}
+use Rattle.judge.specs.Visits.{state, out-of, stretches, VisitReady, Used, Visited}
+use Rattle.judge.specs.Settled.{role-of, LeftWithin, answer-to}
 
 ---- All modes 0 are the drawn flow ----
-
-abbrev none-done : ℕ → ℕ
-none-done j = 0
-
--- the part is the state's, in its sort's role
-abbrev Means : State → Part → Type 0
-Means over x = ⊥
-Means (std p) x = x .std ≡ p
-Means (cmp pp) x = x .run ≡ pp
-
-module _ (ns : List ℕ) (tree : Tree (shape ns)) where
-  abbrev at : ℕ → Part
-  at i = part ns none-done i
-
-  standard-at : {k : Kind} (i : ℕ) → kind ns i ≡ k → at i .std ≡ build k 0 (one-of ns i) (at (one-of ns i)) (at (two-of ns i)) .std
-  standard-at i e = ap (λ (x : Part). x .std) (part-of ns tree none-done i e)
-
-  running-at : {k : Kind} (i : ℕ) → kind ns i ≡ k → at i .run ≡ build k 0 (one-of ns i) (at (one-of ns i)) (at (two-of ns i)) .run
-  running-at i e = ap (λ (x : Part). x .run) (part-of ns tree none-done i e)
-
-  drawn-means : {i : ℕ} {s : State} → Draws ns i s → Means s (at i)
-  unfolding build
-  drawn-means (at-event {i} e) = standard-at i e
-  drawn-means (at-skip {i} e) = standard-at i e
-  drawn-means (at-throw {i} e) = standard-at i e
-  drawn-means (at-yield {i} e) = standard-at i e
-  drawn-means (at-seq {i} e d d′) = let p = drawn-means d in let q = drawn-means d′ in standard-at i e ∙ (λ z. seq (p z) (q z))
-  drawn-means (at-alt {i} e d d′) = let p = drawn-means d in let q = drawn-means d′ in standard-at i e ∙ (λ z. alt (p z) (q z))
-  drawn-means (at-par {i} e d d′) = let p = drawn-means d in let q = drawn-means d′ in standard-at i e ∙ (λ z. par (p z) (q z))
-  drawn-means (at-hnd {i} e d d′) = let p = drawn-means d in let q = drawn-means d′ in standard-at i e ∙ (λ z. hnd (p z) (q z))
-  drawn-means (at-blk {i} e d) = standard-at i e ∙ ap blk (drawn-means d)
-  drawn-means (at-pair {i} e d d′) = let p = drawn-means d in let q = drawn-means d′ in running-at i e ∙ (λ z. pair (p z) (q z))
-  drawn-means (at-cseq {i} e d d′) = let p = drawn-means d in let q = drawn-means d′ in running-at i e ∙ (λ z. cseq (p z) (q z))
-  drawn-means (at-calt {i} e d d′) = let p = drawn-means d in let q = drawn-means d′ in running-at i e ∙ (λ z. calt (p z) (q z))
-  drawn-means (at-cpar {i} e d d′) = let p = drawn-means d in let q = drawn-means d′ in running-at i e ∙ (λ z. cpar (p z) (q z))
-  drawn-means (at-skipp {i} e) = running-at i e
-  drawn-means (at-throww {i} e) = running-at i e
-  drawn-means (at-yieldd {i} e) = running-at i e
 
 module _ (ns : List ℕ) (passed : table-check ns ≡ Fine) where
   fine : FineTable ns
@@ -91,21 +54,21 @@ module _ (ns : List ℕ) (passed : table-check ns ≡ Fine) where
 
   pub state-drawn : (t : List ℕ) → ((j : ℕ) → j < count ns → modes t j ≡ 0) → state ns (role-of ns) t ≡ flow-of ns
   unfolding state role-of
-  state-drawn t clear = by (is-standard (kind ns (root ns))) refl
+  state-drawn t clear = by (is-standard (node ns (root ns))) refl
     where
       same : part ns (modes t) (root ns) ≡ part ns none-done (root ns)
-      same = part-frame ns (modes t) none-done (root ns) (λ j u. clear j (omega (arith, under-le (shape ns) (fine-tree ns fine) u, fine .some)))
+      same = part-frame ns (fine-tree ns fine) (modes t) none-done (root ns) (λ j u. clear j (omega (arith, under-le (shape ns) (fine-tree ns fine) u, fine .some)))
 
       means : {s : State} → flow-of ns ≡ s → Means s (part ns none-done (root ns))
       means e = subst (λ (z : State). Means z (part ns none-done (root ns))) e (drawn-means ns (fine-tree ns fine) (flow-drawn ns passed))
 
-      by : (b : Bool) → is-standard (kind ns (root ns)) ≡ b → state ns (role-of ns) t ≡ flow-of ns
+      by : (b : Bool) → is-standard (node ns (root ns)) ≡ b → state ns (role-of ns) t ≡ flow-of ns
       by true e =
           let f = flow-standard ns fine e in
-          ap (λ (b : Bool). state ns (cond b Standard Running) t) e ∙ ap (λ (x : Part). std (x .std)) same ∙ ap std (means (f .1)) ∙ sym (f .1)
+          ap (λ (b : Bool). state ns (cond b (Plain Drawn) Running) t) e ∙ ap (λ (x : Part). std (x .std Drawn)) same ∙ ap std (means (f .1)) ∙ sym (f .1)
       by false e =
           let f = flow-compensable ns fine e in
-          ap (λ (b : Bool). state ns (cond b Standard Running) t) e ∙ ap (λ (x : Part). cmp (x .run)) same ∙ ap cmp (means (f .1)) ∙ sym (f .1)
+          ap (λ (b : Bool). state ns (cond b (Plain Drawn) Running) t) e ∙ ap (λ (x : Part). cmp (x .run)) same ∙ ap cmp (means (f .1)) ∙ sym (f .1)
 
 ---- The work bytes ----
 
@@ -221,7 +184,7 @@ module _ (ns rs work : List ℕ) (fine : judge-check ns rs (length work) ≡ Fin
   pub nodes-within : count ns ≤ length work
   nodes-within = omega (arith, room-stretches ns rs, roomy)
 
-  pub ready : Ready ns rs (cleared (count ns) work) (role-of ns)
+  pub ready : VisitReady ns rs (cleared (count ns) work) (role-of ns)
   ready = record {
     sound = record { few = table-few ns rs (length work) table-fine; tree = fine-tree ns (fine-table ns table-fine) };
     some = table-some ns rs (length work) table-fine;
@@ -233,39 +196,39 @@ module _ (ns rs work : List ℕ) (fine : judge-check ns rs (length work) ≡ Fin
 ---- What comes back ----
 
 -- what is left is no more than there was
-Left : ℕ → Found → Type 0
-Left n spent = Unit {0}
-Left n (back b d m) = m ≤ n
+LeftOver : ℕ → Found → Type 0
+LeftOver n spent = Unit {0}
+LeftOver n (back b d m) = m ≤ n
 
-bump-left : (n d : ℕ) (o : Found) → Left n o → Left n (bump d o)
-unfolding Left bump
+bump-left : (n d : ℕ) (o : Found) → LeftOver n o → LeftOver n (bump d o)
+unfolding LeftOver bump
 bump-left n d spent h = h
 bump-left n d (back b e m) h = h
 
-lower-left : (n k : ℕ) (o : Found) → k ≤ n → Left k o → Left n o
-unfolding Left
+lower-left : (n k : ℕ) (o : Found) → k ≤ n → LeftOver k o → LeftOver n o
+unfolding LeftOver
 lower-left n k spent h l = l
 lower-left n k (back b d m) h l = omega arith
 
-tries-left : (f : State → ℕ → Found) → ((s : State) (n : ℕ) → Left n (f s n)) → (ss : List State) (n : ℕ) → Left n (triesB f ss n)
-unfolding Left triesB chain
+tries-left : (f : State → ℕ → Found) → ((s : State) (n : ℕ) → LeftOver n (f s n)) → (ss : List State) (n : ℕ) → LeftOver n (triesB f ss n)
+unfolding LeftOver triesB chain
 tries-left f h [] n = omega arith
 tries-left f h (s ∷ ss) n = by (f s n) (h s n) (tries-left f h ss)
   where
-    by : (o : Found) → Left n o → ((m : ℕ) → Left m (triesB f ss m)) → Left n (chain o (λ m. triesB f ss m))
+    by : (o : Found) → LeftOver n o → ((m : ℕ) → LeftOver m (triesB f ss m)) → LeftOver n (chain o (λ m. triesB f ss m))
     by spent l rec = tt
     by (back true d m) l rec = l
     by (back false d m) l rec = lower-left n m (bump (suc d) (triesB f ss m)) l (bump-left m (suc d) (triesB f ss m) (rec m))
 
-visit-left : (rs : List Record) (s : State) (n : ℕ) → Left n (visitB rs s n)
-unfolding Left visitB
+visit-left : (rs : List Record) (s : State) (n : ℕ) → LeftOver n (visitB rs s n)
+unfolding LeftOver visitB
 visit-left [] s zero = tt
 visit-left [] s (suc n) = omega arith
 visit-left (r ∷ rs) s zero = tt
 visit-left (r ∷ rs) s (suc n) = lower-left (suc n) n (triesB (λ t m. visitB rs t m) (next s r) n) (omega arith) (tries-left (λ t m. visitB rs t m) (λ t m. visit-left rs t m) (next s r) n)
 
-out-within : (allowance : ℕ) (o : Out) → Left allowance (out-of o) → Within allowance o
-unfolding Left out-of
+out-within : (allowance : ℕ) (o : Out) → LeftOver allowance (out-of o) → LeftWithin allowance o
+unfolding LeftOver out-of
 out-within allowance Spent l = l
 out-within allowance (Back trip) l = l
 
@@ -280,16 +243,16 @@ answered rs n (back false d m) = refl
 module _ (ns rs work : List ℕ) (allowance : ℕ) (fine : judge-check ns rs (length work) ≡ Fine) where
   -- the work bytes t of the drawn flow, and the root's role
   module _ {t : List ℕ} {role : Role} (e : t ≡ cleared (count ns) work) (d : role ≡ role-of ns) where
-    pub visit-ready : Ready ns rs t role
-    visit-ready = subst (Ready ns rs t) (sym d) (subst (λ (l : List ℕ). Ready ns rs l (role-of ns)) (sym e) (ready ns rs work fine))
+    pub visit-ready : VisitReady ns rs t role
+    visit-ready = subst (VisitReady ns rs t) (sym d) (subst (λ (l : List ℕ). VisitReady ns rs l (role-of ns)) (sym e) (ready ns rs work fine))
 
     -- what the visit leaves there and brings back
     module _ {t′ : List ℕ} {o : Out} (v : Visited ns rs t role allowance t′ o) where
       out-is : out-of o ≡ visitB (records rs) (state ns (role-of ns) (cleared (count ns) work)) allowance
       out-is = v .out ∙ (λ z. visitB (records rs) (state ns (d z) (e z)) allowance)
 
-      pub within : Within allowance o
-      within = out-within allowance o (subst (Left allowance) (sym out-is) (visit-left (records rs) (state ns (role-of ns) (cleared (count ns) work)) allowance))
+      pub within : LeftWithin allowance o
+      within = out-within allowance o (subst (LeftOver allowance) (sym out-is) (visit-left (records rs) (state ns (role-of ns) (cleared (count ns) work)) allowance))
 
       verdict-is : answer-to (length rs) allowance (out-of o) ≡ answer-of (search.judge (flow-of ns) (records rs) allowance)
       verdict-is =

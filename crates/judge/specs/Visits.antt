@@ -16,34 +16,26 @@ use Rattle.flow.specs.Refusals.{count, root, no-record}
 use Rattle.tallies.specs.Capped.{cap}
 use Rattle.tallies.specs.Places.{At}
 use Rattle.tallies.specs.declared.View.{View}
-use Rattle.states.specs.State.{part, modes, counts}
-use Rattle.states.specs.Stored.{stored}
-use Rattle.states.specs.Roles.{Role as Live, plain, running, undoing, ok}
-use Rattle.states.specs.Contracts.{Sound, Kept}
-use Rattle.judge.specs.declared.Role.{Role}
-use Rattle.judge.specs.declared.Role.the-variants.{Standard, Running, Left}
+use Rattle.states.specs.declared.Sense.the-variants.{Undoing}
+use Rattle.states.specs.declared.Role.{Role}
+use Rattle.states.specs.declared.Role.the-variants.{Plain, Running}
+use Rattle.states.specs.State.{part, modes}
+use Rattle.states.specs.Roles.{ok}
+use Rattle.states.specs.Contracts.{Sound, Kept, scene, stored-at}
 use Rattle.judge.specs.declared.Out.{Out}
 use Rattle.judge.specs.declared.Out.the-variants.{Spent, Back}
 
 -- States ----------------------------------------------------------------------------------------------------------------
 
--- the role that the root's part has in the states below
-abbrev pub live : Role → Live
-live Standard = plain
-live Running = running
-live Left = undoing
-
 -- what the stretch t holds, where the root has this role
 unfoldable pub state : List ℕ → Role → List ℕ → State
-state ns Standard t = std (part ns (modes t) (root ns) .std)
+state ns (Plain s) t = std (part ns (modes t) (root ns) .std s)
 state ns Running t = cmp (part ns (modes t) (root ns) .run)
-state ns Left t = std (part ns (modes t) (root ns) .left)
 
 -- the role after a record: a closing makes of a part that runs its compensation
 unfoldable pub role-next : Role → ℕ → Role
-role-next Standard r = Standard
-role-next Running r = cond (ltb r done-number) Running Left
-role-next Left r = Left
+role-next (Plain s) r = Plain s
+role-next Running r = cond (ltb r done-number) Running (Plain Undoing)
 
 unfoldable pub out-of : Out → Found
 out-of Spent = spent
@@ -76,7 +68,7 @@ pub record Known (rs : List ℕ) : Type 0 where
   pub each : (i : ℕ) → i < length rs → no-record (getD rs i 0) ≡ false
 
 -- what a visit asks: a table with a root, records whose closings are as the state needs, and a stretch for each record
-pub record Ready (ns rs t : List ℕ) (role : Role) : Type 0 where
+pub record VisitReady (ns rs t : List ℕ) (role : Role) : Type 0 where
   pub sound : Sound ns
   pub some : 3 ≤ length ns
   pub known : Known rs
@@ -110,20 +102,19 @@ module _ (ns rs t : List ℕ) (role : Role) (left : ℕ) (t′ : List ℕ) (o : 
 
 -- a record that is not the last: an event, or for a part that runs a closing too
 abbrev pub Inner : Role → ℕ → Type 0
-Inner Standard r = r < done-number
+Inner (Plain s) r = r < done-number
 Inner Running r = r ≤ failed-number
-Inner Left r = r < done-number
 
 -- the counts of the root's role are right
 abbrev pub RightCounts : List ℕ → Role → ℕ → List ℕ → List ℕ → Type 0
-RightCounts ns role a t c = T (ok (live role) (stored ns a (modes t) (counts c) (root ns)))
+RightCounts ns role a t c = T (ok role (stored-at (scene ns t a) c (root ns)))
 
 -- how many successors, capped
 abbrev pub successor-count : List ℕ → Role → ℕ → List ℕ → ℕ
 successor-count ns role r t = cap (length (next (state ns role t) (record-of r)))
 
 module _ (ns : List ℕ) (role : Role) (r : ℕ) (t : List ℕ) where
-  pub record Counted (c′ : List ℕ) (n : ℕ) : Type 0 where
+  pub record SuccessorsCounted (c′ : List ℕ) (n : ℕ) : Type 0 where
     pub many : n ≡ successor-count ns role r t
     pub right : RightCounts ns role r t c′
 

@@ -1,6 +1,8 @@
 // The counted search, and the judge over it.
 use flow::Check;
 use flow::Refusal;
+use states::Role;
+use states::Sense;
 use tallies::View;
 use tallies::Weight;
 ghost use mathlib.Core.Path.{_≡_};
@@ -17,8 +19,8 @@ ghost use Rattle.tallies.specs.Capped.{most};
 ghost use Rattle.tallies.specs.Formulas.{closing};
 ghost use Rattle.states.specs.Contracts.{Spot};
 ghost use Rattle.judge.specs.Judged.{room-wanted, judge-check, cleared, Searched, Judged};
-ghost use Rattle.judge.specs.Settled.{role-of, Within, answer-to};
-ghost use Rattle.judge.specs.Visits.{state, role-next, out-of, closing-of, ends-by, onward, Ready, Visited, Tried, Followed, Inner, RightCounts, successor-count, Counted, Applied};
+ghost use Rattle.judge.specs.Settled.{role-of, LeftWithin, answer-to};
+ghost use Rattle.judge.specs.Visits.{state, role-next, out-of, closing-of, ends-by, onward, VisitReady, Visited, Tried, Followed, Inner, RightCounts, successor-count, SuccessorsCounted, Applied};
 
 // How far the records were followed, and how many states were entered.
 pub struct Reach {
@@ -31,13 +33,6 @@ pub enum Answer {
     Rejected(Reach),
     Undecided(Reach),
     Refused(Refusal),
-}
-
-// What the root is in a state: a standard part, a part that runs, or one that has become its compensation.
-pub enum Role {
-    Standard,
-    Running,
-    Left,
 }
 
 // What a search brings back: whether it found the end, how many records at most it followed, and what is left of the allowance.
@@ -83,19 +78,15 @@ fn root_of(ns: &[u16]) -> usize
 }
 
 // How many successors a state has by a record that is not the last.
-fn successors(ns: &[u16], number: u16, c: &mut [u32; 64], t: &[u8], role: Role) -> u32
+fn successors(ns: &[u16], t: &[u8], number: u16, c: &mut [u32; 64], role: Role) -> u32
     requires { ⌜ Spot (now ns) (now t) (root (now ns)) ⌝ }
     requires { ⌜ (3 ≤ length (now ns)) × Inner role number ⌝ }
-    ensures { λ r. ⌜ Counted (now (ns .entry)) role number (now (t .entry)) (now (c .exit)) r ⌝ }
+    ensures { λ r. ⌜ SuccessorsCounted (now (ns .entry)) role number (now (t .entry)) (now (c .exit)) r ⌝ }
 {
     let i = root_of(ns);
     match role {
-        Role::Standard => {
-            let v = counting::count_std(ns, t, number, c, i);
-            v.moves
-        }
-        Role::Left => {
-            let v = counting::count_left(ns, t, number, c, i);
+        Role::Plain(sense) => {
+            let v = counting::count_std(ns, t, number, c, i, sense);
             v.moves
         }
         Role::Running => {
@@ -111,7 +102,7 @@ fn successors(ns: &[u16], number: u16, c: &mut [u32; 64], t: &[u8], role: Role) 
 }
 
 // The modes become those of the k-th successor.
-fn apply(ns: &[u16], number: u16, c: &[u32; 64], t: &mut [u8], role: Role, k: u32)
+fn apply(ns: &[u16], t: &mut [u8], number: u16, c: &[u32; 64], role: Role, k: u32)
     requires { ⌜ Spot (now ns) (now t) (root (now ns)) ⌝ }
     requires { ⌜ (3 ≤ length (now ns)) × Inner role number ⌝ }
     requires { ⌜ RightCounts (now ns) role number (now t) (now c) ⌝ }
@@ -120,25 +111,17 @@ fn apply(ns: &[u16], number: u16, c: &[u32; 64], t: &mut [u8], role: Role, k: u3
 {
     let i = root_of(ns);
     match role {
-        Role::Standard => steps::step_std(ns, number, c, t, i, k),
-        Role::Left => steps::step_left(ns, number, c, t, i, k),
+        Role::Plain(sense) => steps::step_std(ns, t, number, c, i, sense, k),
         Role::Running => {
             if number < flow::DONE {
-                steps::step_run(ns, number, c, t, i, k);
+                steps::step_run(ns, t, number, c, i, k);
             } else {
-                seek::seek(
-                    ns,
-                    number,
-                    t,
-                    i,
-                    small(number),
-                    Weight {
-                        own: 1,
-                        moves: 0,
-                        able: 0,
-                    },
-                    k,
-                );
+                let each = Weight {
+                    own: 1,
+                    moves: 0,
+                    able: 0,
+                };
+                seek::seek(ns, t, number, i, small(number), each, k);
             }
         }
     }
@@ -149,20 +132,19 @@ fn role_after(role: Role, number: u16) -> Role
     ensures { λ r. ⌜ r ≡ role-next role number ⌝ }
 {
     match role {
-        Role::Standard => Role::Standard,
-        Role::Left => Role::Left,
+        Role::Plain(sense) => Role::Plain(sense),
         Role::Running => {
             if number < flow::DONE {
                 Role::Running
             } else {
-                Role::Left
+                Role::Plain(Sense::Undoing)
             }
         }
     }
 }
 
 // Whether the root can end by the last record.
-fn can_end(ns: &[u16], number: u16, t: &[u8], role: Role) -> bool
+fn can_end(ns: &[u16], t: &[u8], number: u16, role: Role) -> bool
     requires { ⌜ Spot (now ns) (now t) (root (now ns)) ⌝ }
     requires { ⌜ (3 ≤ length (now ns)) × Fits (state (now ns) role (now t)) (records (number ∷ [])) ⌝ }
     ensures { λ r. ⌜ next (state (now (ns .entry)) role (now (t .entry))) (record-of number) ≡ only r (over ∷ []) ⌝ }
@@ -170,12 +152,8 @@ fn can_end(ns: &[u16], number: u16, t: &[u8], role: Role) -> bool
     let i = root_of(ns);
     let mut c = [0u32; 64];
     match role {
-        Role::Standard => {
-            let v = counting::count_std(ns, t, number, &mut c, i);
-            ends_by(v, number)
-        }
-        Role::Left => {
-            let v = counting::count_left(ns, t, number, &mut c, i);
+        Role::Plain(sense) => {
+            let v = counting::count_std(ns, t, number, &mut c, i, sense);
             ends_by(v, number)
         }
         Role::Running => false,
@@ -183,12 +161,12 @@ fn can_end(ns: &[u16], number: u16, t: &[u8], role: Role) -> bool
 }
 
 // The last record, a closing: nothing left, if the root can end so.
-fn finish(ns: &[u16], number: u16, t: &[u8], role: Role, left: u32) -> Out
+fn finish(ns: &[u16], t: &[u8], number: u16, role: Role, left: u32) -> Out
     requires { ⌜ Spot (now ns) (now t) (root (now ns)) ⌝ }
     requires { ⌜ (3 ≤ length (now ns)) × Fits (state (now ns) role (now t)) (records (number ∷ [])) ⌝ }
     ensures { λ r. ⌜ out-of r ≡ onward (state (now (ns .entry)) role (now (t .entry))) number [] left ⌝ }
 {
-    if !can_end(ns, number, t, role) {
+    if !can_end(ns, t, number, role) {
         return Out::Back(Trip {
             found: false,
             far: 0,
@@ -208,14 +186,14 @@ fn finish(ns: &[u16], number: u16, t: &[u8], role: Role, left: u32) -> Out
 
 // Into this state, if the allowance is not used up, and on from it.
 fn visit(ns: &[u16], rs: &[u16], work: &mut [u8], role: Role, left: u32) -> Out
-    requires { ⌜ Ready (now ns) (now rs) (now work) role ⌝ }
+    requires { ⌜ VisitReady (now ns) (now rs) (now work) role ⌝ }
     ensures { λ r. ⌜ Visited (now (ns .entry)) (now (rs .entry)) (now (work .entry)) role left (now (work .exit)) r ⌝ }
 {
     if left == 0 {
         return Out::Spent;
     }
     if rs.len() == 1 {
-        finish(ns, rs[0], work, role, left - 1)
+        finish(ns, work, rs[0], role, left - 1)
     } else {
         visit_each(ns, rs, work, role, left - 1)
     }
@@ -231,12 +209,12 @@ fn further(far: u32, below: u32) -> u32
 
 // The successors one after the other, until one finds the end.
 fn visit_each(ns: &[u16], rs: &[u16], work: &mut [u8], role: Role, left: u32) -> Out
-    requires { ⌜ Ready (now ns) (now rs) (now work) role ⌝ }
+    requires { ⌜ VisitReady (now ns) (now rs) (now work) role ⌝ }
     requires { ⌜ (2 ≤ length (now rs)) × (left < most) ⌝ }
     ensures { λ r. ⌜ Tried (now (ns .entry)) (now (rs .entry)) (now (work .entry)) role left (now (work .exit)) r ⌝ }
 {
     let mut c = [0u32; 64];
-    let many = successors(ns, rs[0], &mut c, work, role);
+    let many = successors(ns, work, rs[0], &mut c, role);
     let mut k = 0;
     let mut far = 0;
     let mut rest = left;
@@ -289,7 +267,7 @@ fn follow(
     k: u32,
     left: u32,
 ) -> Out
-    requires { ⌜ Ready (now ns) (now rs) (now work) role ⌝ }
+    requires { ⌜ VisitReady (now ns) (now rs) (now work) role ⌝ }
     requires { ⌜ 2 ≤ length (now rs) ⌝ }
     requires { ⌜ RightCounts (now ns) role (getD (now rs) 0 0) (now work) (now c) ⌝ }
     requires { ⌜ k < successor-count (now ns) role (getD (now rs) 0 0) (now work) ⌝ }
@@ -298,7 +276,7 @@ fn follow(
     let n = ns.len() / 3;
     copy_down(work, n);
     let w = 2 * n;
-    apply(ns, rs[0], c, &mut work[w..], role, k);
+    apply(ns, &mut work[w..], rs[0], c, role, k);
     let after = role_after(role, rs[0]);
     visit(ns, &rs[1..], &mut work[w..], after, left)
 }
@@ -322,7 +300,7 @@ fn role_of(nodes: &[u16]) -> Role
 {
     let form = flow::form_at(nodes, nodes.len() / 3 - 1);
     if form.standard {
-        Role::Standard
+        Role::Plain(Sense::Drawn)
     } else {
         Role::Running
     }
@@ -330,7 +308,7 @@ fn role_of(nodes: &[u16]) -> Role
 
 // The answer that comes of a search through so many records.
 fn answer_of(out: Out, records: usize, allowance: u32) -> Answer
-    requires { ⌜ Within allowance out ⌝ }
+    requires { ⌜ LeftWithin allowance out ⌝ }
     requires { ⌜ records ≤ 256 ⌝ }
     ensures { λ r. ⌜ r ≡ answer-to records allowance (out-of out) ⌝ }
 {
