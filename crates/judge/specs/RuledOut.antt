@@ -7,10 +7,10 @@ use mathlib.Core.List.{List, [], _∷_, _++_, map}
 use mathlib.Core.Bool.{xor}
 use lib.ListN.{replicate}
 use Rattle.calculus.specs.Search as search
-use Rattle.flow.specs.Nodes.{fold}
+use Rattle.flow.specs.Nodes.{descend}
 use Rattle.flow.specs.Records.{record-of, is-event-number, is-closing-number}
 use Rattle.flow.specs.Refusals.{first, answer, or-else-check, each, no-nodes, not-whole, too-many-nodes, unknown-kind, wrong-field, not-lower, is-child, taken, wrong-sort, child-taken, nobodys-child, no-records, too-many-records, no-record, closings-wanted, closed, wrong-closings, after-closings, node-grounds, child-grounds, nodes-grounds, table-grounds, value-grounds, values-grounds, closing-grounds, records-grounds}
-use Rattle.flow.specs.Draws.{part, drawn, flow-of}
+use Rattle.flow.specs.Draws.{made, drawn, flow-of}
 use Rattle.judge.specs.Judged.{Word, Told, told, verdict, refusal, room-wanted, too-short, room-grounds, judge-grounds, judge-check, answer-of, unless-refused, judged, cleared, unless-refused-bytes, work-after}
 
 -- 01: "six nodes 1 1 0, 1 2 0, 10 0 1, 15 0 0, 11 2 3, 9 4 0"
@@ -50,7 +50,7 @@ abbrev told-of : Line → Told
 told-of l = told (judged nodes (l .batch) (l .room) (l .allowance))
 
 pub lines-told : map told-of lines ≡ map (λ l. l .answer) lines
-unfolding lines told judged unless-refused answer-of judge-check judge-grounds room-grounds too-short room-wanted search.judge flow-of drawn part fold first answer or-else-check each no-nodes not-whole too-many-nodes unknown-kind wrong-field not-lower is-child taken wrong-sort child-taken nobodys-child no-records too-many-records no-record closings-wanted closed wrong-closings after-closings node-grounds child-grounds nodes-grounds table-grounds value-grounds values-grounds closing-grounds records-grounds record-of is-event-number is-closing-number xor
+unfolding lines told judged unless-refused answer-of judge-check judge-grounds room-grounds too-short room-wanted search.judge flow-of drawn made descend first answer or-else-check each no-nodes not-whole too-many-nodes unknown-kind wrong-field not-lower is-child taken wrong-sort child-taken nobodys-child no-records too-many-records no-record closings-wanted closed wrong-closings after-closings node-grounds child-grounds nodes-grounds table-grounds value-grounds values-grounds closing-grounds records-grounds record-of is-event-number is-closing-number xor
 lines-told = refl
 
 -- A judge that touches nothing leaves bytes that are not zero: of 50 bytes lent the first 48 are cleared.

@@ -17,7 +17,7 @@ use Rattle.flow.specs.declared.Refusal.{Refusal}
 use Rattle.flow.specs.declared.Check.{Check}
 use Rattle.flow.specs.declared.Check.the-variants.{Fine}
 use Rattle.flow.specs.declared.Check.the-variants as check
-use Rattle.flow.specs.Kinds.{kind, is-standard}
+use Rattle.flow.specs.Kinds.{node, is-standard}
 use Rattle.flow.specs.Records.{records}
 use Rattle.flow.specs.Refusals.{root, first, or-else-check, table-check, records-check, table-grounds, records-grounds, closing-grounds, wrong-closings, closings-wanted}
 use Rattle.flow.specs.FirstRefusal.{first-append, single-passed}
@@ -171,9 +171,9 @@ module _ (ns ns′ : List ℕ) (fine : table-check ns ≡ Fine) (fine′ : table
   -- they are of one sort
   pub redrawn-closings : closings-wanted ns ≡ closings-wanted ns′
   unfolding closings-wanted
-  redrawn-closings = ap (λ (b : Bool). cond b 1 2) (by (is-standard (kind ns (root ns))) refl (is-standard (kind ns′ (root ns′))) refl)
+  redrawn-closings = ap (λ (b : Bool). cond b 1 2) (by (is-standard (node ns (root ns))) refl (is-standard (node ns′ (root ns′))) refl)
     where
-      by : (a : Bool) → is-standard (kind ns (root ns)) ≡ a → (b : Bool) → is-standard (kind ns′ (root ns′)) ≡ b → is-standard (kind ns (root ns)) ≡ is-standard (kind ns′ (root ns′))
+      by : (a : Bool) → is-standard (node ns (root ns)) ≡ a → (b : Bool) → is-standard (node ns′ (root ns′)) ≡ b → is-standard (node ns (root ns)) ≡ is-standard (node ns′ (root ns′))
       by true e true d = e ∙ sym d
       by false e false d = e ∙ sym d
       by true e false d = absurd (redrawn-mixed h (flow-standard ns (fine-table ns fine) e .1) (flow-compensable ns′ (fine-table ns′ fine′) d .1))

@@ -116,12 +116,19 @@ fn apply(ns: &[u16], t: &mut [u8], number: u16, c: &[u32; 64], role: Role, k: u3
             if number < flow::DONE {
                 steps::step_run(ns, t, number, c, i, k);
             } else {
-                let each = Weight {
-                    own: 1,
-                    moves: 0,
-                    able: 0,
-                };
-                seek::seek(ns, t, number, i, small(number), each, k);
+                seek::seek(
+                    ns,
+                    t,
+                    number,
+                    i,
+                    small(number),
+                    Weight {
+                        own: 1,
+                        moves: 0,
+                        able: 0,
+                    },
+                    k,
+                );
             }
         }
     }

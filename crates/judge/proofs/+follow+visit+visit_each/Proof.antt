@@ -81,19 +81,19 @@ follow-mul-w t c = omega arith
 
 follow-shared-slice-read-apply : (t : ℕ) → follow-lts.Need-shared-slice-read-apply (follow-calls t) (follow-at t) follow.Post
 follow-shared-slice-read-apply t c =
-    let q = c .before .before .before .before .before .before .before .before .pre .1 .1 .0 in
+    let q = c .before .before .before .before .before .before .before .before .before .pre .1 .1 .0 in
     omega arith
 
 follow-sub-apply : (t : ℕ) → follow-lts.Need-sub-apply (follow-calls t) (follow-at t) follow.Post
 follow-sub-apply t c =
-    let s = c .before .before .before .before .before .before .before .before in
-    let o = copied-room (s .pre .1 .0) (s .pre .1 .1 .0) (c .before .before .before .copy-down .last .0) (c .before .before .before .copy-down .ensures) in
+    let s = c .before .before .before .before .before .before .before in
+    let o = copied-room (s .pre .1 .0) (s .pre .1 .1 .0) (c .before .before .copy-down .last .0) (c .before .before .copy-down .ensures) in
     omega arith
 
 follow-part-apply-start : (t : ℕ) → follow-lts.Need-part-apply-start (follow-calls t) (follow-at t) follow.Post
 follow-part-apply-start t c =
-    let s = c .before .before .before .before .before .before .before .before in
-    let o = copied-room (s .pre .1 .0) (s .pre .1 .1 .0) (c .before .before .before .copy-down .last .0) (c .before .before .before .copy-down .ensures) in
+    let s = c .before .before .before .before .before .before .before in
+    let o = copied-room (s .pre .1 .0) (s .pre .1 .1 .0) (c .before .before .copy-down .last .0) (c .before .before .copy-down .ensures) in
     omega arith
 
 follow-part-apply-end : (t : ℕ) → follow-lts.Need-part-apply-end (follow-calls t) (follow-at t) follow.Post
@@ -131,7 +131,7 @@ follow-sub-visit-2 t c =
     let s = c .before .before .before .before .before .before .before .before .before .before .before .before .before .before .before in
     let p = s .pre .1 in
     let a = c .before .before .before .before .before .apply in
-    let o = back-room (p .0) (p .1 .0) (c .before .before .before .before .before .before .before .before .before .before .copy-down .last .0) (c .before .before .before .before .before .before .before .before .before .before .copy-down .ensures) (s .args .k) (a .last .1 .1 .1 .0) (a .kept .1 .1 .1 .0) (a .ensures) in
+    let o = back-room (p .0) (p .1 .0) (c .before .before .before .before .before .before .before .before .before .before .copy-down .last .0) (c .before .before .before .before .before .before .before .before .before .before .copy-down .ensures) (s .args .k) (a .last .1 .0) (a .kept .1 .0) (a .ensures) in
     omega arith
 
 follow-part-visit-start-2 : (t : ℕ) → follow-lts.Need-part-visit-start-2 (follow-calls t) (follow-at t) follow.Post
@@ -139,7 +139,7 @@ follow-part-visit-start-2 t c =
     let s = c .before .before .before .before .before .before .before .before .before .before .before .before .before .before .before in
     let p = s .pre .1 in
     let a = c .before .before .before .before .before .apply in
-    let o = back-room (p .0) (p .1 .0) (c .before .before .before .before .before .before .before .before .before .before .copy-down .last .0) (c .before .before .before .before .before .before .before .before .before .before .copy-down .ensures) (s .args .k) (a .last .1 .1 .1 .0) (a .kept .1 .1 .1 .0) (a .ensures) in
+    let o = back-room (p .0) (p .1 .0) (c .before .before .before .before .before .before .before .before .before .before .copy-down .last .0) (c .before .before .before .before .before .before .before .before .before .before .copy-down .ensures) (s .args .k) (a .last .1 .0) (a .kept .1 .0) (a .ensures) in
     omega arith
 
 follow-part-visit-end-2 : (t : ℕ) → follow-lts.Need-part-visit-end-2 (follow-calls t) (follow-at t) follow.Post
@@ -152,7 +152,7 @@ follow-visit-requires t c κs =
     let a = c .before .before .before .before .before .before .apply in
     let l = rest-length (s .args .rs .now) in
     let two = p .1 .0 in
-    (omega (arith, s .pre .0), visit-asked (p .0) two (c .before .before .before .before .before .before .before .before .before .before .before .copy-down .last .0) (c .before .before .before .before .before .before .before .before .before .before .before .copy-down .ensures) (s .args .k) (a .last .1 .1 .1 .0) (a .kept .1 .1 .1 .0) (a .ensures) _ (rest-is (s .args .rs .now)) _ (c .before .before .role-after .ensures))
+    (omega (arith, s .pre .0), visit-asked (p .0) two (c .before .before .before .before .before .before .before .before .before .before .before .copy-down .last .0) (c .before .before .before .before .before .before .before .before .before .before .before .copy-down .ensures) (s .args .k) (a .last .1 .0) (a .kept .1 .0) (a .ensures) _ (rest-is (s .args .rs .now)) _ (c .before .before .role-after .ensures))
 
 follow-same-length : (t : ℕ) → follow-lts.Need-same-length (follow-calls t) (follow-at t) follow.Post
 follow-same-length t c =
@@ -160,7 +160,7 @@ follow-same-length t c =
     let p = s .pre .1 in
     let a = c .before .before .before .before .before .before .before .before .before .apply in
     let v = c .before .before .visit in
-    back-length (p .0) (p .1 .0) (c .before .before .before .before .before .before .before .before .before .before .before .before .before .before .copy-down .last .0) (c .before .before .before .before .before .before .before .before .before .before .before .before .before .before .copy-down .ensures) (s .args .k) (a .last .1 .1 .1 .0) (a .kept .1 .1 .1 .0) (a .ensures) (v .last .1 .1 .0) (v .kept .1 .1 .0)
+    back-length (p .0) (p .1 .0) (c .before .before .before .before .before .before .before .before .before .before .before .before .before .before .copy-down .last .0) (c .before .before .before .before .before .before .before .before .before .before .before .before .before .before .copy-down .ensures) (s .args .k) (a .last .1 .0) (a .kept .1 .0) (a .ensures) (v .last .1 .1 .0) (v .kept .1 .1 .0)
 
 follow-returns : (t : ℕ) → follow-lts.Need-returns (follow-calls t) (follow-at t) follow.Post
 follow-returns t c =
@@ -168,7 +168,7 @@ follow-returns t c =
     let p = s .pre .1 in
     let a = c .before .before .before .before .before .before .before .before .before .apply in
     let v = c .before .before .visit in
-    followed (p .0) (p .1 .0) (c .before .before .before .before .before .before .before .before .before .before .before .before .before .before .copy-down .last .0) (c .before .before .before .before .before .before .before .before .before .before .before .before .before .before .copy-down .ensures) (s .args .k) (a .last .1 .1 .1 .0) (a .kept .1 .1 .1 .0) (a .ensures) _ (rest-is (s .args .rs .now)) _ (c .before .before .before .before .before .role-after .ensures) (s .args .left) (v .result) (v .last .1 .1 .0) (v .ensures)
+    followed (p .0) (p .1 .0) (c .before .before .before .before .before .before .before .before .before .before .before .before .before .before .copy-down .last .0) (c .before .before .before .before .before .before .before .before .before .before .before .before .before .before .copy-down .ensures) (s .args .k) (a .last .1 .0) (a .kept .1 .0) (a .ensures) _ (rest-is (s .args .rs .now)) _ (c .before .before .before .before .before .role-after .ensures) (s .args .left) (v .result) (v .last .1 .1 .0) (v .ensures)
 
 visit-returns : (t : ℕ) → visit-lts.Need-returns (visit-calls t) (visit-at t) visit.Post
 visit-returns t c =
@@ -224,7 +224,7 @@ visit-each-μ-loop ns rs work₀ role left c many k₀ far₀ rest₀ work k far
 visit-each-shared-slice-read-successors :
     (t : ℕ) → visit-each-lts.Need-shared-slice-read-successors (visit-each-calls t) (visit-each-at t) visit-each.Post visit-each-Inv-loop visit-each-μ-loop
 visit-each-shared-slice-read-successors t c =
-    let q = c .before .before .before .before .pre .1 .1 .0 in
+    let q = c .before .before .before .before .before .pre .1 .1 .0 in
     omega arith
 
 visit-each-successors-requires : (t : ℕ) → visit-each-lts.Need-successors-requires (visit-each-calls t) (visit-each-at t) visit-each.Post visit-each-Inv-loop visit-each-μ-loop
@@ -244,7 +244,7 @@ visit-each-follow-requires t c κs =
     let p = s .pre .1 in
     let l = c .before .before .before .loop in
     let n = c .before .before .before .before .successors in
-    (omega (arith, s .pre .0), (ready-still (p .0) (l .work) (l .inv .1 .0) (l .inv .0), (p .1 .0, (right-still (p .0) (l .work) (l .inv .1 .0) (getD (s .args .rs .now) 0 0) (n .last .1 .1 .0) (n .ensures .right), count-still (p .0) (l .work) (l .inv .1 .0) (l .k) (getD (s .args .rs .now) 0 0) (n .result) (c .before .before .loop-test .taken) (n .ensures .many)))))
+    (omega (arith, s .pre .0), (ready-still (p .0) (l .work) (l .inv .1 .0) (l .inv .0), (p .1 .0, (right-still (p .0) (l .work) (l .inv .1 .0) (getD (s .args .rs .now) 0 0) (n .last .1 .1 .1 .0) (n .ensures .right), count-still (p .0) (l .work) (l .inv .1 .0) (l .k) (getD (s .args .rs .now) 0 0) (n .result) (c .before .before .loop-test .taken) (n .ensures .many)))))
 
 visit-each-enum-told : (t : ℕ) → visit-each-lts.Need-enum-told (visit-each-calls t) (visit-each-at t) visit-each.Post visit-each-Inv-loop visit-each-μ-loop
 visit-each-enum-told t c = search needs
@@ -329,4 +329,4 @@ visit-each-returns-3 t c =
     }
 
 pub +follow+visit+visit-each-spec : {M : Type 1} → statement M
-+follow+visit+visit-each-spec = close μ-follow μ-visit μ-visit-each (λ t. follow-lts.spec (follow-calls t) (follow-at t) follow.Post (follow-copy-down-requires t) (follow-mul-w t) (follow-shared-slice-read-apply t) (follow-sub-apply t) (follow-part-apply-start t) (follow-part-apply-end t) (follow-apply-requires t) (follow-shared-slice-read-role-after t) (follow-role-after-requires t) (follow-sub-visit t) (follow-part-visit-start t) (follow-part-visit-end t) (follow-sub-visit-2 t) (follow-part-visit-start-2 t) (follow-part-visit-end-2 t) (follow-visit-requires t) (follow-same-length t) (follow-returns t)) (λ t. visit-lts.spec (visit-calls t) (visit-at t) visit.Post (visit-returns t) (visit-shared-slice-read-finish t) (visit-sub-finish t) (visit-finish-requires t) (visit-sub-visit-each t) (visit-visit-each-requires t) (visit-same-length t) (visit-returns-2 t) (visit-same-length-2 t) (visit-returns-3 t)) λ t. visit-each-lts.spec (visit-each-calls t) (visit-each-at t) visit-each.Post visit-each-Inv-loop visit-each-μ-loop (visit-each-shared-slice-read-successors t) (visit-each-successors-requires t) (visit-each-loop-holds t) (visit-each-follow-requires t) (visit-each-enum-told t) (visit-each-same-length t) (visit-each-returns t) (visit-each-enum-known-trip t) (visit-each-further-requires t) (visit-each-same-length-2 t) (visit-each-returns-2 t) (visit-each-add-k t) (visit-each-loop-less t) (visit-each-loop-again t) (visit-each-same-length-3 t) (visit-each-returns-3 t)
++follow+visit+visit-each-spec = close μ-follow μ-visit μ-visit-each (λ t. follow-lts.spec (follow-calls t) (follow-at t) follow.Post (follow-copy-down-requires t) (follow-mul-w t) (follow-sub-apply t) (follow-part-apply-start t) (follow-part-apply-end t) (follow-shared-slice-read-apply t) (follow-apply-requires t) (follow-shared-slice-read-role-after t) (follow-role-after-requires t) (follow-sub-visit t) (follow-part-visit-start t) (follow-part-visit-end t) (follow-sub-visit-2 t) (follow-part-visit-start-2 t) (follow-part-visit-end-2 t) (follow-visit-requires t) (follow-same-length t) (follow-returns t)) (λ t. visit-lts.spec (visit-calls t) (visit-at t) visit.Post (visit-returns t) (visit-shared-slice-read-finish t) (visit-sub-finish t) (visit-finish-requires t) (visit-sub-visit-each t) (visit-visit-each-requires t) (visit-same-length t) (visit-returns-2 t) (visit-same-length-2 t) (visit-returns-3 t)) λ t. visit-each-lts.spec (visit-each-calls t) (visit-each-at t) visit-each.Post visit-each-Inv-loop visit-each-μ-loop (visit-each-shared-slice-read-successors t) (visit-each-successors-requires t) (visit-each-loop-holds t) (visit-each-follow-requires t) (visit-each-enum-told t) (visit-each-same-length t) (visit-each-returns t) (visit-each-enum-known-trip t) (visit-each-further-requires t) (visit-each-same-length-2 t) (visit-each-returns-2 t) (visit-each-add-k t) (visit-each-loop-less t) (visit-each-loop-again t) (visit-each-same-length-3 t) (visit-each-returns-3 t)

@@ -2,7 +2,7 @@
 use mathlib.Core.Path.{subst}
 use borrow.Author.Needs.{needs}
 use Rattle.judge.specs.Visits.{out-of}
-use Rattle.judge.specs.Settled.{Within, answer-to}
+use Rattle.judge.specs.Settled.{LeftWithin, answer-to}
 use Rattle.judge.proofs.answer_of.Statement.{statement}
 use Rattle.judge.proofs.answer_of.Tie as tie
 
@@ -13,7 +13,7 @@ enum-known-out : tie.Need-enum-known-out
 enum-known-out c = search needs
 
 sub-count : tie.Need-sub-count
-sub-count c = subst (Within (c .before .before .before .before .args .allowance)) (c .before .before .out .given .1) (c .before .before .before .before .pre .0)
+sub-count c = subst (LeftWithin (c .before .before .before .before .args .allowance)) (c .before .before .out .given .1) (c .before .before .before .before .pre .0)
 
 cast-t10 : tie.Need-cast-t10
 cast-t10 c = search needs

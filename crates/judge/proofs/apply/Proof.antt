@@ -7,32 +7,20 @@ use Rattle.judge.proofs.apply.Tie as tie
 root-of-requires : tie.Need-root-of-requires
 root-of-requires c κs = c .before .before .pre .1 .0 .0
 
-enum-told : tie.Need-enum-told
-enum-told c = search needs
+enum-known-role : tie.Need-enum-known-role
+enum-known-role c = search needs
 
 step-std-requires : tie.Need-step-std-requires
 step-std-requires c κs =
-    let s = c .before .before .before .before .before .before in
+    let s = c .before .before .before .before .before .before .before in
     let a = s .args in
     let p = s .pre in
-    let i = c .before .before .before .root-of in
-    let g = c .before .enum-told .given .1 in
+    let i = c .before .before .before .before .root-of in
+    let g = c .before .before .role .given .1 in
     step-asked (a .ns .now) (a .t .now) (a .number) (i .result) (i .ensures) g (inner-is (a .ns .now) (a .t .now) (a .number) (i .result) (i .ensures) g (p .1 .0 .1)) (p .0) (p .1 .1 .0) (p .1 .1 .1)
 
-enum-told-2 : tie.Need-enum-told-2
-enum-told-2 c = search needs
-
-step-left-requires : tie.Need-step-left-requires
-step-left-requires c κs =
-    let s = c .before .before .before .before .before .before in
-    let a = s .args in
-    let p = s .pre in
-    let i = c .before .before .before .root-of in
-    let g = c .before .enum-told2 .given .1 in
-    step-asked (a .ns .now) (a .t .now) (a .number) (i .result) (i .ensures) g (inner-is (a .ns .now) (a .t .now) (a .number) (i .result) (i .ensures) g (p .1 .0 .1)) (p .0) (p .1 .1 .0) (p .1 .1 .1)
-
-enum-told-3 : tie.Need-enum-told-3
-enum-told-3 c = search needs
+enum-told : tie.Need-enum-told
+enum-told c = search needs
 
 step-run-requires : tie.Need-step-run-requires
 step-run-requires c κs =
@@ -40,7 +28,7 @@ step-run-requires c κs =
     let a = s .args in
     let p = s .pre in
     let i = c .before .before .before .before .root-of in
-    step-asked (a .ns .now) (a .t .now) (a .number) (i .result) (i .ensures) (c .before .before .enum-told3 .given .1) (c .before .if1 .taken) (p .0) (p .1 .1 .0) (p .1 .1 .1)
+    step-asked (a .ns .now) (a .t .now) (a .number) (i .result) (i .ensures) (c .before .before .enum-told .given .1) (c .before .if1 .taken) (p .0) (p .1 .1 .0) (p .1 .1 .1)
 
 small-requires : tie.Need-small-requires
 small-requires c κs = search needs
@@ -51,17 +39,17 @@ seek-requires c κs =
     let a = s .args in
     let p = s .pre in
     let i = c .before .before .before .before .before .root-of in
-    closing-asked (a .ns .now) (a .t .now) (a .number) (i .result) (i .ensures) (c .before .before .before .enum-told3 .given .1) (c .before .before .if1 .left) (p .1 .0 .1) (c .small .result) (c .small .ensures .1) (c .small .ensures .0) (p .0) (p .1 .1 .1)
+    closing-asked (a .ns .now) (a .t .now) (a .number) (i .result) (i .ensures) (c .before .before .before .enum-told .given .1) (c .before .before .if1 .left) (p .1 .0 .1) (c .small .result) (c .small .ensures .1) (c .small .ensures .0) (p .0) (p .1 .1 .1)
 
 same-length : tie.Need-same-length
 same-length c = search needs
 
 returns : tie.Need-returns
 returns c =
-    let s = c .before .before .before .before .before .before .before .before .before in
+    let s = c .before .before .before .before .before .before .before .before .before .before in
     let a = s .args in
-    let i = c .before .before .before .before .before .before .root-of in
-    let g = c .before .before .before .before .enum-told .given .1 in
+    let i = c .before .before .before .before .before .before .before .root-of in
+    let g = c .before .before .before .before .before .role .given .1 in
     step-applied (a .ns .now) (a .t .now) (a .number) (i .result) (i .ensures) g (inner-is (a .ns .now) (a .t .now) (a .number) (i .result) (i .ensures) g (s .pre .1 .0 .1)) (c .before .before .step-std .ensures)
 
 same-length-2 : tie.Need-same-length-2
@@ -69,43 +57,30 @@ same-length-2 c = search needs
 
 returns-2 : tie.Need-returns-2
 returns-2 c =
-    let s = c .before .before .before .before .before .before .before .before .before in
+    let s = c .before .before .before .before .before .before .before .before .before .before in
     let a = s .args in
-    let i = c .before .before .before .before .before .before .root-of in
-    let g = c .before .before .before .before .enum-told2 .given .1 in
-    step-applied (a .ns .now) (a .t .now) (a .number) (i .result) (i .ensures) g (inner-is (a .ns .now) (a .t .now) (a .number) (i .result) (i .ensures) g (s .pre .1 .0 .1)) (c .before .before .step-left .ensures)
+    let i = c .before .before .before .before .before .before .before .root-of in
+    step-applied (a .ns .now) (a .t .now) (a .number) (i .result) (i .ensures) (c .before .before .before .before .before .enum-told .given .1) (c .before .before .before .before .if1 .taken) (c .before .before .step-run .ensures)
 
 same-length-3 : tie.Need-same-length-3
 same-length-3 c = search needs
 
 returns-3 : tie.Need-returns-3
 returns-3 c =
-    let s = c .before .before .before .before .before .before .before .before .before .before in
-    let a = s .args in
-    let i = c .before .before .before .before .before .before .before .root-of in
-    step-applied (a .ns .now) (a .t .now) (a .number) (i .result) (i .ensures) (c .before .before .before .before .before .enum-told3 .given .1) (c .before .before .before .before .if1 .taken) (c .before .before .step-run .ensures)
-
-same-length-4 : tie.Need-same-length-4
-same-length-4 c = search needs
-
-returns-4 : tie.Need-returns-4
-returns-4 c =
     let s = c .before .before .before .before .before .before .before .before .before .before .before in
     let a = s .args in
     let i = c .before .before .before .before .before .before .before .before .root-of in
     let w = c .before .before .before .small in
-    closing-applied (a .ns .now) (a .t .now) (a .number) (i .result) (i .ensures) (c .before .before .before .before .before .before .enum-told3 .given .1) (c .before .before .before .before .before .if1 .left) (s .pre .1 .0 .1) (w .result) (w .ensures .1) (c .before .before .seek .ensures)
+    closing-applied (a .ns .now) (a .t .now) (a .number) (i .result) (i .ensures) (c .before .before .before .before .before .before .enum-told .given .1) (c .before .before .before .before .before .if1 .left) (s .pre .1 .0 .1) (w .result) (w .ensures .1) (c .before .before .seek .ensures)
 
 pub apply-spec : {M : Type 1} → statement M
 apply-spec =
     tie.close
     (tie.spec
     root-of-requires
-    enum-told
+    enum-known-role
     step-std-requires
-    enum-told-2
-    step-left-requires
-    enum-told-3
+    enum-told
     step-run-requires
     small-requires
     seek-requires
@@ -114,6 +89,4 @@ apply-spec =
     same-length-2
     returns-2
     same-length-3
-    returns-3
-    same-length-4
-    returns-4)
+    returns-3)

@@ -1,26 +1,20 @@
 -- `judge::successors` meets its contract: by the role, what the counting pass gives of the root. Assumes nothing.
-use borrow.Author.Needs.{needs}
 use Rattle.judge.proofs.OneRecord.{inner-is, counted-event, counted-closing}
+use borrow.Author.Needs.{needs}
 use Rattle.judge.proofs.successors.Statement.{statement}
 use Rattle.judge.proofs.successors.Tie as tie
 
 root-of-requires : tie.Need-root-of-requires
-root-of-requires c κs = c .before .before .pre .1 .0
+root-of-requires c κs = search needs
+
+enum-known-role : tie.Need-enum-known-role
+enum-known-role c = search needs
+
+count-std-requires : tie.Need-count-std-requires
+count-std-requires c κs = rw (c .before .before .before .before .root-of .ensures) (c .before .before .before .before .before .before .before .pre .0)
 
 enum-told : tie.Need-enum-told
 enum-told c = search needs
-
-count-std-requires : tie.Need-count-std-requires
-count-std-requires c κs = rw (c .before .before .before .root-of .ensures) (c .before .before .before .before .before .before .pre .0)
-
-enum-told-2 : tie.Need-enum-told-2
-enum-told-2 c = search needs
-
-count-left-requires : tie.Need-count-left-requires
-count-left-requires c κs = rw (c .before .before .before .root-of .ensures) (c .before .before .before .before .before .before .pre .0)
-
-enum-told-3 : tie.Need-enum-told-3
-enum-told-3 c = search needs
 
 count-run-requires : tie.Need-count-run-requires
 count-run-requires c κs = rw (c .before .before .before .root-of .ensures) (c .before .before .before .before .before .before .pre .0)
@@ -33,49 +27,38 @@ tally-by-requires c κs = search needs
 
 returns : tie.Need-returns
 returns c =
-    let s = c .before .before .before .before .before .before .before in
+    let s = c .before .before .before .before .before .before .before .before in
     let a = s .args in
-    let i = c .before .before .before .before .root-of in
-    let g = c .before .before .enum-told .given .1 in
+    let i = c .before .before .before .before .before .root-of in
+    let g = c .before .before .before .role .given .1 in
     counted-event (a .ns .now) (a .t .now) (a .number) (i .result) (i .ensures) g (inner-is (a .ns .now) (a .t .now) (a .number) (i .result) (i .ensures) g (s .pre .1 .1)) (c .count-std .ensures)
 
 returns-2 : tie.Need-returns-2
 returns-2 c =
-    let s = c .before .before .before .before .before .before .before in
-    let a = s .args in
-    let i = c .before .before .before .before .root-of in
-    let g = c .before .before .enum-told2 .given .1 in
-    counted-event (a .ns .now) (a .t .now) (a .number) (i .result) (i .ensures) g (inner-is (a .ns .now) (a .t .now) (a .number) (i .result) (i .ensures) g (s .pre .1 .1)) (c .count-left .ensures)
-
-returns-3 : tie.Need-returns-3
-returns-3 c =
     let s = c .before .before .before .before .before .before .before .before in
     let a = s .args in
     let i = c .before .before .before .before .before .root-of in
-    counted-event (a .ns .now) (a .t .now) (a .number) (i .result) (i .ensures) (c .before .before .before .enum-told3 .given .1) (c .if1 .taken) (c .before .count-run .ensures)
+    counted-event (a .ns .now) (a .t .now) (a .number) (i .result) (i .ensures) (c .before .before .before .enum-told .given .1) (c .if1 .taken) (c .before .count-run .ensures)
 
-returns-4 : tie.Need-returns-4
-returns-4 c =
+returns-3 : tie.Need-returns-3
+returns-3 c =
     let s = c .before .before .before .before .before .before .before .before .before .before in
     let a = s .args in
     let i = c .before .before .before .before .before .before .before .root-of in
     let w = c .before .small in
-    counted-closing (a .ns .now) (a .t .now) (a .number) (i .result) (i .ensures) (c .before .before .before .before .before .enum-told3 .given .1) (c .before .before .if1 .left) (s .pre .1 .1) (w .result) (w .ensures .1) (c .before .before .before .count-run .ensures) (c .tally-by .ensures)
+    counted-closing (a .ns .now) (a .t .now) (a .number) (i .result) (i .ensures) (c .before .before .before .before .before .enum-told .given .1) (c .before .before .if1 .left) (s .pre .1 .1) (w .result) (w .ensures .1) (c .before .before .before .count-run .ensures) (c .tally-by .ensures)
 
 pub successors-spec : {M : Type 1} → statement M
 successors-spec =
     tie.close
     (tie.spec
     root-of-requires
-    enum-told
+    enum-known-role
     count-std-requires
-    enum-told-2
-    count-left-requires
-    enum-told-3
+    enum-told
     count-run-requires
     small-requires
     tally-by-requires
     returns
     returns-2
-    returns-3
-    returns-4)
+    returns-3)
