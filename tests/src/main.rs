@@ -1,7 +1,6 @@
 //! The commands: see USAGE, and README.md for what each is for.
 
-use oracle::cases::malformed::malformed;
-use oracle::cases::{Stream, Totals};
+use oracle::cases::{Run, Stream, Totals, STORED_CASES, STORED_SEED};
 use oracle::compare::compare;
 use oracle::judge::{with_deep_stack, Answer};
 use oracle::laws::laws;
@@ -11,6 +10,7 @@ use std::process::ExitCode;
 
 const USAGE: &str = "usage:
   oracle cases N SEED OUT_STDIN OUT_STDOUT   N cases for replay and the lines it must print
+  oracle stored DIR                          the cases that the gate keeps, as DIR/stdin and DIR/stdout
   oracle compare N SEED COMMAND ..           run replay by this command on N cases; stop at the first difference
   oracle selfcheck N SEED                    the oracle against trace sets and laws, N flows each
   oracle samples DIR                         write the sample files and expected.txt
@@ -36,6 +36,9 @@ fn run(arguments: &[String]) -> Result<String, String> {
     let words: Vec<&str> = arguments.iter().map(String::as_str).collect();
     match words[..] {
         ["cases", n, seed, stdin, stdout] => cases(number(n)?, number(seed)?, stdin, stdout),
+        ["stored", folder] => {
+            cases(STORED_CASES as u64, STORED_SEED, &format!("{folder}/stdin"), &format!("{folder}/stdout"))
+        }
         ["compare", n, seed, ref replay @ ..] => compare(number(n)?, number(seed)?, replay),
         ["selfcheck", n, seed] => selfcheck(number(n)?, number(seed)?),
         ["samples", folder] => samples::write(folder).map_err(|e| format!("{folder}: {e}\n")),
@@ -71,21 +74,15 @@ fn number(word: &str) -> Result<u64, String> {
     word.parse().map_err(|_| format!("{word} is no number\n{USAGE}"))
 }
 
-/// So many cases and, last, one that is none, chosen by the seed.
+/// So many cases, and something that is none behind them.
 fn cases(count: u64, seed: u64, stdin: &str, stdout: &str) -> Result<String, String> {
-    let (mut input, mut lines, mut totals) = (vec![], String::new(), Totals::default());
-    for made in Stream::new(seed).take(count as usize) {
-        input.extend(made.case.bytes());
-        lines.push_str(&made.case.line(made.answer));
-        lines.push('\n');
-        totals.count(&made);
-    }
-    let bad = malformed();
-    input.extend(&bad[seed as usize % bad.len()].bytes);
-    lines.push_str("bad case\n");
-    std::fs::write(stdin, &input).map_err(|e| format!("{stdin}: {e}\n"))?;
-    std::fs::write(stdout, &lines).map_err(|e| format!("{stdout}: {e}\n"))?;
-    Ok(format!("{}{} bytes of cases, seed {seed}\n", totals.show(), input.len()))
+    let cases: Vec<_> = Stream::new(seed).take(count as usize).collect();
+    let mut totals = Totals::default();
+    cases.iter().for_each(|made| totals.count(made));
+    let run = Run::of(&cases, seed);
+    std::fs::write(stdin, &run.stdin).map_err(|e| format!("{stdin}: {e}\n"))?;
+    std::fs::write(stdout, &run.stdout).map_err(|e| format!("{stdout}: {e}\n"))?;
+    Ok(format!("{}{} bytes of cases, seed {seed}\n", totals.show(), run.stdin.len()))
 }
 
 fn selfcheck(flows: u64, seed: u64) -> Result<String, String> {

@@ -199,9 +199,9 @@ pub fn readme() -> String {
     let mut text = String::from(
         "# Sample flow files
 
-Give one to the program on its standard input; it prints the line shown. The line is the verdict, the
-refusal number or 0, the place, and the number of states the search entered. `expected.txt` has the same
-lines for the gate.
+Give one to `./judge`; it prints the line shown. `./judge samples/*.flow` prints the list of all. The line is
+the verdict, the refusal number or 0, the place, and the number of states the search entered. `expected.txt`
+has the same lines for the gate, and `docs/FLOWS.md` takes `worked.flow` apart byte by byte.
 
 This folder is written by `oracle samples DIR` (see `tests/`): change a sample there.
 

@@ -1,18 +1,32 @@
-//! The stream of cases covers what it is to cover, and is the same for the same seed.
+//! The stream of cases covers what it is to cover, is the same for the same seed, and gives the gate's stored run.
 
 use oracle::by_hand;
 use oracle::cases::malformed::malformed;
-use oracle::cases::{Case, Made, Stream, Totals, MOST_NUMBERS, MOST_WORK};
+use oracle::cases::{Case, Made, Run, Stream, Totals, MOST_NUMBERS, MOST_WORK, STORED_CASES, STORED_SEED};
 use oracle::judge::{with_deep_stack, Answer};
 use oracle::reader::read;
 use oracle::refusals::work_wanted;
 use oracle::term::{sort_of, Sort};
+use std::path::PathBuf;
 use std::sync::OnceLock;
 
-/// The first cases of one seed, made once for all tests.
+/// The cases of the stored run, made once for all tests.
 fn cases() -> &'static [Made] {
     static CASES: OnceLock<Vec<Made>> = OnceLock::new();
-    CASES.get_or_init(|| with_deep_stack(|| Stream::new(1).take(6_000).collect()))
+    CASES.get_or_init(|| with_deep_stack(|| Stream::new(STORED_SEED).take(STORED_CASES).collect()))
+}
+
+/// If not, a change of the generator is to be followed by `oracle stored ../crates/replay`.
+#[test]
+fn the_stored_run_is_up_to_date() {
+    let folder = PathBuf::from(env!("CARGO_MANIFEST_DIR")).join("../crates/replay");
+    let stored = |name| std::fs::read(folder.join(name)).unwrap();
+    let run = Run::of(cases(), STORED_SEED);
+    assert!(stored("stdin") == run.stdin, "crates/replay/stdin is not what the generator makes");
+    assert!(
+        stored("stdout") == run.stdout.as_bytes(),
+        "crates/replay/stdout is not what the generator makes"
+    );
 }
 
 #[test]
@@ -96,8 +110,8 @@ fn a_seed_stands_for_its_cases() {
     let fixed = oracle::cases::fixed::cases().len();
     let bytes = |made: &[Made]| made.iter().map(|m| m.case.bytes()).collect::<Vec<_>>();
     let again = |seed| with_deep_stack(move || Stream::new(seed).take(fixed + 200).collect::<Vec<_>>());
-    assert_eq!(bytes(&again(1)), bytes(&cases()[..fixed + 200]));
-    let other = bytes(&again(2));
+    assert_eq!(bytes(&again(STORED_SEED)), bytes(&cases()[..fixed + 200]));
+    let other = bytes(&again(STORED_SEED + 1));
     assert_eq!(other[..fixed], bytes(&cases()[..fixed]));
     assert_ne!(other[fixed..], bytes(&cases()[fixed..fixed + 200]));
 }

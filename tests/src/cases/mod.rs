@@ -15,6 +15,7 @@ pub mod spoiling;
 pub mod undoing;
 pub mod wide;
 
+use self::malformed::malformed;
 use crate::drawing::{self, show_event};
 use crate::judge::{judge_within, Answer};
 use crate::reader::program_within;
@@ -208,6 +209,31 @@ impl Iterator for Stream {
                 return Some(Made { family, case, answer });
             }
         }
+    }
+}
+
+/// The gate's stored run, `crates/replay/stdin` and `stdout`: so many cases of this seed.
+pub const STORED_CASES: usize = 6_000;
+pub const STORED_SEED: u64 = 1;
+
+/// A run of `replay`: its input, and the lines that it has to print.
+pub struct Run {
+    pub stdin: Vec<u8>,
+    pub stdout: String,
+}
+
+impl Run {
+    /// These cases and, last, something that is none, chosen by the seed.
+    pub fn of(cases: &[Made], seed: u64) -> Run {
+        let mut run = Run { stdin: vec![], stdout: String::new() };
+        for made in cases {
+            run.stdin.extend(made.case.bytes());
+            writeln!(run.stdout, "{}", made.case.line(made.answer)).unwrap();
+        }
+        let bad = malformed();
+        run.stdin.extend(&bad[seed as usize % bad.len()].bytes);
+        run.stdout.push_str("bad case\n");
+        run
     }
 }
 
