@@ -1,7 +1,7 @@
 -- Membership in the lists that the successor functions build, and truth of their tests. Assumes nothing.
 use mathlib.Core.Path.{_≡_, refl, subst}
 use mathlib.Core.Logic.{_≢_, _⊎_, inl, inr}
-use mathlib.Core.Bool.{Bool, true, false, not, _&&_, _||_}
+use mathlib.Core.Bool.{Bool, true, false, cond, not, _&&_, _||_}
 use lib.Dec.{T}
 use mathlib.Core.List.{List, [], _∷_, _++_, map, List·Memᴰ, List·Memᴰ·head, List·Memᴰ·tail, List·Memᴰ·not-nil, List·Memᴰ·append-cases, Memᴰ·append-left, Memᴰ·append-right, Memᴰ·of-map}
 use Rattle.calculus.specs.Term.{Closing, done, withdrawn, failed, eqc}
@@ -57,6 +57,30 @@ other-in u v h = by (eqc u v) (λ g. h (same u v g))
     by : (b : Bool) → (T b → ⊥) → T (not b)
     by true k = k tt
     by false k = tt
+
+-- the two outcomes of comparing closings
+pub data Is (w u : Closing) : Bool → Type 0 where
+  it : w ≡ u → Is w u true
+  other-one : w ≢ u → Is w u false
+
+pub is : (w u : Closing) → Is w u (eqc w u)
+is w u = by (eqc w u) (same w u) (other w u)
+  where
+    by : (b : Bool) → (T b → w ≡ u) → (T (not b) → w ≢ u) → Is w u b
+    by true f g = it (f tt)
+    by false f g = other-one (g tt)
+
+module _ {A : Type 0} where
+  pub cond-other : {w u : Closing} (x y : A) → w ≢ u → cond (eqc w u) x y ≡ y
+  cond-other {w} {u} x y n = by (is w u)
+    where
+      by : {b : Bool} → Is w u b → cond b x y ≡ y
+      by (it e) = absurd (n e)
+      by (other-one k) = refl
+
+  pub cond-both : (P : A → Type 0) (b : Bool) (x y : A) → P x → P y → P (cond b x y)
+  cond-both P true x y f g = f
+  cond-both P false x y f g = g
 
 pub in-closings : (w : Closing) → List·Memᴰ w closings
 in-closings done = List·Memᴰ·head refl
