@@ -19,3 +19,4 @@ pub mod Found
 pub mod Redrawn
 pub mod Budget
 pub mod JudgedByHand
+pub mod RuledOut
