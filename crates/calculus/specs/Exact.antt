@@ -29,37 +29,35 @@ pub record CGood (pp : Cmp) : Type 0 where
 
 -- Standard parts ----------------------------------------------------------------------------------------------------------
 
-skip-good : Good skipB
-skip-good = record { ends-only = eo; ends-all = ea; steps-only = λ a r m. absurd (List·Memᴰ·not-nil m); steps-all = λ a r h. elim h [ ] }
-  where
-    eo : (w : Closing) → T (eqc w done) → End skip w
-    eo w h = subst (End skip) (sym (same w done h)) skip-ends
+-- a part that only ends
+still-good : {p : Std} {f : Closing → Bool} → ((w : Closing) → T (f w) → End p w) → ((w : Closing) → End p w → T (f w)) → ((a : ℕ) (r : Std) → Step p a r → ⊥) → Good (does p f (λ a. []))
+still-good eo ea no-step = record { ends-only = eo; ends-all = ea; steps-only = λ a r m. absurd (List·Memᴰ·not-nil m); steps-all = λ a r h. absurd (no-step a r h) }
 
-    ea : (w : Closing) → End skip w → T (eqc w done)
-    ea w skip-ends = tt
+skip-good : Good skipB
+skip-good = still-good (λ w h. subst (End skip) (sym (same w done h)) skip-ends) (λ w. ea) (λ a r h. elim h [ ])
+  where
+    ea : {w : Closing} → End skip w → T (eqc w done)
+    ea skip-ends = tt
 
 throw-good : Good (beh throw)
 unfolding ends
-throw-good = record { ends-only = eo; ends-all = ea; steps-only = λ a r m. absurd (List·Memᴰ·not-nil m); steps-all = λ a r h. elim h [ ] }
+throw-good = still-good (λ w h. subst (End throw) (sym (same w failed h)) throw-ends) (λ w. ea) (λ a r h. elim h [ ])
   where
-    eo : (w : Closing) → T (eqc w failed) → End throw w
-    eo w h = subst (End throw) (sym (same w failed h)) throw-ends
-
-    ea : (w : Closing) → End throw w → T (eqc w failed)
-    ea w throw-ends = tt
+    ea : {w : Closing} → End throw w → T (eqc w failed)
+    ea throw-ends = tt
 
 yield-good : Good (beh yield)
 unfolding ends
-yield-good = record { ends-only = eo; ends-all = ea; steps-only = λ a r m. absurd (List·Memᴰ·not-nil m); steps-all = λ a r h. elim h [ ] }
+yield-good = still-good eo (λ w. ea) (λ a r h. elim h [ ])
   where
     eo : (w : Closing) → T (not (eqc w failed)) → End yield w
     eo failed h = absurd h
     eo withdrawn h = yield-yields
     eo done h = yield-ends
 
-    ea : (w : Closing) → End yield w → T (not (eqc w failed))
-    ea w yield-ends = tt
-    ea w yield-yields = tt
+    ea : {w : Closing} → End yield w → T (not (eqc w failed))
+    ea yield-ends = tt
+    ea yield-yields = tt
 
 ev-good : (l : Leaf) → Good (beh (ev l))
 unfolding ends

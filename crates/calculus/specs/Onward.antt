@@ -1,5 +1,5 @@
--- What ; and ▷ have in common: the second part goes on after one closing of the first, ✓ for ;, ! for ▷. What is proved of both is
--- proved once, of `Onward`. Assumes nothing.
+-- What ; and ▷ have in common: the second part goes on after one closing of the first, ✓ for ;, ! for ▷. What is proved of both
+-- is proved once, of `Onward`. Assumes nothing.
 use Prim.Native.Nat.{ℕ}
 use mathlib.Core.Path.{_≡_, refl}
 use mathlib.Core.Logic.{_≢_, _⊎_, inl, inr}

@@ -1,5 +1,5 @@
--- 01, "Errors that look right", each refuted from the rules and the definitions: what THROW does beside a part that can withdraw, a
--- choice that is not resolved before its step, compensations in their order and of finished pairs only, a block that does
+-- 01, "Errors that look right", each refuted from the rules and the definitions: what THROW does beside a part that can withdraw,
+-- a choice that is not resolved before its step, compensations in their order and of finished pairs only, a block that does
 -- not take the withdrawn ending of its inside; and a search that does not count its root, or counts equal successors once.
 -- (Sharing a node between two parents is refused by number 8.) Assumes nothing.
 use Prim.Native.Nat.{ℕ, _≤_}
@@ -26,7 +26,9 @@ pub throw-after : {p : Std} → End p withdrawn → End (seq p throw) withdrawn
 throw-after e = seq-stops e (other withdrawn done tt)
 
 pub not-throw-after : (p : Std) → End p withdrawn → Same (par throw p) (seq p throw) → ⊥
-not-throw-after p e h = no-run (runs-are-traces (par throw p) [] withdrawn .1 (same-traces h (tr [] withdrawn) .1 (runs-are-traces (seq p throw) [] withdrawn .0 (closes (throw-after e)))))
+not-throw-after p e h =
+    let after : Tr (seq p throw) (tr [] withdrawn) = runs-are-traces (seq p throw) [] withdrawn .0 (closes (throw-after e)) in
+    no-run (runs-are-traces (par throw p) [] withdrawn .1 (same-traces h (tr [] withdrawn) .1 after))
   where
     no-run : Run (par throw p) [] withdrawn → ⊥
     no-run (closes f) = throw-beside f

@@ -29,7 +29,7 @@ module _ {A : Type 0} where
   any-at-all [] = false
   any-at-all (x ∷ xs) = true
 
--- 01: "P;Q ends as P does by ! or ?, and as Q does where P can end ✓", and P▷Q so with ! for ✓: u is the closing after which Q goes on
+-- 01: "P;Q ends as P does by ! or ?, and as Q does where P can end ✓"; P▷Q likewise, with ! for ✓. Q goes on after u.
 abbrev pub ends-on : Closing → (Closing → Bool) → (Closing → Bool) → Closing → Bool
 ends-on u f g w = (not (eqc w u) && f w) || (f u && g w)
 
@@ -49,17 +49,19 @@ does p f g = record { term = p; ends = f; steps = g }
 abbrev pub skipB : Beh
 skipB = does skip (λ w. eqc w done) (λ a. [])
 
--- one compensation after another, and two in parallel
+-- one compensation after another ("QQ's first and then R"), and two in parallel
 abbrev pub seqB : Beh → Beh → Beh
-seqB x y = does (seq x.term y.term) (ends-on done x.ends y.ends) (λ a. map (λ p. seq p y.term) (x.steps a) ++ only (x.ends done) (y.steps a))
+seqB x y =
+    does (seq x.term y.term) (ends-on done x.ends y.ends) (λ a. map (λ p. seq p y.term) (x.steps a) ++ only (x.ends done) (y.steps a))
 
 abbrev pub parB : Beh → Beh → Beh
-parB x y = does (par x.term y.term) (ends-both x.ends y.ends) (λ a. map (λ p. par p y.term) (x.steps a) ++ map (λ q. par x.term q) (y.steps a))
+parB x y =
+    does (par x.term y.term) (ends-both x.ends y.ends) (λ a. map (λ p. par p y.term) (x.steps a) ++ map (λ q. par x.term q) (y.steps a))
 
 unfoldable mutual
   unfolding only some-of each any-at-all
 
-  -- P can end by w
+  -- 01, "Endings": P can end by w
   pub ends : Std → Closing → Bool
   ends skip w = eqc w done
   ends throw w = eqc w failed
@@ -71,15 +73,16 @@ unfoldable mutual
   ends (hnd p q) w = ends-on failed (λ v. ends p v) (λ v. ends q v) w
   ends (blk pp) w = (eqc w done && any-at-all (left-by pp done)) || some-of (λ k. k .ends w) (left-by pp failed)
 
-  -- the compensations that PP can leave when it ends by w
+  -- 01, "Compensations": those that PP can leave when it ends by w, "the first part's own .. before the combined ones"
   pub left-by : Cmp → Closing → List Beh
   left-by (pair p q) w = only (ends p w) (cond (eqc w done) (does q (λ v. ends q v) (λ a. steps q a)) skipB ∷ [])
   left-by (cseq pp qq) w = only (not (eqc w done)) (left-by pp w) ++ each (left-by pp done) (λ k. map (λ l. seqB l k) (left-by qq w))
   left-by (calt pp qq) w = left-by pp w ++ left-by qq w
-  left-by (cpar pp qq) u = each closings (λ w. each (left-by pp w) (λ k. each closings (λ v. only (eqc u (join w v)) (map (λ l. parB k l) (left-by qq v)))))
+  left-by (cpar pp qq) u =
+      each closings (λ w. each (left-by pp w) (λ k. each closings (λ v. only (eqc u (join w v)) (map (λ l. parB k l) (left-by qq v)))))
   left-by (held qq r) w = map (λ l. seqB l (does r (λ v. ends r v) (λ a. steps r a))) (left-by qq w)
 
-  -- the terms to which P steps by a
+  -- 01, "Steps": what P steps to by a, "steps inside the first part .. before the others"
   pub steps : Std → ℕ → List Std
   steps skip a = []
   steps throw a = []
@@ -91,7 +94,7 @@ unfoldable mutual
   steps (hnd p q) a = map (λ r. hnd r q) (steps p a) ++ only (ends p failed) (steps q a)
   steps (blk pp) a = map blk (csteps pp a) ++ each (left-by pp failed) (λ k. k .steps a)
 
-  -- the terms to which PP steps by a
+  -- what PP steps to by a; "the compensations go outermost"
   pub csteps : Cmp → ℕ → List Cmp
   csteps (pair p q) a = map (λ r. pair r q) (steps p a)
   csteps (cseq pp qq) a = map (λ r. cseq r qq) (csteps pp a) ++ each (left-by pp done) (λ k. map (λ r. held r k.term) (csteps qq a))
