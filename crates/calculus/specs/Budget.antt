@@ -1,4 +1,5 @@
--- The search as a program makes it: with what is left of the allowance, and no look at what it cannot afford.
+-- The search as a program makes it: with what is left of the allowance, and no look at what it cannot afford; that it gives the verdict
+-- of the search that is counted is `budgeted`. Assumes nothing.
 use Prim.Native.Nat.{ℕ, zero, suc, _+_, _-_, max, _≤_, _<_}
 use mathlib.Core.Path.{_≡_, refl, sym, _∙_, ap, ap₂, subst}
 use mathlib.Core.Bool.{Bool, true, false}

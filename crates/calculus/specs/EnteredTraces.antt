@@ -1,12 +1,15 @@
 -- The printed traces are those of the form that draws a second trace only where the run enters it: `entered-traces` for standard
 -- parts, `centered-traces` for compensable ones. From left to right a second trace that is not used is any at all: every term has
 -- one. Assumes nothing.
+use Prim.Native.Nat.{ℕ}
 use mathlib.Core.Path.{refl, sym, _∙_, ap, subst}
-use mathlib.Core.Logic.{inl, inr, _↔_}
-use Rattle.calculus.specs.Term.{done, withdrawn, failed, Std, Cmp, skip, throw, yield, ev, seq, alt, par, hnd, blk, pair, cseq, calt, cpar, held}
-use Rattle.calculus.specs.Traces.{Trace, tr, CTrace, ct, thenT, catchT, pairT, cthenT, heldT, CParT, both, BlkT, undone, closed, Tr, CTr}
-use Rattle.calculus.specs.RunsAreTraces.{some, csome, then-stop, catch-stop, pair-stop, cthen-stop}
-use Rattle.calculus.specs.Members.{other}
+use mathlib.Core.Bool.{Bool, cond}
+use mathlib.Core.List.{List}
+use mathlib.Core.Logic.{_≢_, inl, inr, _↔_}
+use Rattle.calculus.specs.Term.{Closing, done, withdrawn, failed, Std, Cmp, skip, throw, yield, ev, seq, alt, par, hnd, blk, pair, cseq, calt, cpar, held}
+use Rattle.calculus.specs.Traces.{Trace, tr, CTrace, ct, onto, onT, pairT, cthenT, heldT, CParT, both, BlkT, undone, closed, Tr, CTr}
+use Rattle.calculus.specs.RunsAreTraces.{some, csome, on-stop, pair-stop, cthen-stop}
+use Rattle.calculus.specs.Members.{other, Is, it, other-one, is}
 use Rattle.calculus.specs.Entered.{Enters, CEnters, skips, throws, yields, withdraws, takes, seq-stays, seq-enters, hnd-stays, hnd-enters, alt-left, alt-right, par-both, blk-stays, blk-enters, pair-leaves, pair-stays, cseq-stays, cseq-enters, held-both, calt-left, calt-right, cpar-both}
 
 -- From the entered form to the printed one ------------------------------------------------------------------------------------
@@ -18,9 +21,9 @@ mutual
   enters-trace yields = inr refl
   enters-trace withdraws = inl refl
   enters-trace (takes {a} h) = (a, h, refl)
-  enters-trace (seq-stays {q} {s} {w} e n) = let y = some q in (tr s w, y .0, enters-trace e, y .1, then-stop s w (y .0) n)
+  enters-trace (seq-stays {q} {s} {w} e n) = let y = some q in (tr s w, y .0, enters-trace e, y .1, on-stop done s w (y .0) n)
   enters-trace (seq-enters {s} {y} e f j) = (tr s done, y, enters-trace e, enters-trace f, j)
-  enters-trace (hnd-stays {q} {s} {w} e n) = let y = some q in (tr s w, y .0, enters-trace e, y .1, catch-stop s w (y .0) n)
+  enters-trace (hnd-stays {q} {s} {w} e n) = let y = some q in (tr s w, y .0, enters-trace e, y .1, on-stop failed s w (y .0) n)
   enters-trace (hnd-enters {s} {y} e f j) = (tr s failed, y, enters-trace e, enters-trace f, j)
   enters-trace (alt-left e) = inl (enters-trace e)
   enters-trace (alt-right e) = inr (enters-trace e)
@@ -40,15 +43,22 @@ mutual
 
 -- From the printed form to the entered one ------------------------------------------------------------------------------------
 
-seq-entered : {p q : Std} (x y : Trace) → Enters p x → Enters q y → Enters (seq p q) (thenT x y)
-seq-entered (tr s done) y e f = seq-enters e f refl
-seq-entered (tr s withdrawn) y e f = seq-stays e (other withdrawn done tt)
-seq-entered (tr s failed) y e f = seq-stays e (other failed done tt)
+-- ; and ▷: u is the closing after which the second part goes on
+module _ {u : Closing} {p q whole : Std}
+    (stays : (s : List ℕ) (w : Closing) → Enters p (tr s w) → w ≢ u → Enters whole (tr s w))
+    (enters : (s : List ℕ) (y : Trace) → Enters p (tr s u) → Enters q y → Enters whole (onto s y)) where
+  on-entered : (x y : Trace) → Enters p x → Enters q y → Enters whole (onT u x y)
+  on-entered (tr s w) y e f = by (is w u)
+    where
+      by : {b : Bool} → Is w u b → Enters whole (cond b (onto s y) (tr s w))
+      by (it i) = enters s y (subst (λ w. Enters p (tr s w)) i e) f
+      by (other-one n) = stays s w e n
 
-hnd-entered : {p q : Std} (x y : Trace) → Enters p x → Enters q y → Enters (hnd p q) (catchT x y)
-hnd-entered (tr s failed) y e f = hnd-enters e f refl
-hnd-entered (tr s done) y e f = hnd-stays e (other done failed tt)
-hnd-entered (tr s withdrawn) y e f = hnd-stays e (other withdrawn failed tt)
+seq-entered : {p q : Std} (x y : Trace) → Enters p x → Enters q y → Enters (seq p q) (onT done x y)
+seq-entered = on-entered (λ s w. seq-stays) (λ s y e f. seq-enters e f refl)
+
+hnd-entered : {p q : Std} (x y : Trace) → Enters p x → Enters q y → Enters (hnd p q) (onT failed x y)
+hnd-entered = on-entered (λ s w. hnd-stays) (λ s y e f. hnd-enters e f refl)
 
 -- a compensation that is left, and a trace of it
 abbrev CEntered : Cmp → CTrace → Type 0
@@ -61,8 +71,8 @@ pair-entered p q (tr s failed) y e f = (skip, pair-stays e (other failed done tt
 
 cseq-entered : (pp qq : Cmp) (x y : CTrace) → CEntered pp x → CEntered qq y → CEntered (cseq pp qq) (cthenT x y)
 cseq-entered pp qq (ct (tr s done) x) (ct y z) e f = (seq (f .0) (e .0), cseq-enters (e .1) (f .1) refl, seq-entered z x (f .2) (e .2))
-cseq-entered pp qq (ct (tr s withdrawn) x) y e f = (e .0, cseq-stays (e .1) (other withdrawn done tt), e .2)
-cseq-entered pp qq (ct (tr s failed) x) y e f = (e .0, cseq-stays (e .1) (other failed done tt), e .2)
+cseq-entered pp qq (ct (tr s withdrawn) x) (ct y z) e f = (e .0, cseq-stays (e .1) (other withdrawn done tt), e .2)
+cseq-entered pp qq (ct (tr s failed) x) (ct y z) e f = (e .0, cseq-stays (e .1) (other failed done tt), e .2)
 
 held-entered : (qq : Cmp) (r : Std) (y : CTrace) (x : Trace) → CEntered qq y → Enters r x → CEntered (held qq r) (heldT y x)
 held-entered qq r (ct y z) x e f = (seq (e .0) r, held-both (e .1), seq-entered z x (e .2) f)

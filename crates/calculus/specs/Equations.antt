@@ -6,28 +6,11 @@ use mathlib.Core.Path.{_≡_, refl, sym, _∙_, ap, ap₂}
 use mathlib.Core.Bool.{Bool, true, false, not, _&&_, _||_}
 use mathlib.Core.List.{List, [], _∷_, _++_, map}
 use Rattle.calculus.specs.Term.{Closing, done, withdrawn, failed, Leaf, Std, Cmp, skip, throw, yield, ev, seq, alt, par, hnd, blk, pair, cseq, calt, cpar, held, join}
-use Rattle.calculus.specs.Successors.{Beh, eqc, closings, only, some-of, each, any-at-all, seqB, altB, parB, hndB, blkB, pairB, cseqB, caltB, cparB, heldB, evB, skipB, beh, cbeh, ends, steps, comps, csteps}
+use Rattle.calculus.specs.Successors.{Beh, eqc, closings, only, some-of, each, any-at-all, does, skipB, seqB, parB, ends, left-by, steps, csteps, comps}
 
-mutual
-  unfolding beh
-
-  pub term-of : (p : Std) → (beh p) .term ≡ p
-  term-of skip = refl
-  term-of throw = refl
-  term-of yield = refl
-  term-of (ev b) = refl
-  term-of (seq p q) = ap₂ seq (term-of p) (term-of q)
-  term-of (alt p q) = ap₂ alt (term-of p) (term-of q)
-  term-of (par p q) = ap₂ par (term-of p) (term-of q)
-  term-of (hnd p q) = ap₂ hnd (term-of p) (term-of q)
-  term-of (blk pp) = ap blk (cterm-of pp)
-
-  pub cterm-of : (pp : Cmp) → (cbeh pp) .cterm ≡ pp
-  cterm-of (pair p q) = ap₂ pair (term-of p) (term-of q)
-  cterm-of (cseq pp qq) = ap₂ cseq (cterm-of pp) (cterm-of qq)
-  cterm-of (calt pp qq) = ap₂ calt (cterm-of pp) (cterm-of qq)
-  cterm-of (cpar pp qq) = ap₂ cpar (cterm-of pp) (cterm-of qq)
-  cterm-of (held qq r) = ap₂ held (cterm-of qq) (term-of r)
+-- a standard term with what it does
+abbrev pub beh : Std → Beh
+beh p = does p (λ w. ends p w) (λ a. steps p a)
 
 -- P holds of every element
 module _ {A : Type 0} where
@@ -63,33 +46,26 @@ module _ {A B : Type 0} where
 abbrev pub Real : Beh → Type 0
 Real k = k ≡ beh (k .term)
 
-pub beh-real : (p : Std) → Real (beh p)
-beh-real p = ap beh (sym (term-of p))
-
 seq-real : (l k : Beh) → Real l → Real k → Real (seqB l k)
-unfolding beh
+unfolding ends
 seq-real l k h j = ap₂ seqB h j
 
 par-real : (l k : Beh) → Real l → Real k → Real (parB l k)
-unfolding beh
+unfolding ends
 par-real l k h j = ap₂ parB h j
 
-skip-real : Real skipB
-unfolding beh
-skip-real = refl
-
-pub comps-real : (pp : Cmp) (w : Closing) → All Real ((cbeh pp) .comps w)
-unfolding beh
-comps-real (pair p q) done = all-only ((beh p) .ends done) (also (beh-real q) none)
-comps-real (pair p q) withdrawn = all-only ((beh p) .ends withdrawn) (also skip-real none)
-comps-real (pair p q) failed = all-only ((beh p) .ends failed) (also skip-real none)
+pub comps-real : (pp : Cmp) (w : Closing) → All Real (left-by pp w)
+unfolding ends
+comps-real (pair p q) done = all-only (ends p done) (also refl none)
+comps-real (pair p q) withdrawn = all-only (ends p withdrawn) (also refl none)
+comps-real (pair p q) failed = all-only (ends p failed) (also refl none)
 comps-real (cseq pp qq) w =
     all-append _ (all-only (not (eqc w done)) (comps-real pp w))
     (all-each _ (λ k h. all-map Real (λ l. seqB l k) (λ l j. seq-real l k j h) (comps-real qq w)) (comps-real pp done))
 comps-real (calt pp qq) w = all-append _ (comps-real pp w) (comps-real qq w)
 comps-real (cpar pp qq) u =
     all-each′ _ (λ w. all-each _ (λ k h. all-each′ _ (λ v. all-only (eqc u (join w v)) (all-map Real (λ l. parB k l) (λ l j. par-real k l h j) (comps-real qq v))) closings) (comps-real pp w)) closings
-comps-real (held qq r) w = all-map Real (λ l. seqB l (beh r)) (λ l j. seq-real l (beh r) j (beh-real r)) (comps-real qq w)
+comps-real (held qq r) w = all-map Real (λ l. seqB l (beh r)) (λ l j. seq-real l (beh r) j refl) (comps-real qq w)
 
 -- Lists of behaviours and lists of terms -----------------------------------------------------------------------------------
 
@@ -155,71 +131,71 @@ unfolding ends
 ends-yield w = refl
 
 pub ends-ev : (l : Leaf) (w : Closing) → ends (ev l) w ≡ false
-unfolding ends evB
+unfolding ends
 ends-ev l w = refl
 
 pub ends-seq : (p q : Std) (w : Closing) → ends (seq p q) w ≡ ((not (eqc w done) && ends p w) || (ends p done && ends q w))
-unfolding ends seqB
+unfolding ends
 ends-seq p q w = refl
 
 pub ends-hnd : (p q : Std) (w : Closing) → ends (hnd p q) w ≡ ((not (eqc w failed) && ends p w) || (ends p failed && ends q w))
-unfolding ends hndB
+unfolding ends
 ends-hnd p q w = refl
 
 pub ends-alt : (p q : Std) (w : Closing) → ends (alt p q) w ≡ (ends p w || ends q w)
-unfolding ends altB
+unfolding ends
 ends-alt p q w = refl
 
 pub ends-par : (p q : Std) (u : Closing) → ends (par p q) u ≡ some-of (λ w. some-of (λ v. eqc u (join w v) && (ends p w && ends q v)) closings) closings
-unfolding ends parB
+unfolding ends
 ends-par p q u = refl
 
 pub ends-blk : (pp : Cmp) (w : Closing) → ends (blk pp) w ≡ ((eqc w done && any-at-all (comps pp done)) || some-of (λ k. ends k w) (comps pp failed))
-unfolding ends comps blkB
+unfolding ends comps
 ends-blk pp w =
     ap₂ (λ a b. (eqc w done && a) || b)
-    (sym (any-map (λ (k : Beh). k .term) ((cbeh pp) .comps done)))
+    (sym (any-map (λ (k : Beh). k .term) (left-by pp done)))
     (some-terms (λ k. k .ends w) (λ k. ends k w) (λ k h. ap (λ (x : Beh). x .ends w) h) (comps-real pp failed))
 
 -- Compensations ---------------------------------------------------------------------------------------------------------
 
 pub comps-pair : (p q : Std) (w : Closing) → comps (pair p q) w ≡ only (ends p w) (elim w [ done ↦ q ∷ [] | withdrawn ↦ skip ∷ [] | failed ↦ skip ∷ [] ])
-unfolding comps ends pairB
-comps-pair p q done = map-only (λ (k : Beh). k .term) (ends p done) (beh q ∷ []) ∙ ap (λ z. only (ends p done) (z ∷ [])) (term-of q)
+unfolding comps ends
+comps-pair p q done = map-only (λ (k : Beh). k .term) (ends p done) (beh q ∷ [])
 comps-pair p q withdrawn = map-only (λ (k : Beh). k .term) (ends p withdrawn) (skipB ∷ [])
 comps-pair p q failed = map-only (λ (k : Beh). k .term) (ends p failed) (skipB ∷ [])
 
 pub comps-cseq : (pp qq : Cmp) (w : Closing) → comps (cseq pp qq) w ≡ only (not (eqc w done)) (comps pp w) ++ each (comps pp done) (λ k. map (λ l. seq l k) (comps qq w))
-unfolding comps cseqB seqB
+unfolding comps
 comps-cseq pp qq w =
     let t : Beh → Std = λ k. k .term in
-    let xs = (cbeh pp) .comps done in
-    let ys = (cbeh qq) .comps w in
-    map-append t (only (not (eqc w done)) ((cbeh pp) .comps w)) (each xs (λ k. map (λ l. seqB l k) ys))
-    ∙ ap₂ _++_ (map-only t (not (eqc w done)) ((cbeh pp) .comps w))
+    let xs = left-by pp done in
+    let ys = left-by qq w in
+    map-append t (only (not (eqc w done)) (left-by pp w)) (each xs (λ k. map (λ l. seqB l k) ys))
+    ∙ ap₂ _++_ (map-only t (not (eqc w done)) (left-by pp w))
     (map-each t (λ k. map (λ l. seqB l k) ys) xs
     ∙ each-cong _ (λ (k : Beh). map (λ l. seq l (k .term)) (map t ys)) xs (λ k. map-map t (λ l. seqB l k) ys ∙ sym (map-map (λ l. seq l (k .term)) t ys))
     ∙ sym (each-map t (λ k. map (λ l. seq l k) (map t ys)) xs))
 
 pub comps-calt : (pp qq : Cmp) (w : Closing) → comps (calt pp qq) w ≡ comps pp w ++ comps qq w
-unfolding comps caltB
-comps-calt pp qq w = map-append (λ (k : Beh). k .term) ((cbeh pp) .comps w) ((cbeh qq) .comps w)
+unfolding comps
+comps-calt pp qq w = map-append (λ (k : Beh). k .term) (left-by pp w) (left-by qq w)
 
 pub comps-cpar : (pp qq : Cmp) (u : Closing) → comps (cpar pp qq) u ≡ each closings (λ w. each (comps pp w) (λ k. each closings (λ v. only (eqc u (join w v)) (map (λ l. par k l) (comps qq v)))))
-unfolding comps cparB parB
+unfolding comps
 comps-cpar pp qq u = map-each-by t l₁ r₁ closings e₁
   where
     t : Beh → Std
     t k = k .term
 
     l₃ : Closing → Beh → Closing → List Beh
-    l₃ w k v = only (eqc u (join w v)) (map (λ l. parB k l) ((cbeh qq) .comps v))
+    l₃ w k v = only (eqc u (join w v)) (map (λ l. parB k l) (left-by qq v))
 
     l₂ : Closing → Beh → List Beh
     l₂ w k = each closings (l₃ w k)
 
     l₁ : Closing → List Beh
-    l₁ w = each ((cbeh pp) .comps w) (l₂ w)
+    l₁ w = each (left-by pp w) (l₂ w)
 
     r₃ : Closing → Std → Closing → List Std
     r₃ w k v = only (eqc u (join w v)) (map (λ l. par k l) (comps qq v))
@@ -231,21 +207,20 @@ comps-cpar pp qq u = map-each-by t l₁ r₁ closings e₁
     r₁ w = each (comps pp w) (r₂ w)
 
     e₃ : (w : Closing) (k : Beh) (v : Closing) → map t (l₃ w k v) ≡ r₃ w (k .term) v
-    e₃ w k v = map-only t (eqc u (join w v)) (map (λ l. parB k l) ((cbeh qq) .comps v)) ∙ ap (only (eqc u (join w v))) (map-map t (λ l. parB k l) ((cbeh qq) .comps v) ∙ sym (map-map (λ l. par (k .term) l) t ((cbeh qq) .comps v)))
+    e₃ w k v = map-only t (eqc u (join w v)) (map (λ l. parB k l) (left-by qq v)) ∙ ap (only (eqc u (join w v))) (map-map t (λ l. parB k l) (left-by qq v) ∙ sym (map-map (λ l. par (k .term) l) t (left-by qq v)))
 
     e₂ : (w : Closing) (k : Beh) → map t (l₂ w k) ≡ r₂ w (k .term)
     e₂ w k = map-each-by t (l₃ w k) (r₃ w (k .term)) closings (e₃ w k)
 
     e₁ : (w : Closing) → map t (l₁ w) ≡ r₁ w
-    e₁ w = map-each-by t (l₂ w) (λ k. r₂ w (k .term)) ((cbeh pp) .comps w) (e₂ w) ∙ sym (each-map t (r₂ w) ((cbeh pp) .comps w))
+    e₁ w = map-each-by t (l₂ w) (λ k. r₂ w (k .term)) (left-by pp w) (e₂ w) ∙ sym (each-map t (r₂ w) (left-by pp w))
 
 pub comps-held : (qq : Cmp) (r : Std) (w : Closing) → comps (held qq r) w ≡ map (λ l. seq l r) (comps qq w)
-unfolding comps heldB seqB
+unfolding comps
 comps-held qq r w =
     let t : Beh → Std = λ k. k .term in
-    map-map t (λ l. seqB l (beh r)) ((cbeh qq) .comps w)
-    ∙ ap (λ z. map (λ (l : Beh). seq (l .term) z) ((cbeh qq) .comps w)) (term-of r)
-    ∙ sym (map-map (λ l. seq l r) t ((cbeh qq) .comps w))
+    map-map t (λ l. seqB l (beh r)) (left-by qq w)
+    ∙ sym (map-map (λ l. seq l r) t (left-by qq w))
 
 -- Steps of a standard part ----------------------------------------------------------------------------------------------
 
@@ -262,49 +237,47 @@ unfolding steps
 steps-yield a = refl
 
 pub steps-ev : (l : Leaf) (a : ℕ) → steps (ev l) a ≡ only (l .takes a) (skip ∷ [])
-unfolding steps evB
+unfolding steps
 steps-ev l a = refl
 
 pub steps-seq : (p q : Std) (a : ℕ) → steps (seq p q) a ≡ map (λ r. seq r q) (steps p a) ++ only (ends p done) (steps q a)
-unfolding steps ends seqB
-steps-seq p q a = ap (λ z. map (λ r. seq r z) (steps p a) ++ only (ends p done) (steps q a)) (term-of q)
+unfolding steps
+steps-seq p q a = refl
 
 pub steps-hnd : (p q : Std) (a : ℕ) → steps (hnd p q) a ≡ map (λ r. hnd r q) (steps p a) ++ only (ends p failed) (steps q a)
-unfolding steps ends hndB
-steps-hnd p q a = ap (λ z. map (λ r. hnd r z) (steps p a) ++ only (ends p failed) (steps q a)) (term-of q)
+unfolding steps
+steps-hnd p q a = refl
 
 pub steps-alt : (p q : Std) (a : ℕ) → steps (alt p q) a ≡ steps p a ++ steps q a
-unfolding steps altB
+unfolding steps
 steps-alt p q a = refl
 
 pub steps-par : (p q : Std) (a : ℕ) → steps (par p q) a ≡ map (λ r. par r q) (steps p a) ++ map (λ r. par p r) (steps q a)
-unfolding steps parB
-steps-par p q a = ap₂ (λ y z. map (λ r. par r z) (steps p a) ++ map (λ r. par y r) (steps q a)) (term-of p) (term-of q)
+unfolding steps
+steps-par p q a = refl
 
 pub steps-blk : (pp : Cmp) (a : ℕ) → steps (blk pp) a ≡ map blk (csteps pp a) ++ each (comps pp failed) (λ k. steps k a)
-unfolding steps csteps comps blkB
-steps-blk pp a = ap (λ l. map blk ((cbeh pp) .csteps a) ++ l) (each-terms (λ k. k .steps a) (λ k. steps k a) (λ k h. ap (λ (x : Beh). x .steps a) h) (comps-real pp failed))
+unfolding steps csteps comps
+steps-blk pp a = ap (λ l. map blk (csteps pp a) ++ l) (each-terms (λ k. k .steps a) (λ k. steps k a) (λ k h. ap (λ (x : Beh). x .steps a) h) (comps-real pp failed))
 
 -- Steps of a compensable part -------------------------------------------------------------------------------------------
 
 pub csteps-pair : (p q : Std) (a : ℕ) → csteps (pair p q) a ≡ map (λ r. pair r q) (steps p a)
-unfolding steps csteps pairB
-csteps-pair p q a = ap (λ z. map (λ r. pair r z) (steps p a)) (term-of q)
+unfolding csteps
+csteps-pair p q a = refl
 
 pub csteps-cseq : (pp qq : Cmp) (a : ℕ) → csteps (cseq pp qq) a ≡ map (λ r. cseq r qq) (csteps pp a) ++ each (comps pp done) (λ k. map (λ r. held r k) (csteps qq a))
-unfolding comps csteps cseqB
-csteps-cseq pp qq a =
-    ap₂ _++_ (ap (λ z. map (λ r. cseq r z) (csteps pp a)) (cterm-of qq))
-    (sym (each-map (λ (k : Beh). k .term) (λ k. map (λ r. held r k) (csteps qq a)) ((cbeh pp) .comps done)))
+unfolding comps csteps
+csteps-cseq pp qq a = ap (λ l. map (λ r. cseq r qq) (csteps pp a) ++ l) (sym (each-map (λ (k : Beh). k .term) (λ k. map (λ r. held r k) (csteps qq a)) (left-by pp done)))
 
 pub csteps-calt : (pp qq : Cmp) (a : ℕ) → csteps (calt pp qq) a ≡ csteps pp a ++ csteps qq a
-unfolding csteps caltB
+unfolding csteps
 csteps-calt pp qq a = refl
 
 pub csteps-cpar : (pp qq : Cmp) (a : ℕ) → csteps (cpar pp qq) a ≡ map (λ r. cpar r qq) (csteps pp a) ++ map (λ r. cpar pp r) (csteps qq a)
-unfolding csteps cparB
-csteps-cpar pp qq a = ap₂ (λ y z. map (λ r. cpar r z) (csteps pp a) ++ map (λ r. cpar y r) (csteps qq a)) (cterm-of pp) (cterm-of qq)
+unfolding csteps
+csteps-cpar pp qq a = refl
 
 pub csteps-held : (qq : Cmp) (r : Std) (a : ℕ) → csteps (held qq r) a ≡ map (λ q. held q r) (csteps qq a)
-unfolding csteps heldB
-csteps-held qq r a = ap (λ z. map (λ q. held q z) (csteps qq a)) (term-of r)
+unfolding csteps
+csteps-held qq r a = refl

@@ -1,86 +1,67 @@
--- The lists hold exactly what the rules allow.
+-- The lists hold exactly what the rules allow: `ends-exact`, `steps-exact`, `comps-exact`, `csteps-exact`. First of a behaviour and
+-- of the parts that are put together, a kind at a time; ; and ▷ are one (`Onward`). Assumes nothing.
 use Prim.Native.Nat.{ℕ}
 use mathlib.Core.Path.{_≡_, refl, sym, ap, subst}
 use mathlib.Core.Logic.{_≢_, _⊎_, inl, inr, _↔_}
-use mathlib.Core.Bool.{Bool, not, _&&_, _||_}
-use mathlib.Core.List.{List, [], _∷_, _++_, map, List·Memᴰ, List·Memᴰ·head, List·Memᴰ·not-nil, List·Memᴰ·append-cases, List·Memᴰ·eq-of-singleton, Memᴰ·append-left, Memᴰ·append-right, Memᴰ·map, Memᴰ·of-map}
+use mathlib.Core.Bool.{Bool, cond, not, _&&_, _||_}
+use mathlib.Core.List.{List, [], _∷_, _++_, map, List·Memᴰ, List·Memᴰ·head, List·Memᴰ·not-nil, List·Memᴰ·eq-of-singleton, Memᴰ·append-left, Memᴰ·append-right, Memᴰ·map}
 use lib.Dec.{T}
-use Rattle.calculus.specs.Term.{Closing, done, withdrawn, failed, Leaf, Std, Cmp, skip, throw, yield, ev, seq, alt, par, hnd, blk, pair, cseq, calt, cpar, held, join}
-use Rattle.calculus.specs.Rules.{End, CEnd, Step, CStep, skip-ends, throw-ends, yield-ends, yield-yields, seq-on, seq-stops, hnd-on, hnd-stops, alt-left, alt-right, par-joins, blk-ends, blk-undoes, pair-ends, pair-stops, cseq-stops, cseq-on, held-ends, calt-left, calt-right, cpar-joins, ev-step, seq-first, seq-second, hnd-first, hnd-second, alt-first, alt-second, par-first, par-second, blk-first, blk-second, pair-step, cseq-first, cseq-second, held-step, calt-first, calt-second, cpar-first, cpar-second}
-use Rattle.calculus.specs.Successors.{Beh, CBeh, eqc, closings, only, some-of, each, any-at-all, seqB, altB, parB, hndB, blkB, pairB, cseqB, caltB, cparB, heldB, evB, skipB, throwB, yieldB, beh, cbeh, ends, steps, comps, csteps}
-use Rattle.calculus.specs.Equations.{term-of, cterm-of}
-use Rattle.calculus.specs.Members.{or-in-left, or-in-right, or-cases, and-in, and-left, and-right, same, same-in, other, other-in, in-closings, in-only, of-only, in-some, of-some, in-any, of-any, in-each, of-each}
+use Rattle.calculus.specs.Term.{Closing, done, withdrawn, failed, eqc, Leaf, Std, Cmp, skip, throw, yield, ev, seq, alt, par, hnd, blk, pair, cseq, calt, cpar, held, join}
+use Rattle.calculus.specs.Rules.{End, CEnd, Step, CStep, skip-ends, throw-ends, yield-ends, yield-yields, alt-left, alt-right, par-joins, blk-ends, blk-undoes, pair-ends, pair-stops, cseq-stops, cseq-on, held-ends, calt-left, calt-right, cpar-joins, ev-step, alt-first, alt-second, par-first, par-second, blk-first, blk-second, pair-step, cseq-first, cseq-second, held-step, calt-first, calt-second, cpar-first, cpar-second}
+use Rattle.calculus.specs.Successors.{Beh, closings, only, some-of, each, any-at-all, ends-on, ends-both, does, skipB, seqB, parB, ends, left-by, steps, csteps, comps}
+use Rattle.calculus.specs.Equations.{beh}
+use Rattle.calculus.specs.Members.{or-in-left, or-in-right, or-cases, and-in, and-left, and-right, same, same-in, other, other-in, in-closings, in-only, of-only, in-some, of-some, in-any, of-any, in-each, of-each, map-by, append-by}
+use Rattle.calculus.specs.Onward.{Onward, seq-onward, hnd-onward}
 
+-- k lists what the rules allow its term
 pub record Good (k : Beh) : Type 0 where
   pub ends-only : (w : Closing) → T (k .ends w) → End (k .term) w
   pub ends-all : (w : Closing) → End (k .term) w → T (k .ends w)
   pub steps-only : (a : ℕ) (r : Std) → List·Memᴰ r (k .steps a) → Step (k .term) a r
   pub steps-all : (a : ℕ) (r : Std) → Step (k .term) a r → List·Memᴰ r (k .steps a)
 
-pub record CGood (x : CBeh) : Type 0 where
-  pub comps-good : (w : Closing) (k : Beh) → List·Memᴰ k (x .comps w) → Good k
-  pub comps-only : (w : Closing) (k : Beh) → List·Memᴰ k (x .comps w) → CEnd (x .cterm) w (k .term)
-  pub comps-all : (w : Closing) (p : Std) → CEnd (x .cterm) w p → (k : Beh) × List·Memᴰ k (x .comps w) × (k .term ≡ p)
-  pub csteps-only : (a : ℕ) (r : Cmp) → List·Memᴰ r (x .csteps a) → CStep (x .cterm) a r
-  pub csteps-all : (a : ℕ) (r : Cmp) → CStep (x .cterm) a r → List·Memᴰ r (x .csteps a)
+-- the compensations and steps of PP are what the rules allow, and so is what each compensation does
+pub record CGood (pp : Cmp) : Type 0 where
+  pub left-only : (w : Closing) (k : Beh) → List·Memᴰ k (left-by pp w) → Good k × CEnd pp w (k .term)
+  pub left-all : (w : Closing) (p : Std) → CEnd pp w p → (k : Beh) × List·Memᴰ k (left-by pp w) × (k .term ≡ p)
+  pub csteps-only : (a : ℕ) (r : Cmp) → List·Memᴰ r (csteps pp a) → CStep pp a r
+  pub csteps-all : (a : ℕ) (r : Cmp) → CStep pp a r → List·Memᴰ r (csteps pp a)
+
+-- Standard parts ----------------------------------------------------------------------------------------------------------
+
+-- a part that only ends
+still-good : {p : Std} {f : Closing → Bool} → ((w : Closing) → T (f w) → End p w) → ((w : Closing) → End p w → T (f w)) → ((a : ℕ) (r : Std) → Step p a r → ⊥) → Good (does p f (λ a. []))
+still-good eo ea no-step = record { ends-only = eo; ends-all = ea; steps-only = λ a r m. absurd (List·Memᴰ·not-nil m); steps-all = λ a r h. absurd (no-step a r h) }
 
 skip-good : Good skipB
-skip-good = record {
-  ends-only = eo;
-  ends-all = ea;
-  steps-only = λ a r m. absurd (List·Memᴰ·not-nil m);
-  steps-all = λ a r h. elim h [ ];
-}
+skip-good = still-good (λ w h. subst (End skip) (sym (same w done h)) skip-ends) (λ w. ea) (λ a r h. elim h [ ])
   where
-    eo : (w : Closing) → T (eqc w done) → End skip w
-    eo done h = skip-ends
-    eo withdrawn h = absurd h
-    eo failed h = absurd h
+    ea : {w : Closing} → End skip w → T (eqc w done)
+    ea skip-ends = tt
 
-    ea : (w : Closing) → End skip w → T (eqc w done)
-    ea w skip-ends = tt
-
-throw-good : Good throwB
-throw-good = record {
-  ends-only = eo;
-  ends-all = ea;
-  steps-only = λ a r m. absurd (List·Memᴰ·not-nil m);
-  steps-all = λ a r h. elim h [ ];
-}
+throw-good : Good (beh throw)
+unfolding ends
+throw-good = still-good (λ w h. subst (End throw) (sym (same w failed h)) throw-ends) (λ w. ea) (λ a r h. elim h [ ])
   where
-    eo : (w : Closing) → T (eqc w failed) → End throw w
-    eo failed h = throw-ends
-    eo withdrawn h = absurd h
-    eo done h = absurd h
+    ea : {w : Closing} → End throw w → T (eqc w failed)
+    ea throw-ends = tt
 
-    ea : (w : Closing) → End throw w → T (eqc w failed)
-    ea w throw-ends = tt
-
-yield-good : Good yieldB
-yield-good = record {
-  ends-only = eo;
-  ends-all = ea;
-  steps-only = λ a r m. absurd (List·Memᴰ·not-nil m);
-  steps-all = λ a r h. elim h [ ];
-}
+yield-good : Good (beh yield)
+unfolding ends
+yield-good = still-good eo (λ w. ea) (λ a r h. elim h [ ])
   where
     eo : (w : Closing) → T (not (eqc w failed)) → End yield w
     eo failed h = absurd h
     eo withdrawn h = yield-yields
     eo done h = yield-ends
 
-    ea : (w : Closing) → End yield w → T (not (eqc w failed))
-    ea w yield-ends = tt
-    ea w yield-yields = tt
+    ea : {w : Closing} → End yield w → T (not (eqc w failed))
+    ea yield-ends = tt
+    ea yield-yields = tt
 
-ev-good : (l : Leaf) → Good (evB l)
-unfolding evB
-ev-good l = record {
-  ends-only = λ w h. absurd h;
-  ends-all = λ w h. elim h [ ];
-  steps-only = so;
-  steps-all = sa;
-}
+ev-good : (l : Leaf) → Good (beh (ev l))
+unfolding ends
+ev-good l = record { ends-only = λ w h. absurd h; ends-all = λ w h. elim h [ ]; steps-only = so; steps-all = sa }
   where
     so : (a : ℕ) (r : Std) → List·Memᴰ r (only (l .takes a) (skip ∷ [])) → Step (ev l) a r
     so a r m = let h = of-only (l .takes a) m in
@@ -91,92 +72,35 @@ ev-good l = record {
     sa a r (ev-step h) = in-only (l .takes a) h (List·Memᴰ·head refl)
 
 module _ (x y : Beh) (gx : Good x) (gy : Good y) where
-  seq-good : Good (seqB x y)
-  unfolding seqB
-  seq-good = record { ends-only = eo; ends-all = ea; steps-only = so; steps-all = sa }
+  -- ; and ▷
+  on-good : {op : Std → Std → Std} {u : Closing} → Onward op u → Good (does (op x.term y.term) (ends-on u x.ends y.ends) (λ a. map (λ p. op p y.term) (x.steps a) ++ only (x.ends u) (y.steps a)))
+  on-good {op} {u} o = record { ends-only = eo; ends-all = λ w e. ea w (o .ends-as e); steps-only = so; steps-all = λ a r h. sa a r (o .steps-as h) }
     where
-      eo : (w : Closing) → T ((not (eqc w done) && x.ends w) || (x.ends done && y.ends w)) → End (seq x.term y.term) w
-      eo w h = by (or-cases (not (eqc w done) && x.ends w) (x.ends done && y.ends w) h)
+      eo : (w : Closing) → T (ends-on u x.ends y.ends w) → End (op x.term y.term) w
+      eo w h = by (or-cases (not (eqc w u) && x.ends w) (x.ends u && y.ends w) h)
         where
-          by : T (not (eqc w done) && x.ends w) ⊎ T (x.ends done && y.ends w) → End (seq x.term y.term) w
-          by (inl g) = seq-stops (gx .ends-only w (and-right (not (eqc w done)) (x.ends w) g)) (other w done (and-left (not (eqc w done)) (x.ends w) g))
-          by (inr g) = seq-on (gx .ends-only done (and-left (x.ends done) (y.ends w) g)) (gy .ends-only w (and-right (x.ends done) (y.ends w) g))
+          by : T (not (eqc w u) && x.ends w) ⊎ T (x.ends u && y.ends w) → End (op x.term y.term) w
+          by (inl g) = o .stops (gx .ends-only w (and-right (not (eqc w u)) (x.ends w) g)) (other w u (and-left (not (eqc w u)) (x.ends w) g))
+          by (inr g) = o .on (gx .ends-only u (and-left (x.ends u) (y.ends w) g)) (gy .ends-only w (and-right (x.ends u) (y.ends w) g))
 
-      ea : (w : Closing) → End (seq x.term y.term) w → T ((not (eqc w done) && x.ends w) || (x.ends done && y.ends w))
-      ea w (seq-on e f) = or-in-right (not (eqc w done) && x.ends w) (x.ends done && y.ends w) (and-in (x.ends done) (y.ends w) (gx .ends-all done e) (gy .ends-all w f))
-      ea w (seq-stops e n) = or-in-left (not (eqc w done) && x.ends w) (x.ends done && y.ends w) (and-in (not (eqc w done)) (x.ends w) (other-in w done n) (gx .ends-all w e))
+      ea : (w : Closing) → (End x.term w × (w ≢ u)) ⊎ (End x.term u × End y.term w) → T (ends-on u x.ends y.ends w)
+      ea w (inl e) = or-in-left (not (eqc w u) && x.ends w) (x.ends u && y.ends w) (and-in (not (eqc w u)) (x.ends w) (other-in w u (e .1)) (gx .ends-all w (e .0)))
+      ea w (inr e) = or-in-right (not (eqc w u) && x.ends w) (x.ends u && y.ends w) (and-in (x.ends u) (y.ends w) (gx .ends-all u (e .0)) (gy .ends-all w (e .1)))
 
-      so : (a : ℕ) (r : Std) → List·Memᴰ r (map (λ p. seq p y.term) (x.steps a) ++ only (x.ends done) (y.steps a)) → Step (seq x.term y.term) a r
-      so a r m = by (List·Memᴰ·append-cases (map (λ p. seq p y.term) (x.steps a)) m)
-        where
-          by : List·Memᴰ r (map (λ p. seq p y.term) (x.steps a)) ⊎ List·Memᴰ r (only (x.ends done) (y.steps a)) → Step (seq x.term y.term) a r
-          by (inl g) = let h = Memᴰ·of-map (λ p. seq p y.term) (x.steps a) g in subst (λ r. Step (seq x.term y.term) a r) (h .2) (seq-first (gx .steps-only a (h .0) (h .1)))
-          by (inr g) = let h = of-only (x.ends done) g in seq-second (gx .ends-only done (h .0)) (gy .steps-only a r (h .1))
+      so : (a : ℕ) (r : Std) → List·Memᴰ r (map (λ p. op p y.term) (x.steps a) ++ only (x.ends u) (y.steps a)) → Step (op x.term y.term) a r
+      so a r =
+          append-by (map (λ p. op p y.term) (x.steps a))
+          (map-by (λ p. op p y.term) (Step (op x.term y.term) a) (x.steps a) (λ p m. o .first (gx .steps-only a p m)) r)
+          (λ m. let h = of-only (x.ends u) m in o .second (gx .ends-only u (h .0)) (gy .steps-only a r (h .1)))
 
-      sa : (a : ℕ) (r : Std) → Step (seq x.term y.term) a r → List·Memᴰ r (map (λ p. seq p y.term) (x.steps a) ++ only (x.ends done) (y.steps a))
-      sa a r (seq-first h) = Memᴰ·append-left _ (Memᴰ·map (λ p. seq p y.term) (gx .steps-all a _ h))
-      sa a r (seq-second e h) = Memᴰ·append-right (map (λ p. seq p y.term) (x.steps a)) (in-only (x.ends done) (gx .ends-all done e) (gy .steps-all a r h))
-
-  hnd-good : Good (hndB x y)
-  unfolding hndB
-  hnd-good = record { ends-only = eo; ends-all = ea; steps-only = so; steps-all = sa }
-    where
-      eo : (w : Closing) → T ((not (eqc w failed) && x.ends w) || (x.ends failed && y.ends w)) → End (hnd x.term y.term) w
-      eo w h = by (or-cases (not (eqc w failed) && x.ends w) (x.ends failed && y.ends w) h)
-        where
-          by : T (not (eqc w failed) && x.ends w) ⊎ T (x.ends failed && y.ends w) → End (hnd x.term y.term) w
-          by (inl g) = hnd-stops (gx .ends-only w (and-right (not (eqc w failed)) (x.ends w) g)) (other w failed (and-left (not (eqc w failed)) (x.ends w) g))
-          by (inr g) = hnd-on (gx .ends-only failed (and-left (x.ends failed) (y.ends w) g)) (gy .ends-only w (and-right (x.ends failed) (y.ends w) g))
-
-      ea : (w : Closing) → End (hnd x.term y.term) w → T ((not (eqc w failed) && x.ends w) || (x.ends failed && y.ends w))
-      ea w (hnd-on e f) = or-in-right (not (eqc w failed) && x.ends w) (x.ends failed && y.ends w) (and-in (x.ends failed) (y.ends w) (gx .ends-all failed e) (gy .ends-all w f))
-      ea w (hnd-stops e n) = or-in-left (not (eqc w failed) && x.ends w) (x.ends failed && y.ends w) (and-in (not (eqc w failed)) (x.ends w) (other-in w failed n) (gx .ends-all w e))
-
-      so : (a : ℕ) (r : Std) → List·Memᴰ r (map (λ p. hnd p y.term) (x.steps a) ++ only (x.ends failed) (y.steps a)) → Step (hnd x.term y.term) a r
-      so a r m = by (List·Memᴰ·append-cases (map (λ p. hnd p y.term) (x.steps a)) m)
-        where
-          by : List·Memᴰ r (map (λ p. hnd p y.term) (x.steps a)) ⊎ List·Memᴰ r (only (x.ends failed) (y.steps a)) → Step (hnd x.term y.term) a r
-          by (inl g) = let h = Memᴰ·of-map (λ p. hnd p y.term) (x.steps a) g in subst (λ r. Step (hnd x.term y.term) a r) (h .2) (hnd-first (gx .steps-only a (h .0) (h .1)))
-          by (inr g) = let h = of-only (x.ends failed) g in hnd-second (gx .ends-only failed (h .0)) (gy .steps-only a r (h .1))
-
-      sa : (a : ℕ) (r : Std) → Step (hnd x.term y.term) a r → List·Memᴰ r (map (λ p. hnd p y.term) (x.steps a) ++ only (x.ends failed) (y.steps a))
-      sa a r (hnd-first h) = Memᴰ·append-left _ (Memᴰ·map (λ p. hnd p y.term) (gx .steps-all a _ h))
-      sa a r (hnd-second e h) = Memᴰ·append-right (map (λ p. hnd p y.term) (x.steps a)) (in-only (x.ends failed) (gx .ends-all failed e) (gy .steps-all a r h))
-
-  alt-good : Good (altB x y)
-  unfolding altB
-  alt-good = record { ends-only = eo; ends-all = ea; steps-only = so; steps-all = sa }
-    where
-      eo : (w : Closing) → T (x.ends w || y.ends w) → End (alt x.term y.term) w
-      eo w h = by (or-cases (x.ends w) (y.ends w) h)
-        where
-          by : T (x.ends w) ⊎ T (y.ends w) → End (alt x.term y.term) w
-          by (inl g) = alt-left (gx .ends-only w g)
-          by (inr g) = alt-right (gy .ends-only w g)
-
-      ea : (w : Closing) → End (alt x.term y.term) w → T (x.ends w || y.ends w)
-      ea w (alt-left e) = or-in-left (x.ends w) (y.ends w) (gx .ends-all w e)
-      ea w (alt-right e) = or-in-right (x.ends w) (y.ends w) (gy .ends-all w e)
-
-      so : (a : ℕ) (r : Std) → List·Memᴰ r (x.steps a ++ y.steps a) → Step (alt x.term y.term) a r
-      so a r m = by (List·Memᴰ·append-cases (x.steps a) m)
-        where
-          by : List·Memᴰ r (x.steps a) ⊎ List·Memᴰ r (y.steps a) → Step (alt x.term y.term) a r
-          by (inl g) = alt-first (gx .steps-only a r g)
-          by (inr g) = alt-second (gy .steps-only a r g)
-
-      sa : (a : ℕ) (r : Std) → Step (alt x.term y.term) a r → List·Memᴰ r (x.steps a ++ y.steps a)
-      sa a r (alt-first h) = Memᴰ·append-left (y.steps a) (gx .steps-all a r h)
-      sa a r (alt-second h) = Memᴰ·append-right (x.steps a) (gy .steps-all a r h)
+      sa : (a : ℕ) (r : Std) → ((p : Std) × Step x.term a p × (op p y.term ≡ r)) ⊎ (End x.term u × Step y.term a r) → List·Memᴰ r (map (λ p. op p y.term) (x.steps a) ++ only (x.ends u) (y.steps a))
+      sa a r (inl h) = subst (λ r. List·Memᴰ r (map (λ p. op p y.term) (x.steps a) ++ only (x.ends u) (y.steps a))) (h .2) (Memᴰ·append-left _ (Memᴰ·map (λ p. op p y.term) (gx .steps-all a (h .0) (h .1))))
+      sa a r (inr h) = Memᴰ·append-right (map (λ p. op p y.term) (x.steps a)) (in-only (x.ends u) (gx .ends-all u (h .0)) (gy .steps-all a r (h .1)))
 
   par-good : Good (parB x y)
-  unfolding parB
   par-good = record { ends-only = eo; ends-all = ea; steps-only = so; steps-all = sa }
     where
-      ok : Closing → Closing → Closing → Bool
-      ok u w v = eqc u (join w v) && (x.ends w && y.ends v)
-
-      eo : (u : Closing) → T (some-of (λ w. some-of (λ v. eqc u (join w v) && (x.ends w && y.ends v)) closings) closings) → End (par x.term y.term) u
+      eo : (u : Closing) → T (ends-both x.ends y.ends u) → End (par x.term y.term) u
       eo u h =
           let f = of-some (λ w. some-of (λ v. eqc u (join w v) && (x.ends w && y.ends v)) closings) closings h in
           let w : Closing = f .0 in
@@ -185,287 +109,274 @@ module _ (x y : Beh) (gx : Good x) (gy : Good y) where
           let e = and-right (eqc u (join w v)) (x.ends w && y.ends v) (g .2) in
           par-joins (gx .ends-only w (and-left (x.ends w) (y.ends v) e)) (gy .ends-only v (and-right (x.ends w) (y.ends v) e)) (same u (join w v) (and-left (eqc u (join w v)) (x.ends w && y.ends v) (g .2)))
 
-      ea : (u : Closing) → End (par x.term y.term) u → T (some-of (λ w. some-of (λ v. eqc u (join w v) && (x.ends w && y.ends v)) closings) closings)
+      ea : (u : Closing) → End (par x.term y.term) u → T (ends-both x.ends y.ends u)
       ea u (par-joins {w} {v} e f q) =
           in-some (λ w. some-of (λ v. eqc u (join w v) && (x.ends w && y.ends v)) closings) (in-closings w)
           (in-some (λ v. eqc u (join w v) && (x.ends w && y.ends v)) (in-closings v)
           (and-in (eqc u (join w v)) (x.ends w && y.ends v) (same-in u (join w v) q) (and-in (x.ends w) (y.ends v) (gx .ends-all w e) (gy .ends-all v f))))
 
       so : (a : ℕ) (r : Std) → List·Memᴰ r (map (λ p. par p y.term) (x.steps a) ++ map (λ q. par x.term q) (y.steps a)) → Step (par x.term y.term) a r
-      so a r m = by (List·Memᴰ·append-cases (map (λ p. par p y.term) (x.steps a)) m)
-        where
-          by : List·Memᴰ r (map (λ p. par p y.term) (x.steps a)) ⊎ List·Memᴰ r (map (λ q. par x.term q) (y.steps a)) → Step (par x.term y.term) a r
-          by (inl g) = let h = Memᴰ·of-map (λ p. par p y.term) (x.steps a) g in subst (λ r. Step (par x.term y.term) a r) (h .2) (par-first (gx .steps-only a (h .0) (h .1)))
-          by (inr g) = let h = Memᴰ·of-map (λ q. par x.term q) (y.steps a) g in subst (λ r. Step (par x.term y.term) a r) (h .2) (par-second (gy .steps-only a (h .0) (h .1)))
+      so a r =
+          append-by (map (λ p. par p y.term) (x.steps a))
+          (map-by (λ p. par p y.term) (Step (par x.term y.term) a) (x.steps a) (λ p m. par-first (gx .steps-only a p m)) r)
+          (map-by (λ q. par x.term q) (Step (par x.term y.term) a) (y.steps a) (λ q m. par-second (gy .steps-only a q m)) r)
 
       sa : (a : ℕ) (r : Std) → Step (par x.term y.term) a r → List·Memᴰ r (map (λ p. par p y.term) (x.steps a) ++ map (λ q. par x.term q) (y.steps a))
       sa a r (par-first h) = Memᴰ·append-left (map (λ q. par x.term q) (y.steps a)) (Memᴰ·map (λ p. par p y.term) (gx .steps-all a _ h))
       sa a r (par-second h) = Memᴰ·append-right (map (λ p. par p y.term) (x.steps a)) (Memᴰ·map (λ q. par x.term q) (gy .steps-all a _ h))
 
-  -- s is what a stopped pair leaves
-  pair-good : CGood (pairB skipB x y)
-  unfolding pairB
-  pair-good = record { comps-good = cg; comps-only = co; comps-all = ca; csteps-only = so; csteps-all = sa }
+module _ (p q : Std) (gp : Good (beh p)) (gq : Good (beh q)) where
+  alt-good : Good (beh (alt p q))
+  unfolding ends
+  alt-good = record { ends-only = eo; ends-all = ea; steps-only = so; steps-all = sa }
+    where
+      eo : (w : Closing) → T (ends p w || ends q w) → End (alt p q) w
+      eo w h = elim (or-cases (ends p w) (ends q w) h) [ inl g ↦ alt-left (gp .ends-only w g) | inr g ↦ alt-right (gq .ends-only w g) ]
+
+      ea : (w : Closing) → End (alt p q) w → T (ends p w || ends q w)
+      ea w (alt-left e) = or-in-left (ends p w) (ends q w) (gp .ends-all w e)
+      ea w (alt-right e) = or-in-right (ends p w) (ends q w) (gq .ends-all w e)
+
+      so : (a : ℕ) (r : Std) → List·Memᴰ r (steps p a ++ steps q a) → Step (alt p q) a r
+      so a r = append-by (steps p a) (λ m. alt-first (gp .steps-only a r m)) (λ m. alt-second (gq .steps-only a r m))
+
+      sa : (a : ℕ) (r : Std) → Step (alt p q) a r → List·Memᴰ r (steps p a ++ steps q a)
+      sa a r (alt-first h) = Memᴰ·append-left (steps q a) (gp .steps-all a r h)
+      sa a r (alt-second h) = Memᴰ·append-right (steps p a) (gq .steps-all a r h)
+
+  pair-good : CGood (pair p q)
+  unfolding ends
+  pair-good = record { left-only = lo; left-all = la; csteps-only = so; csteps-all = sa }
     where
       left : Closing → List Beh
-      left w = elim w [ done ↦ y ∷ [] | withdrawn ↦ skipB ∷ [] | failed ↦ skipB ∷ [] ]
+      left w = cond (eqc w done) (beh q) skipB ∷ []
 
-      good-left : (w : Closing) (k : Beh) → List·Memᴰ k (left w) → Good k
-      good-left done k m = subst Good (sym (List·Memᴰ·eq-of-singleton m)) gy
-      good-left withdrawn k m = subst Good (sym (List·Memᴰ·eq-of-singleton m)) skip-good
-      good-left failed k m = subst Good (sym (List·Memᴰ·eq-of-singleton m)) skip-good
+      of-left : (w : Closing) → End p w → Good (cond (eqc w done) (beh q) skipB) × CEnd (pair p q) w ((cond (eqc w done) (beh q) skipB) .term)
+      of-left done e = (gq, pair-ends e)
+      of-left withdrawn e = (skip-good, pair-stops e (other withdrawn done tt))
+      of-left failed e = (skip-good, pair-stops e (other failed done tt))
 
-      cg : (w : Closing) (k : Beh) → List·Memᴰ k (only (x.ends w) (left w)) → Good k
-      cg w k m = good-left w k (of-only (x.ends w) m .1)
-
-      end-left : (w : Closing) (k : Beh) → End x.term w → List·Memᴰ k (left w) → CEnd (pair x.term y.term) w (k .term)
-      end-left done k e m = subst (λ (z : Beh). CEnd (pair x.term y.term) done (z .term)) (sym (List·Memᴰ·eq-of-singleton m)) (pair-ends e)
-      end-left withdrawn k e m = subst (λ (z : Beh). CEnd (pair x.term y.term) withdrawn (z .term)) (sym (List·Memᴰ·eq-of-singleton m)) (pair-stops e (other withdrawn done tt))
-      end-left failed k e m = subst (λ (z : Beh). CEnd (pair x.term y.term) failed (z .term)) (sym (List·Memᴰ·eq-of-singleton m)) (pair-stops e (other failed done tt))
-
-      co : (w : Closing) (k : Beh) → List·Memᴰ k (only (x.ends w) (left w)) → CEnd (pair x.term y.term) w (k .term)
-      co w k m = let h = of-only (x.ends w) m in end-left w k (gx .ends-only w (h .0)) (h .1)
+      lo : (w : Closing) (k : Beh) → List·Memᴰ k (only (ends p w) (left w)) → Good k × CEnd (pair p q) w (k .term)
+      lo w k m =
+          let h = of-only (ends p w) m in
+          subst (λ (k : Beh). Good k × CEnd (pair p q) w (k .term)) (sym (List·Memᴰ·eq-of-singleton (h .1))) (of-left w (gp .ends-only w (h .0)))
 
       skip-left : (w : Closing) → w ≢ done → List·Memᴰ skipB (left w)
       skip-left done n = absurd (n refl)
       skip-left withdrawn n = List·Memᴰ·head refl
       skip-left failed n = List·Memᴰ·head refl
 
-      ca : (w : Closing) (p : Std) → CEnd (pair x.term y.term) w p → (k : Beh) × List·Memᴰ k (only (x.ends w) (left w)) × (k .term ≡ p)
-      ca w p (pair-ends e) = (y, in-only (x.ends done) (gx .ends-all done e) (List·Memᴰ·head refl), refl)
-      ca w p (pair-stops e n) = (skipB, in-only (x.ends w) (gx .ends-all w e) (skip-left w n), refl)
+      la : (w : Closing) (r : Std) → CEnd (pair p q) w r → (k : Beh) × List·Memᴰ k (only (ends p w) (left w)) × (k .term ≡ r)
+      la w r (pair-ends e) = (beh q, in-only (ends p done) (gp .ends-all done e) (List·Memᴰ·head refl), refl)
+      la w r (pair-stops e n) = (skipB, in-only (ends p w) (gp .ends-all w e) (skip-left w n), refl)
 
-      so : (a : ℕ) (r : Cmp) → List·Memᴰ r (map (λ p. pair p y.term) (x.steps a)) → CStep (pair x.term y.term) a r
-      so a r m = let h = Memᴰ·of-map (λ p. pair p y.term) (x.steps a) m in subst (λ r. CStep (pair x.term y.term) a r) (h .2) (pair-step (gx .steps-only a (h .0) (h .1)))
+      so : (a : ℕ) (r : Cmp) → List·Memᴰ r (map (λ r. pair r q) (steps p a)) → CStep (pair p q) a r
+      so a r = map-by (λ r. pair r q) (CStep (pair p q) a) (steps p a) (λ r m. pair-step (gp .steps-only a r m)) r
 
-      sa : (a : ℕ) (r : Cmp) → CStep (pair x.term y.term) a r → List·Memᴰ r (map (λ p. pair p y.term) (x.steps a))
-      sa a r (pair-step h) = Memᴰ·map (λ p. pair p y.term) (gx .steps-all a _ h)
+      sa : (a : ℕ) (r : Cmp) → CStep (pair p q) a r → List·Memᴰ r (map (λ r. pair r q) (steps p a))
+      sa a r (pair-step h) = Memᴰ·map (λ r. pair r q) (gp .steps-all a _ h)
 
-module _ (x : CBeh) (gx : CGood x) where
-  blk-good : Good (blkB x)
-  unfolding blkB
+-- Parts that have a compensable first part ----------------------------------------------------------------------------------
+
+module _ (pp : Cmp) (gp : CGood pp) where
+  blk-good : Good (beh (blk pp))
+  unfolding ends
   blk-good = record { ends-only = eo; ends-all = ea; steps-only = so; steps-all = sa }
     where
-      eo : (w : Closing) → T ((eqc w done && any-at-all (x.comps done)) || some-of (λ k. k .ends w) (x.comps failed)) → End (blk x.cterm) w
-      eo w h = by (or-cases (eqc w done && any-at-all (x.comps done)) (some-of (λ k. k .ends w) (x.comps failed)) h)
+      eo : (w : Closing) → T ((eqc w done && any-at-all (left-by pp done)) || some-of (λ k. k .ends w) (left-by pp failed)) → End (blk pp) w
+      eo w h = by (or-cases (eqc w done && any-at-all (left-by pp done)) (some-of (λ (k : Beh). k .ends w) (left-by pp failed)) h)
         where
-          by : T (eqc w done && any-at-all (x.comps done)) ⊎ T (some-of (λ k. k .ends w) (x.comps failed)) → End (blk x.cterm) w
+          by : T (eqc w done && any-at-all (left-by pp done)) ⊎ T (some-of (λ (k : Beh). k .ends w) (left-by pp failed)) → End (blk pp) w
           by (inl g) =
-              let k = of-any (x.comps done) (and-right (eqc w done) (any-at-all (x.comps done)) g) in
-              subst (λ w. End (blk x.cterm) w) (sym (same w done (and-left (eqc w done) (any-at-all (x.comps done)) g))) (blk-ends (gx .comps-only done (k .0) (k .1)))
+              let k = of-any (left-by pp done) (and-right (eqc w done) (any-at-all (left-by pp done)) g) in
+              subst (End (blk pp)) (sym (same w done (and-left (eqc w done) (any-at-all (left-by pp done)) g))) (blk-ends (gp .left-only done (k .0) (k .1) .1))
           by (inr g) =
-              let k = of-some (λ (k : Beh). k .ends w) (x.comps failed) g in
-              blk-undoes (gx .comps-only failed (k .0) (k .1)) (gx .comps-good failed (k .0) (k .1) .ends-only w (k .2))
+              let k = of-some (λ (k : Beh). k .ends w) (left-by pp failed) g in
+              let l = gp .left-only failed (k .0) (k .1) in
+              blk-undoes (l .1) (l .0 .ends-only w (k .2))
 
-      ea : (w : Closing) → End (blk x.cterm) w → T ((eqc w done && any-at-all (x.comps done)) || some-of (λ k. k .ends w) (x.comps failed))
-      ea w (blk-ends e) = let k = gx .comps-all done _ e in or-in-left (any-at-all (x.comps done)) (some-of (λ k. k .ends done) (x.comps failed)) (in-any (k .1))
+      ea : (w : Closing) → End (blk pp) w → T ((eqc w done && any-at-all (left-by pp done)) || some-of (λ k. k .ends w) (left-by pp failed))
+      ea w (blk-ends e) = let k = gp .left-all done _ e in or-in-left (any-at-all (left-by pp done)) (some-of (λ k. k .ends done) (left-by pp failed)) (in-any (k .1))
       ea w (blk-undoes e f) =
-          let k = gx .comps-all failed _ e in
+          let k = gp .left-all failed _ e in
           let g : End ((k .0) .term) w = subst (λ p. End p w) (sym (k .2)) f in
-          or-in-right (eqc w done && any-at-all (x.comps done)) (some-of (λ k. k .ends w) (x.comps failed)) (in-some (λ (k : Beh). k .ends w) (k .1) (gx .comps-good failed (k .0) (k .1) .ends-all w g))
+          or-in-right (eqc w done && any-at-all (left-by pp done)) (some-of (λ k. k .ends w) (left-by pp failed)) (in-some (λ (k : Beh). k .ends w) (k .1) (gp .left-only failed (k .0) (k .1) .0 .ends-all w g))
 
-      so : (a : ℕ) (r : Std) → List·Memᴰ r (map blk (x.csteps a) ++ each (x.comps failed) (λ k. k .steps a)) → Step (blk x.cterm) a r
-      so a r m = by (List·Memᴰ·append-cases (map blk (x.csteps a)) m)
-        where
-          by : List·Memᴰ r (map blk (x.csteps a)) ⊎ List·Memᴰ r (each (x.comps failed) (λ k. k .steps a)) → Step (blk x.cterm) a r
-          by (inl g) = let h = Memᴰ·of-map blk (x.csteps a) g in subst (λ r. Step (blk x.cterm) a r) (h .2) (blk-first (gx .csteps-only a (h .0) (h .1)))
-          by (inr g) = let k = of-each (x.comps failed) (λ (k : Beh). k .steps a) g in blk-second (gx .comps-only failed (k .0) (k .1)) (gx .comps-good failed (k .0) (k .1) .steps-only a r (k .2))
+      so : (a : ℕ) (r : Std) → List·Memᴰ r (map blk (csteps pp a) ++ each (left-by pp failed) (λ k. k .steps a)) → Step (blk pp) a r
+      so a r =
+          append-by (map blk (csteps pp a))
+          (map-by blk (Step (blk pp) a) (csteps pp a) (λ r m. blk-first (gp .csteps-only a r m)) r)
+          (λ m. let k = of-each (left-by pp failed) (λ (k : Beh). k .steps a) m in
+          let l = gp .left-only failed (k .0) (k .1) in
+          blk-second (l .1) (l .0 .steps-only a r (k .2)))
 
-      sa : (a : ℕ) (r : Std) → Step (blk x.cterm) a r → List·Memᴰ r (map blk (x.csteps a) ++ each (x.comps failed) (λ k. k .steps a))
-      sa a r (blk-first h) = Memᴰ·append-left (each (x.comps failed) (λ k. k .steps a)) (Memᴰ·map blk (gx .csteps-all a _ h))
+      sa : (a : ℕ) (r : Std) → Step (blk pp) a r → List·Memᴰ r (map blk (csteps pp a) ++ each (left-by pp failed) (λ k. k .steps a))
+      sa a r (blk-first h) = Memᴰ·append-left (each (left-by pp failed) (λ k. k .steps a)) (Memᴰ·map blk (gp .csteps-all a _ h))
       sa a r (blk-second e h) =
-          let k = gx .comps-all failed _ e in
+          let k = gp .left-all failed _ e in
           let g : Step ((k .0) .term) a r = subst (λ p. Step p a r) (sym (k .2)) h in
-          Memᴰ·append-right (map blk (x.csteps a)) (in-each (λ (k : Beh). k .steps a) (k .1) (gx .comps-good failed (k .0) (k .1) .steps-all a r g))
+          Memᴰ·append-right (map blk (csteps pp a)) (in-each (λ (k : Beh). k .steps a) (k .1) (gp .left-only failed (k .0) (k .1) .0 .steps-all a r g))
 
-  held-good : (y : Beh) → Good y → CGood (heldB x y)
-  unfolding heldB seqB
-  held-good y gy = record { comps-good = cg; comps-only = co; comps-all = ca; csteps-only = so; csteps-all = sa }
+  held-good : (q : Std) → Good (beh q) → CGood (held pp q)
+  unfolding ends
+  held-good q gq = record { left-only = lo; left-all = la; csteps-only = so; csteps-all = sa }
     where
-      cg : (w : Closing) (k : Beh) → List·Memᴰ k (map (λ l. seqB l y) (x.comps w)) → Good k
-      cg w k m = let h = Memᴰ·of-map (λ l. seqB l y) (x.comps w) m in subst Good (h .2) (seq-good (h .0) y (gx .comps-good w (h .0) (h .1)) gy)
+      lo : (w : Closing) (k : Beh) → List·Memᴰ k (map (λ l. seqB l (beh q)) (left-by pp w)) → Good k × CEnd (held pp q) w (k .term)
+      lo w =
+          map-by (λ l. seqB l (beh q)) (λ k. Good k × CEnd (held pp q) w (k .term)) (left-by pp w)
+          (λ l m. let h = gp .left-only w l m in (on-good l (beh q) (h .0) gq seq-onward, held-ends (h .1)))
 
-      co : (w : Closing) (k : Beh) → List·Memᴰ k (map (λ l. seqB l y) (x.comps w)) → CEnd (held x.cterm y.term) w (k .term)
-      co w k m = let h = Memᴰ·of-map (λ l. seqB l y) (x.comps w) m in subst (λ (z : Beh). CEnd (held x.cterm y.term) w (z .term)) (h .2) (held-ends (gx .comps-only w (h .0) (h .1)))
+      la : (w : Closing) (r : Std) → CEnd (held pp q) w r → (k : Beh) × List·Memᴰ k (map (λ l. seqB l (beh q)) (left-by pp w)) × (k .term ≡ r)
+      la w r (held-ends e) = let k = gp .left-all w _ e in (seqB (k .0) (beh q), Memᴰ·map (λ l. seqB l (beh q)) (k .1), ap (λ p. seq p q) (k .2))
 
-      ca : (w : Closing) (p : Std) → CEnd (held x.cterm y.term) w p → (k : Beh) × List·Memᴰ k (map (λ l. seqB l y) (x.comps w)) × (k .term ≡ p)
-      ca w p (held-ends e) = let k = gx .comps-all w _ e in (seqB (k .0) y, Memᴰ·map (λ l. seqB l y) (k .1), ap (λ p. seq p y.term) (k .2))
+      so : (a : ℕ) (r : Cmp) → List·Memᴰ r (map (λ r. held r q) (csteps pp a)) → CStep (held pp q) a r
+      so a = map-by (λ r. held r q) (CStep (held pp q) a) (csteps pp a) (λ r m. held-step (gp .csteps-only a r m))
 
-      so : (a : ℕ) (r : Cmp) → List·Memᴰ r (map (λ q. held q y.term) (x.csteps a)) → CStep (held x.cterm y.term) a r
-      so a r m = let h = Memᴰ·of-map (λ q. held q y.term) (x.csteps a) m in subst (λ r. CStep (held x.cterm y.term) a r) (h .2) (held-step (gx .csteps-only a (h .0) (h .1)))
+      sa : (a : ℕ) (r : Cmp) → CStep (held pp q) a r → List·Memᴰ r (map (λ r. held r q) (csteps pp a))
+      sa a r (held-step h) = Memᴰ·map (λ r. held r q) (gp .csteps-all a _ h)
 
-      sa : (a : ℕ) (r : Cmp) → CStep (held x.cterm y.term) a r → List·Memᴰ r (map (λ q. held q y.term) (x.csteps a))
-      sa a r (held-step h) = Memᴰ·map (λ q. held q y.term) (gx .csteps-all a _ h)
-
-module _ (x y : CBeh) (gx : CGood x) (gy : CGood y) where
-  calt-good : CGood (caltB x y)
-  unfolding caltB
-  calt-good = record { comps-good = cg; comps-only = co; comps-all = ca; csteps-only = so; csteps-all = sa }
+module _ (pp qq : Cmp) (gp : CGood pp) (gq : CGood qq) where
+  calt-good : CGood (calt pp qq)
+  unfolding ends
+  calt-good = record { left-only = lo; left-all = la; csteps-only = so; csteps-all = sa }
     where
-      cg : (w : Closing) (k : Beh) → List·Memᴰ k (x.comps w ++ y.comps w) → Good k
-      cg w k m = by (List·Memᴰ·append-cases (x.comps w) m)
-        where
-          by : List·Memᴰ k (x.comps w) ⊎ List·Memᴰ k (y.comps w) → Good k
-          by (inl g) = gx .comps-good w k g
-          by (inr g) = gy .comps-good w k g
+      lo : (w : Closing) (k : Beh) → List·Memᴰ k (left-by pp w ++ left-by qq w) → Good k × CEnd (calt pp qq) w (k .term)
+      lo w k =
+          append-by (left-by pp w)
+          (λ m. let h = gp .left-only w k m in (h .0, calt-left (h .1)))
+          (λ m. let h = gq .left-only w k m in (h .0, calt-right (h .1)))
 
-      co : (w : Closing) (k : Beh) → List·Memᴰ k (x.comps w ++ y.comps w) → CEnd (calt x.cterm y.cterm) w (k .term)
-      co w k m = by (List·Memᴰ·append-cases (x.comps w) m)
-        where
-          by : List·Memᴰ k (x.comps w) ⊎ List·Memᴰ k (y.comps w) → CEnd (calt x.cterm y.cterm) w (k .term)
-          by (inl g) = calt-left (gx .comps-only w k g)
-          by (inr g) = calt-right (gy .comps-only w k g)
+      la : (w : Closing) (p : Std) → CEnd (calt pp qq) w p → (k : Beh) × List·Memᴰ k (left-by pp w ++ left-by qq w) × (k .term ≡ p)
+      la w p (calt-left e) = let k = gp .left-all w p e in (k .0, Memᴰ·append-left (left-by qq w) (k .1), k .2)
+      la w p (calt-right e) = let k = gq .left-all w p e in (k .0, Memᴰ·append-right (left-by pp w) (k .1), k .2)
 
-      ca : (w : Closing) (p : Std) → CEnd (calt x.cterm y.cterm) w p → (k : Beh) × List·Memᴰ k (x.comps w ++ y.comps w) × (k .term ≡ p)
-      ca w p (calt-left e) = let k = gx .comps-all w p e in (k .0, Memᴰ·append-left (y.comps w) (k .1), k .2)
-      ca w p (calt-right e) = let k = gy .comps-all w p e in (k .0, Memᴰ·append-right (x.comps w) (k .1), k .2)
+      so : (a : ℕ) (r : Cmp) → List·Memᴰ r (csteps pp a ++ csteps qq a) → CStep (calt pp qq) a r
+      so a r = append-by (csteps pp a) (λ m. calt-first (gp .csteps-only a r m)) (λ m. calt-second (gq .csteps-only a r m))
 
-      so : (a : ℕ) (r : Cmp) → List·Memᴰ r (x.csteps a ++ y.csteps a) → CStep (calt x.cterm y.cterm) a r
-      so a r m = by (List·Memᴰ·append-cases (x.csteps a) m)
-        where
-          by : List·Memᴰ r (x.csteps a) ⊎ List·Memᴰ r (y.csteps a) → CStep (calt x.cterm y.cterm) a r
-          by (inl g) = calt-first (gx .csteps-only a r g)
-          by (inr g) = calt-second (gy .csteps-only a r g)
+      sa : (a : ℕ) (r : Cmp) → CStep (calt pp qq) a r → List·Memᴰ r (csteps pp a ++ csteps qq a)
+      sa a r (calt-first h) = Memᴰ·append-left (csteps qq a) (gp .csteps-all a r h)
+      sa a r (calt-second h) = Memᴰ·append-right (csteps pp a) (gq .csteps-all a r h)
 
-      sa : (a : ℕ) (r : Cmp) → CStep (calt x.cterm y.cterm) a r → List·Memᴰ r (x.csteps a ++ y.csteps a)
-      sa a r (calt-first h) = Memᴰ·append-left (y.csteps a) (gx .csteps-all a r h)
-      sa a r (calt-second h) = Memᴰ·append-right (x.csteps a) (gy .csteps-all a r h)
-
-  cseq-good : CGood (cseqB x y)
-  unfolding cseqB seqB
-  cseq-good = record { comps-good = λ w k m. both w k m .0; comps-only = λ w k m. both w k m .1; comps-all = ca; csteps-only = so; csteps-all = sa }
+  cseq-good : CGood (cseq pp qq)
+  unfolding ends
+  cseq-good = record { left-only = lo; left-all = la; csteps-only = so; csteps-all = sa }
     where
-      both : (w : Closing) (k : Beh) → List·Memᴰ k (only (not (eqc w done)) (x.comps w) ++ each (x.comps done) (λ k. map (λ l. seqB l k) (y.comps w))) → Good k × CEnd (cseq x.cterm y.cterm) w (k .term)
-      both w k m = by (List·Memᴰ·append-cases (only (not (eqc w done)) (x.comps w)) m)
-        where
-          by : List·Memᴰ k (only (not (eqc w done)) (x.comps w)) ⊎ List·Memᴰ k (each (x.comps done) (λ k. map (λ l. seqB l k) (y.comps w))) → Good k × CEnd (cseq x.cterm y.cterm) w (k .term)
-          by (inl g) = let h = of-only (not (eqc w done)) g in (gx .comps-good w k (h .1), cseq-stops (gx .comps-only w k (h .1)) (other w done (h .0)))
-          by (inr g) =
-              let f = of-each (x.comps done) (λ k. map (λ l. seqB l k) (y.comps w)) g in
-              let h = Memᴰ·of-map (λ l. seqB l (f .0)) (y.comps w) (f .2) in (
-                subst Good (h .2) (seq-good (h .0) (f .0) (gy .comps-good w (h .0) (h .1)) (gx .comps-good done (f .0) (f .1))),
-                subst (λ (z : Beh). CEnd (cseq x.cterm y.cterm) w (z .term)) (h .2) (cseq-on (gx .comps-only done (f .0) (f .1)) (gy .comps-only w (h .0) (h .1))),
-              )
+      after : Closing → Beh → List Beh
+      after w k = map (λ l. seqB l k) (left-by qq w)
 
-      ca : (w : Closing) (p : Std) → CEnd (cseq x.cterm y.cterm) w p → (k : Beh) × List·Memᴰ k (only (not (eqc w done)) (x.comps w) ++ each (x.comps done) (λ k. map (λ l. seqB l k) (y.comps w))) × (k .term ≡ p)
-      ca w p (cseq-stops e n) = let k = gx .comps-all w p e in (k .0, Memᴰ·append-left (each (x.comps done) (λ k. map (λ l. seqB l k) (y.comps w))) (in-only (not (eqc w done)) (other-in w done n) (k .1)), k .2)
-      ca w p (cseq-on e f) =
-          let k = gx .comps-all done _ e in
-          let l = gy .comps-all w _ f in
-          (seqB (l .0) (k .0), Memᴰ·append-right (only (not (eqc w done)) (x.comps w)) (in-each (λ k. map (λ l. seqB l k) (y.comps w)) (k .1) (Memᴰ·map (λ z. seqB z (k .0)) (l .1))), λ i. seq (l .2 i) (k .2 i))
+      lo : (w : Closing) (k : Beh) → List·Memᴰ k (only (not (eqc w done)) (left-by pp w) ++ each (left-by pp done) (after w)) → Good k × CEnd (cseq pp qq) w (k .term)
+      lo w k =
+          append-by (only (not (eqc w done)) (left-by pp w))
+          (λ m. let h = of-only (not (eqc w done)) m in
+          let g = gp .left-only w k (h .1) in
+          (g .0, cseq-stops (g .1) (other w done (h .0))))
+          (λ m. let f = of-each (left-by pp done) (after w) m in
+          let h = gp .left-only done (f .0) (f .1) in
+          map-by (λ l. seqB l (f .0)) (λ k. Good k × CEnd (cseq pp qq) w (k .term)) (left-by qq w)
+          (λ l n. let g = gq .left-only w l n in (on-good l (f .0) (g .0) (h .0) seq-onward, cseq-on (h .1) (g .1))) k (f .2))
 
-      so : (a : ℕ) (r : Cmp) → List·Memᴰ r (map (λ p. cseq p y.cterm) (x.csteps a) ++ each (x.comps done) (λ k. map (λ q. held q k.term) (y.csteps a))) → CStep (cseq x.cterm y.cterm) a r
-      so a r m = by (List·Memᴰ·append-cases (map (λ p. cseq p y.cterm) (x.csteps a)) m)
-        where
-          by : List·Memᴰ r (map (λ p. cseq p y.cterm) (x.csteps a)) ⊎ List·Memᴰ r (each (x.comps done) (λ k. map (λ q. held q k.term) (y.csteps a))) → CStep (cseq x.cterm y.cterm) a r
-          by (inl g) = let h = Memᴰ·of-map (λ p. cseq p y.cterm) (x.csteps a) g in subst (λ r. CStep (cseq x.cterm y.cterm) a r) (h .2) (cseq-first (gx .csteps-only a (h .0) (h .1)))
-          by (inr g) =
-              let f = of-each (x.comps done) (λ (k : Beh). map (λ q. held q k.term) (y.csteps a)) g in
-              let h = Memᴰ·of-map (λ q. held q ((f .0) .term)) (y.csteps a) (f .2) in
-              subst (λ r. CStep (cseq x.cterm y.cterm) a r) (h .2) (cseq-second (gx .comps-only done (f .0) (f .1)) (gy .csteps-only a (h .0) (h .1)))
+      la : (w : Closing) (p : Std) → CEnd (cseq pp qq) w p → (k : Beh) × List·Memᴰ k (only (not (eqc w done)) (left-by pp w) ++ each (left-by pp done) (after w)) × (k .term ≡ p)
+      la w p (cseq-stops e n) = let k = gp .left-all w p e in (k .0, Memᴰ·append-left (each (left-by pp done) (after w)) (in-only (not (eqc w done)) (other-in w done n) (k .1)), k .2)
+      la w p (cseq-on e f) =
+          let k = gp .left-all done _ e in
+          let l = gq .left-all w _ f in
+          (seqB (l .0) (k .0), Memᴰ·append-right (only (not (eqc w done)) (left-by pp w)) (in-each (after w) (k .1) (Memᴰ·map (λ z. seqB z (k .0)) (l .1))), λ i. seq (l .2 i) (k .2 i))
 
-      sa : (a : ℕ) (r : Cmp) → CStep (cseq x.cterm y.cterm) a r → List·Memᴰ r (map (λ p. cseq p y.cterm) (x.csteps a) ++ each (x.comps done) (λ k. map (λ q. held q k.term) (y.csteps a)))
-      sa a r (cseq-first h) = Memᴰ·append-left (each (x.comps done) (λ k. map (λ q. held q k.term) (y.csteps a))) (Memᴰ·map (λ p. cseq p y.cterm) (gx .csteps-all a _ h))
+      holding : ℕ → Beh → List Cmp
+      holding a k = map (λ r. held r k.term) (csteps qq a)
+
+      so : (a : ℕ) (r : Cmp) → List·Memᴰ r (map (λ r. cseq r qq) (csteps pp a) ++ each (left-by pp done) (holding a)) → CStep (cseq pp qq) a r
+      so a r =
+          append-by (map (λ r. cseq r qq) (csteps pp a))
+          (map-by (λ r. cseq r qq) (CStep (cseq pp qq) a) (csteps pp a) (λ r m. cseq-first (gp .csteps-only a r m)) r)
+          (λ m. let f = of-each (left-by pp done) (holding a) m in
+          map-by (λ r. held r ((f .0) .term)) (CStep (cseq pp qq) a) (csteps qq a) (λ r n. cseq-second (gp .left-only done (f .0) (f .1) .1) (gq .csteps-only a r n)) r (f .2))
+
+      sa : (a : ℕ) (r : Cmp) → CStep (cseq pp qq) a r → List·Memᴰ r (map (λ r. cseq r qq) (csteps pp a) ++ each (left-by pp done) (holding a))
+      sa a r (cseq-first h) = Memᴰ·append-left (each (left-by pp done) (holding a)) (Memᴰ·map (λ r. cseq r qq) (gp .csteps-all a _ h))
       sa a r (cseq-second {qq′} {k = p} e h) =
-          let k = gx .comps-all done p e in
-          Memᴰ·append-right (map (λ p. cseq p y.cterm) (x.csteps a))
-          (in-each (λ (k : Beh). map (λ q. held q k.term) (y.csteps a)) (k .1)
-          (subst (λ z. List·Memᴰ (held qq′ z) (map (λ q. held q ((k .0) .term)) (y.csteps a))) (k .2) (Memᴰ·map (λ q. held q ((k .0) .term)) (gy .csteps-all a qq′ h))))
+          let k = gp .left-all done p e in
+          Memᴰ·append-right (map (λ r. cseq r qq) (csteps pp a))
+          (in-each (holding a) (k .1)
+          (subst (λ z. List·Memᴰ (held qq′ z) (map (λ r. held r ((k .0) .term)) (csteps qq a))) (k .2) (Memᴰ·map (λ r. held r ((k .0) .term)) (gq .csteps-all a qq′ h))))
 
-  cpar-good : CGood (cparB x y)
-  unfolding cparB parB
-  cpar-good = record { comps-good = λ w k m. both w k m .0; comps-only = λ w k m. both w k m .1; comps-all = ca; csteps-only = so; csteps-all = sa }
+  cpar-good : CGood (cpar pp qq)
+  unfolding ends
+  cpar-good = record { left-only = lo; left-all = la; csteps-only = so; csteps-all = sa }
     where
       in₃ : Closing → Closing → Beh → Closing → List Beh
-      in₃ u w k v = only (eqc u (join w v)) (map (λ l. parB k l) (y.comps v))
+      in₃ u w k v = only (eqc u (join w v)) (map (λ l. parB k l) (left-by qq v))
 
       in₂ : Closing → Closing → Beh → List Beh
       in₂ u w k = each closings (in₃ u w k)
 
       in₁ : Closing → Closing → List Beh
-      in₁ u w = each (x.comps w) (in₂ u w)
+      in₁ u w = each (left-by pp w) (in₂ u w)
 
-      both : (u : Closing) (k : Beh) → List·Memᴰ k (each closings (in₁ u)) → Good k × CEnd (cpar x.cterm y.cterm) u (k .term)
-      both u k m =
+      lo : (u : Closing) (k : Beh) → List·Memᴰ k (each closings (in₁ u)) → Good k × CEnd (cpar pp qq) u (k .term)
+      lo u k m =
           let f = of-each closings (in₁ u) m in
-          let g = of-each (x.comps (f .0)) (in₂ u (f .0)) (f .2) in
+          let g = of-each (left-by pp (f .0)) (in₂ u (f .0)) (f .2) in
           let h = of-each closings (in₃ u (f .0) (g .0)) (g .2) in
           let i = of-only (eqc u (join (f .0) (h .0))) (h .2) in
-          let j = Memᴰ·of-map (λ l. parB (g .0) l) (y.comps (h .0)) (i .1) in (
-            subst Good (j .2) (par-good (g .0) (j .0) (gx .comps-good (f .0) (g .0) (g .1)) (gy .comps-good (h .0) (j .0) (j .1))),
-            subst (λ (z : Beh). CEnd (cpar x.cterm y.cterm) u (z .term)) (j .2) (cpar-joins (gx .comps-only (f .0) (g .0) (g .1)) (gy .comps-only (h .0) (j .0) (j .1)) (same u (join (f .0) (h .0)) (i .0))),
-          )
+          let x = gp .left-only (f .0) (g .0) (g .1) in
+          map-by (λ l. parB (g .0) l) (λ k. Good k × CEnd (cpar pp qq) u (k .term)) (left-by qq (h .0))
+          (λ l n. let y = gq .left-only (h .0) l n in (par-good (g .0) l (x .0) (y .0), cpar-joins (x .1) (y .1) (same u (join (f .0) (h .0)) (i .0)))) k (i .1)
 
-      ca : (u : Closing) (p : Std) → CEnd (cpar x.cterm y.cterm) u p → (k : Beh) × List·Memᴰ k (each closings (in₁ u)) × (k .term ≡ p)
-      ca u p (cpar-joins {w} {v} e f q) =
-          let k = gx .comps-all w _ e in
-          let l = gy .comps-all v _ f in (
+      la : (u : Closing) (p : Std) → CEnd (cpar pp qq) u p → (k : Beh) × List·Memᴰ k (each closings (in₁ u)) × (k .term ≡ p)
+      la u p (cpar-joins {w} {v} e f q) =
+          let k = gp .left-all w _ e in
+          let l = gq .left-all v _ f in (
             parB (k .0) (l .0),
             in-each (in₁ u) (in-closings w) (in-each (in₂ u w) (k .1) (in-each (in₃ u w (k .0)) (in-closings v) (in-only (eqc u (join w v)) (same-in u (join w v) q) (Memᴰ·map (λ z. parB (k .0) z) (l .1))))),
             λ i. par (k .2 i) (l .2 i),
           )
 
-      so : (a : ℕ) (r : Cmp) → List·Memᴰ r (map (λ p. cpar p y.cterm) (x.csteps a) ++ map (λ q. cpar x.cterm q) (y.csteps a)) → CStep (cpar x.cterm y.cterm) a r
-      so a r m = by (List·Memᴰ·append-cases (map (λ p. cpar p y.cterm) (x.csteps a)) m)
-        where
-          by : List·Memᴰ r (map (λ p. cpar p y.cterm) (x.csteps a)) ⊎ List·Memᴰ r (map (λ q. cpar x.cterm q) (y.csteps a)) → CStep (cpar x.cterm y.cterm) a r
-          by (inl g) = let h = Memᴰ·of-map (λ p. cpar p y.cterm) (x.csteps a) g in subst (λ r. CStep (cpar x.cterm y.cterm) a r) (h .2) (cpar-first (gx .csteps-only a (h .0) (h .1)))
-          by (inr g) = let h = Memᴰ·of-map (λ q. cpar x.cterm q) (y.csteps a) g in subst (λ r. CStep (cpar x.cterm y.cterm) a r) (h .2) (cpar-second (gy .csteps-only a (h .0) (h .1)))
+      so : (a : ℕ) (r : Cmp) → List·Memᴰ r (map (λ r. cpar r qq) (csteps pp a) ++ map (λ r. cpar pp r) (csteps qq a)) → CStep (cpar pp qq) a r
+      so a r =
+          append-by (map (λ r. cpar r qq) (csteps pp a))
+          (map-by (λ r. cpar r qq) (CStep (cpar pp qq) a) (csteps pp a) (λ r m. cpar-first (gp .csteps-only a r m)) r)
+          (map-by (λ r. cpar pp r) (CStep (cpar pp qq) a) (csteps qq a) (λ r m. cpar-second (gq .csteps-only a r m)) r)
 
-      sa : (a : ℕ) (r : Cmp) → CStep (cpar x.cterm y.cterm) a r → List·Memᴰ r (map (λ p. cpar p y.cterm) (x.csteps a) ++ map (λ q. cpar x.cterm q) (y.csteps a))
-      sa a r (cpar-first h) = Memᴰ·append-left (map (λ q. cpar x.cterm q) (y.csteps a)) (Memᴰ·map (λ p. cpar p y.cterm) (gx .csteps-all a _ h))
-      sa a r (cpar-second h) = Memᴰ·append-right (map (λ p. cpar p y.cterm) (x.csteps a)) (Memᴰ·map (λ q. cpar x.cterm q) (gy .csteps-all a _ h))
+      sa : (a : ℕ) (r : Cmp) → CStep (cpar pp qq) a r → List·Memᴰ r (map (λ r. cpar r qq) (csteps pp a) ++ map (λ r. cpar pp r) (csteps qq a))
+      sa a r (cpar-first h) = Memᴰ·append-left (map (λ r. cpar pp r) (csteps qq a)) (Memᴰ·map (λ r. cpar r qq) (gp .csteps-all a _ h))
+      sa a r (cpar-second h) = Memᴰ·append-right (map (λ r. cpar r qq) (csteps pp a)) (Memᴰ·map (λ r. cpar pp r) (gq .csteps-all a _ h))
 
 mutual
-  unfolding beh
+  unfolding ends
 
   pub beh-good : (p : Std) → Good (beh p)
   beh-good skip = skip-good
   beh-good throw = throw-good
   beh-good yield = yield-good
-  beh-good (ev b) = ev-good b
-  beh-good (seq p q) = seq-good (beh p) (beh q) (beh-good p) (beh-good q)
-  beh-good (alt p q) = alt-good (beh p) (beh q) (beh-good p) (beh-good q)
+  beh-good (ev l) = ev-good l
+  beh-good (seq p q) = on-good (beh p) (beh q) (beh-good p) (beh-good q) seq-onward
+  beh-good (alt p q) = alt-good p q (beh-good p) (beh-good q)
   beh-good (par p q) = par-good (beh p) (beh q) (beh-good p) (beh-good q)
-  beh-good (hnd p q) = hnd-good (beh p) (beh q) (beh-good p) (beh-good q)
-  beh-good (blk pp) = blk-good (cbeh pp) (cbeh-good pp)
+  beh-good (hnd p q) = on-good (beh p) (beh q) (beh-good p) (beh-good q) hnd-onward
+  beh-good (blk pp) = blk-good pp (cmp-good pp)
 
-  pub cbeh-good : (pp : Cmp) → CGood (cbeh pp)
-  cbeh-good (pair p q) = pair-good (beh p) (beh q) (beh-good p) (beh-good q)
-  cbeh-good (cseq pp qq) = cseq-good (cbeh pp) (cbeh qq) (cbeh-good pp) (cbeh-good qq)
-  cbeh-good (calt pp qq) = calt-good (cbeh pp) (cbeh qq) (cbeh-good pp) (cbeh-good qq)
-  cbeh-good (cpar pp qq) = cpar-good (cbeh pp) (cbeh qq) (cbeh-good pp) (cbeh-good qq)
-  cbeh-good (held qq r) = held-good (cbeh qq) (cbeh-good qq) (beh r) (beh-good r)
+  pub cmp-good : (pp : Cmp) → CGood pp
+  cmp-good (pair p q) = pair-good p q (beh-good p) (beh-good q)
+  cmp-good (cseq pp qq) = cseq-good pp qq (cmp-good pp) (cmp-good qq)
+  cmp-good (calt pp qq) = calt-good pp qq (cmp-good pp) (cmp-good qq)
+  cmp-good (cpar pp qq) = cpar-good pp qq (cmp-good pp) (cmp-good qq)
+  cmp-good (held qq r) = held-good qq (cmp-good qq) r (beh-good r)
 
--- what is listed is what the rules allow
+-- What is listed is what the rules allow --------------------------------------------------------------------------------------
 
 pub ends-exact : (p : Std) (w : Closing) → T (ends p w) ↔ End p w
-unfolding ends
-ends-exact p w = (
-  λ h. subst (λ q. End q w) (term-of p) (beh-good p .ends-only w h),
-  λ h. beh-good p .ends-all w (subst (λ q. End q w) (sym (term-of p)) h),
-)
+ends-exact p w = (beh-good p .ends-only w, beh-good p .ends-all w)
 
 pub steps-exact : (p : Std) (a : ℕ) (r : Std) → List·Memᴰ r (steps p a) ↔ Step p a r
-unfolding steps
-steps-exact p a r = (
-  λ h. subst (λ q. Step q a r) (term-of p) (beh-good p .steps-only a r h),
-  λ h. beh-good p .steps-all a r (subst (λ q. Step q a r) (sym (term-of p)) h),
-)
+steps-exact p a r = (beh-good p .steps-only a r, beh-good p .steps-all a r)
 
 pub csteps-exact : (pp : Cmp) (a : ℕ) (r : Cmp) → List·Memᴰ r (csteps pp a) ↔ CStep pp a r
-unfolding csteps
-csteps-exact pp a r = (
-  λ h. subst (λ q. CStep q a r) (cterm-of pp) (cbeh-good pp .csteps-only a r h),
-  λ h. cbeh-good pp .csteps-all a r (subst (λ q. CStep q a r) (sym (cterm-of pp)) h),
-)
+csteps-exact pp a r = (cmp-good pp .csteps-only a r, cmp-good pp .csteps-all a r)
 
 pub comps-exact : (pp : Cmp) (w : Closing) (k : Std) → List·Memᴰ k (comps pp w) ↔ CEnd pp w k
 unfolding comps
 comps-exact pp w k = (
-  λ h. let f = Memᴰ·of-map (λ (x : Beh). x .term) ((cbeh pp) .comps w) h in
-      let g : CEnd ((cbeh pp) .cterm) w k = subst (λ z. CEnd ((cbeh pp) .cterm) w z) (f .2) (cbeh-good pp .comps-only w (f .0) (f .1)) in
-      subst (λ q. CEnd q w k) (cterm-of pp) g,
-  λ h. let f = cbeh-good pp .comps-all w k (subst (λ q. CEnd q w k) (sym (cterm-of pp)) h) in
-      subst (λ z. List·Memᴰ z (map (λ (x : Beh). x .term) ((cbeh pp) .comps w))) (f .2) (Memᴰ·map (λ (x : Beh). x .term) (f .1)),
+  map-by (λ (x : Beh). x .term) (CEnd pp w) (left-by pp w) (λ x m. cmp-good pp .left-only w x m .1) k,
+  λ h. let f = cmp-good pp .left-all w k h in subst (λ z. List·Memᴰ z (map (λ (x : Beh). x .term) (left-by pp w))) (f .2) (Memᴰ·map (λ (x : Beh). x .term) (f .1)),
 )

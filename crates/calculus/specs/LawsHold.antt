@@ -2,12 +2,14 @@
 -- then each law (`same-traces`, `csame-traces`). Assumes nothing.
 use Prim.Native.Nat.{ℕ}
 use mathlib.Core.Path.{_≡_, refl, sym, _∙_, ap, subst}
-use mathlib.Core.Logic.{_⊎_, inl, inr, _↔_}
+use mathlib.Core.Logic.{_≢_, _⊎_, inl, inr, _↔_}
+use mathlib.Core.Bool.{Bool, true, false, cond}
 use mathlib.Core.List.{List, [], _∷_, _++_, append-assoc, append-nil}
-use Rattle.calculus.specs.Term.{Closing, done, withdrawn, failed, Leaf, Std, Cmp, skip, ev, seq, blk, pair, cseq, join, skipp, throww, yieldd}
-use Rattle.calculus.specs.Traces.{Trace, tr, CTrace, ct, onto, thenT, catchT, pairT, cthenT, Mix, mix-none, mix-left, mix-right, ParT, mixed, CParT, both, BlkT, undone, closed, lift, by, Tr, CTr}
-use Rattle.calculus.specs.RunsAreTraces.{some, csome}
-use Rattle.calculus.specs.Laws.{Same, CSame, same, flip, then, in-seq, in-alt, in-par, in-hnd, in-blk, seq-assoc, seq-unit-left, seq-unit-right, seq-throw, alt-comm, alt-assoc, alt-self, par-comm, par-assoc, par-unit, seq-alt-left, seq-alt-right, par-alt-left, par-alt-right, hnd-assoc, hnd-throw-right, hnd-throw-left, hnd-skip, blk-skipp, blk-throww, blk-yieldd, blk-calt, blk-throws, csame, cflip, cthen, in-pair, in-cseq, in-calt, in-cpar, cseq-assoc, cseq-unit-left, cseq-unit-right, cseq-throw, calt-comm, calt-assoc, calt-self, cpar-comm, cpar-assoc, cpar-unit, cseq-alt-left, cseq-alt-right, cpar-alt-left, cpar-alt-right}
+use Rattle.calculus.specs.Term.{Closing, done, withdrawn, failed, eqc, Leaf, Std, Cmp, skip, throw, ev, seq, alt, par, blk, pair, cseq, calt, cpar, join, skipp, throww, yieldd}
+use Rattle.calculus.specs.Traces.{Trace, tr, CTrace, ct, onto, onT, pairT, cthenT, Mix, mix-none, mix-left, mix-right, ParT, mixed, CParT, both, BlkT, undone, closed, lift, by, Tr, CTr}
+use Rattle.calculus.specs.Members.{other, Is, it, other-one, is, cond-other}
+use Rattle.calculus.specs.RunsAreTraces.{some, csome, cthen-stop}
+use Rattle.calculus.specs.Laws.{Law, Same, CSame, seq-assoc, seq-unit-left, seq-unit-right, seq-throw, alt-comm, alt-assoc, alt-self, par-comm, par-assoc, par-unit, seq-alt-left, seq-alt-right, par-alt-left, par-alt-right, same, flip, then, in-seq, in-alt, in-par, in-hnd, in-blk, law, hnd-assoc, hnd-throw-right, hnd-throw-left, hnd-skip, blk-skipp, blk-throww, blk-yieldd, blk-calt, blk-throws, csame, cflip, cthen, in-pair, in-cseq, in-calt, in-cpar, claw}
 
 -- what two sets put together do, whatever puts them together
 
@@ -101,45 +103,43 @@ module _ {A : Type 0} (R : A → A → A → Type 0) (comm : (x y z : A) → R x
 onto-onto : (s t : List ℕ) (y : Trace) → onto (s ++ t) y ≡ onto s (onto t y)
 onto-onto s t (tr r u) = ap (λ l. tr l u) (append-assoc s t r)
 
-onto-then : (s : List ℕ) (y z : Trace) → thenT (onto s y) z ≡ onto s (thenT y z)
-onto-then s (tr t done) z = onto-onto s t z
-onto-then s (tr t withdrawn) z = refl
-onto-then s (tr t failed) z = refl
+onto-on : (u : Closing) (s : List ℕ) (y z : Trace) → onT u (onto s y) z ≡ onto s (onT u y z)
+onto-on u s (tr t v) z = by (eqc v u)
+  where
+    by : (b : Bool) → cond b (onto (s ++ t) z) (tr (s ++ t) v) ≡ onto s (cond b (onto t z) (tr t v))
+    by true = onto-onto s t z
+    by false = refl
 
-then-assoc : (x y z : Trace) → thenT (thenT x y) z ≡ thenT x (thenT y z)
-then-assoc (tr s done) y z = onto-then s y z
-then-assoc (tr s withdrawn) y z = refl
-then-assoc (tr s failed) y z = refl
-
-onto-catch : (s : List ℕ) (y z : Trace) → catchT (onto s y) z ≡ onto s (catchT y z)
-onto-catch s (tr t failed) z = onto-onto s t z
-onto-catch s (tr t withdrawn) z = refl
-onto-catch s (tr t done) z = refl
-
-catch-assoc : (x y z : Trace) → catchT (catchT x y) z ≡ catchT x (catchT y z)
-catch-assoc (tr s failed) y z = onto-catch s y z
-catch-assoc (tr s withdrawn) y z = refl
-catch-assoc (tr s done) y z = refl
+on-assoc : (u : Closing) (x y z : Trace) → onT u (onT u x y) z ≡ onT u x (onT u y z)
+on-assoc u (tr s w) y z = by (is w u)
+  where
+    by : {b : Bool} → Is w u b → onT u (cond b (onto s y) (tr s w)) z ≡ cond b (onto s (onT u y z)) (tr s w)
+    by (it e) = onto-on u s y z
+    by (other-one n) = cond-other (onto s z) (tr s w) n
 
 onto-none : (z : Trace) → onto [] z ≡ z
 onto-none (tr s w) = refl
 
-then-none : (x : Trace) → thenT x (tr [] done) ≡ x
-then-none (tr s done) = ap (λ l. tr l done) (append-nil s)
-then-none (tr s withdrawn) = refl
-then-none (tr s failed) = refl
+on-none : (u : Closing) (x : Trace) → onT u x (tr [] u) ≡ x
+on-none u (tr s w) = by (is w u)
+  where
+    by : {b : Bool} → Is w u b → cond b (tr (s ++ []) u) (tr s w) ≡ tr s w
+    by (it e) = λ i. tr (append-nil s i) (sym e i)
+    by (other-one n) = refl
 
-catch-none : (x : Trace) → catchT x (tr [] failed) ≡ x
-catch-none (tr s failed) = ap (λ l. tr l failed) (append-nil s)
-catch-none (tr s withdrawn) = refl
-catch-none (tr s done) = refl
+-- after a forward trace that stops, what would follow is not entered
+cthen-stays : {w : Closing} → w ≢ done → (s : List ℕ) (x : Trace) (y : CTrace) → cthenT (ct (tr s w) x) y ≡ ct (tr s w) x
+cthen-stays {w} n s x y = sym (cthen-stop s w x y n)
+
+stopped : {w : Closing} → w ≢ done → (s : List ℕ) (x : Trace) (y z : CTrace) → cthenT (cthenT (ct (tr s w) x) y) z ≡ cthenT (ct (tr s w) x) (cthenT y z)
+stopped n s x y z = ap (λ c. cthenT c z) (cthen-stays n s x y) ∙ cthen-stays n s x z ∙ sym (cthen-stays n s x (cthenT y z))
 
 cthen-assoc : (x y z : CTrace) → cthenT (cthenT x y) z ≡ cthenT x (cthenT y z)
-cthen-assoc (ct (tr s done) x) (ct (tr t done) y) (ct z w) = λ i. ct (onto-onto s t z i) (sym (then-assoc w y x) i)
-cthen-assoc (ct (tr s done) x) (ct (tr t withdrawn) y) z = refl
-cthen-assoc (ct (tr s done) x) (ct (tr t failed) y) z = refl
-cthen-assoc (ct (tr s withdrawn) x) y z = refl
-cthen-assoc (ct (tr s failed) x) y z = refl
+cthen-assoc (ct (tr s done) x) (ct (tr t done) y) (ct z w) = λ i. ct (onto-onto s t z i) (sym (on-assoc done w y x) i)
+cthen-assoc (ct (tr s done) x) (ct (tr t withdrawn) y) (ct z w) = refl
+cthen-assoc (ct (tr s done) x) (ct (tr t failed) y) (ct z w) = refl
+cthen-assoc (ct (tr s withdrawn) x) y z = stopped (other withdrawn done tt) s x y z
+cthen-assoc (ct (tr s failed) x) y z = stopped (other failed done tt) s x y z
 
 join-comm : (w v : Closing) → join w v ≡ join v w
 join-comm done done = refl
@@ -210,7 +210,7 @@ cpar-unit-in : (y : CTrace) → CParT (ct (tr [] done) (tr [] done)) y y
 cpar-unit-in (ct x y) = both (par-unit-in x) (par-unit-in y)
 
 cthen-unit-left : (x : CTrace) → cthenT (ct (tr [] done) (tr [] done)) x ≡ x
-cthen-unit-left (ct x y) = λ i. ct (onto-none x i) (then-none y i)
+cthen-unit-left (ct x y) = λ i. ct (onto-none x i) (on-none done y i)
 
 cthen-unit-right : (x : CTrace) → cthenT x (ct (tr [] done) (tr [] done)) ≡ x
 cthen-unit-right (ct (tr s done) x) = λ i. ct (tr (append-nil s i) done) (onto-none x i)
@@ -237,6 +237,12 @@ iff-then f g = (λ x. g .0 (f .0 x), λ x. f .1 (g .1 x))
 
 iff-self : {P : Type 0} → P ↔ P
 iff-self = (λ x. x, λ x. x)
+
+iff-back : {P Q : Type 0} → P ↔ Q → Q ↔ P
+iff-back f = (f .1, f .0)
+
+sum-iff : {P P′ Q Q′ : Type 0} → P ↔ P′ → Q ↔ Q′ → (P ⊎ Q) ↔ (P′ ⊎ Q′)
+sum-iff f g = (sum-map (f .0) (g .0), sum-map (f .1) (g .1))
 
 blk-of : (e : CTrace) (z : Trace) (Z : Type 0) → (BlkT e z ↔ Z) → (P : CTrace → Type 0) → ((x : CTrace) → P x ↔ (x ≡ e)) → ((x : CTrace) × P x × BlkT x z) ↔ Z
 blk-of e z Z b P f = (λ t. b .0 (subst (λ x. BlkT x z) (f (t .0) .0 (t .1)) (t .2)), λ h. (e, f e .1 refl, b .1 h))
@@ -298,43 +304,116 @@ throws-traces l q z = (one, two)
         let a : ℕ = e .0 in (
           ct (tr (a ∷ []) failed) (onto [] (t .1)),
           (ct (tr (a ∷ []) done) (t .1), throw-pair, (tr (a ∷ []) done, t .1, (a, e .1, refl), t .3, refl), (tr [] failed, tr [] done, refl, refl, refl), refl),
-          undone (t .4 ∙ ap (λ x. thenT x (t .1)) (e .2) ∙ sym (ap (onto (a ∷ [])) (onto-none (t .1)))),
+          undone (t .4 ∙ ap (λ x. onT done x (t .1)) (e .2) ∙ sym (ap (onto (a ∷ [])) (onto-none (t .1)))),
         )
+
+-- The laws that both sorts have, once: how a set of traces is made of the parts' sets (`.. -in`), and what the laws need of single traces
+record Meaning {P Z : Type 0} (skip throw : P) (seq alt par : P → P → P) (In : P → Z → Type 0) (f : Z → Z → Z) (R : Z → Z → Z → Type 0) (none stop : Z) : Type 0 where
+  skip-in : (z : Z) → In skip z ↔ (z ≡ none)
+  throw-in : (z : Z) → In throw z ↔ (z ≡ stop)
+  seq-in : (p q : P) (z : Z) → In (seq p q) z ↔ lift (by f) (In p) (In q) z
+  alt-in : (p q : P) (z : Z) → In (alt p q) z ↔ (In p z ⊎ In q z)
+  par-in : (p q : P) (z : Z) → In (par p q) z ↔ lift R (In p) (In q) z
+  some-in : (p : P) → (z : Z) × In p z
+  seq-assoc : (x y z : Z) → f (f x y) z ≡ f x (f y z)
+  seq-left : (x : Z) → f none x ≡ x
+  seq-right : (x : Z) → f x none ≡ x
+  seq-stop : (x : Z) → f stop x ≡ stop
+  par-comm : {x y z : Z} → R x y z → R y x z
+  par-assoc : {x y w u z : Z} → R x y u → R u w z → (v : Z) × R y w v × R x v z
+  par-none : {y z : Z} → R none y z → z ≡ y
+  par-none-in : (y : Z) → R none y y
+
+module _ {P Z : Type 0} {skip throw : P} {seq alt par : P → P → P} {In : P → Z → Type 0} {f : Z → Z → Z} {R : Z → Z → Z → Type 0} {none stop : Z} (m : Meaning skip throw seq alt par In f R none stop) where
+  self : (p : P) (z : Z) → In p z ↔ In p z
+  self p z = iff-self
+
+  either : {p q : P} {S U : Type 0} {z : Z} → In p z ↔ S → In q z ↔ U → In (alt p q) z ↔ (S ⊎ U)
+  either {p} {q} {z = z} g h = iff-then (m .alt-in p q z) (sum-iff g h)
+
+  module _ {op : P → P → P} {S : Z → Z → Z → Type 0} (op-in : (p q : P) (z : Z) → In (op p q) z ↔ lift S (In p) (In q) z) where
+    made : {p q : P} {T U : Z → Type 0} → ((x : Z) → In p x ↔ T x) → ((y : Z) → In q y ↔ U y) → (z : Z) → In (op p q) z ↔ lift S T U z
+    made {p} {q} g h z = iff-then (op-in p q z) (lift-cong S g h z)
+
+    over-left : (p q r : P) (z : Z) → In (op (alt p q) r) z ↔ In (alt (op p r) (op q r)) z
+    over-left p q r z = iff-then (made (m .alt-in p q) (self r) z) (iff-then (lift-alt-left S (In p) (In q) (In r) z) (iff-back (either (op-in p r z) (op-in q r z))))
+
+    over-right : (p q r : P) (z : Z) → In (op p (alt q r)) z ↔ In (alt (op p q) (op p r)) z
+    over-right p q r z = iff-then (made (self p) (m .alt-in q r) z) (iff-then (lift-alt-right S (In p) (In q) (In r) z) (iff-back (either (op-in p q z) (op-in p r z))))
+
+  law-traces : {p q : P} → Law skip throw seq alt par p q → (z : Z) → In p z ↔ In q z
+  law-traces (seq-assoc {p} {q} {r}) z = iff-then (made (m .seq-in) (m .seq-in p q) (self r) z) (iff-then (lift-assoc f (m .seq-assoc) (In p) (In q) (In r) z) (iff-back (made (m .seq-in) (self p) (m .seq-in q r) z)))
+  law-traces (seq-unit-left {p}) z = iff-then (made (m .seq-in) (m .skip-in) (self p) z) (lift-unit-left f (In p) z none (m .seq-left))
+  law-traces (seq-unit-right {p}) z = iff-then (made (m .seq-in) (self p) (m .skip-in) z) (lift-unit-right f (In p) z none (m .seq-right))
+  law-traces (seq-throw {p}) z = let x = m .some-in p in iff-then (made (m .seq-in) (m .throw-in) (self p) z) (iff-then (lift-zero f (In p) z stop (m .seq-stop) (x .0) (x .1)) (iff-back (m .throw-in z)))
+  law-traces (alt-comm {p} {q}) z = iff-then (m .alt-in p q z) (iff-then (sum-swap, sum-swap) (iff-back (m .alt-in q p z)))
+  law-traces (alt-assoc {p} {q} {r}) z = iff-then (either (m .alt-in p q z) iff-self) (iff-then (sum-right, sum-left) (iff-back (either iff-self (m .alt-in q r z))))
+  law-traces (alt-self {p}) z = iff-then (m .alt-in p p z) (sum-self, inl)
+  law-traces (par-comm {p} {q}) z = iff-then (m .par-in p q z) (iff-then (lift-comm R (λ x y z. m .par-comm) (In p) (In q) z, lift-comm R (λ x y z. m .par-comm) (In q) (In p) z) (iff-back (m .par-in q p z)))
+  law-traces (par-assoc {p} {q} {r}) z =
+      let right = lift-rassoc R (λ x y z. m .par-comm) (λ x y w u z. m .par-assoc) (In p) (In q) (In r) z in
+      let left = lift-lassoc R (λ x y z. m .par-comm) (λ x y w u z. m .par-assoc) (In p) (In q) (In r) z in
+      iff-then (made (m .par-in) (m .par-in p q) (self r) z) (iff-then (right, left) (iff-back (made (m .par-in) (self p) (m .par-in q r) z)))
+  law-traces (par-unit {p}) z = iff-then (made (m .par-in) (m .skip-in) (self p) z) (
+    λ t. subst (In p) (sym (m .par-none (subst (λ x. R x (t .1) z) (t .2) (t .4)))) (t .3),
+    λ h. (none, z, refl, h, m .par-none-in z),
+  )
+  law-traces (seq-alt-left {p} {q} {r}) z = over-left (m .seq-in) p q r z
+  law-traces (seq-alt-right {p} {q} {r}) z = over-right (m .seq-in) p q r z
+  law-traces (par-alt-left {p} {q} {r}) z = over-left (m .par-in) p q r z
+  law-traces (par-alt-right {p} {q} {r}) z = over-right (m .par-in) p q r z
+
+std-meaning : Meaning skip throw seq alt par Tr (onT done) ParT (tr [] done) (tr [] failed)
+std-meaning = record {
+  skip-in = λ z. iff-self;
+  throw-in = λ z. iff-self;
+  seq-in = λ p q z. iff-self;
+  alt-in = λ p q z. iff-self;
+  par-in = λ p q z. iff-self;
+  some-in = λ p. let x = some p in (x .0, x .1);
+  seq-assoc = on-assoc done;
+  seq-left = onto-none;
+  seq-right = on-none done;
+  seq-stop = λ x. refl;
+  par-comm = par-comm-traces;
+  par-assoc = par-assoc-traces;
+  par-none = par-unit-traces;
+  par-none-in = par-unit-in;
+}
+
+cmp-meaning : Meaning skipp throww cseq calt cpar CTr cthenT CParT skip-pair throw-pair
+cmp-meaning = record {
+  skip-in = pair-of (tr [] done) (tr [] done);
+  throw-in = pair-of (tr [] failed) (tr [] done);
+  seq-in = λ p q z. iff-self;
+  alt-in = λ p q z. iff-self;
+  par-in = λ p q z. iff-self;
+  some-in = λ p. let x = csome p in (x .0, x .1);
+  seq-assoc = cthen-assoc;
+  seq-left = cthen-unit-left;
+  seq-right = cthen-unit-right;
+  seq-stop = cthen-stays (other failed done tt) [] (tr [] done);
+  par-comm = cpar-comm-traces;
+  par-assoc = cpar-assoc-traces;
+  par-none = cpar-unit-traces;
+  par-none-in = cpar-unit-in;
+}
 
 mutual
   pub same-traces : {p q : Std} → Same p q → (z : Trace) → Tr p z ↔ Tr q z
   same-traces same z = iff-self
-  same-traces (flip h) z = let k = same-traces h z in (k .1, k .0)
+  same-traces (flip h) z = iff-back (same-traces h z)
   same-traces (then h k) z = iff-then (same-traces h z) (same-traces k z)
-  same-traces (in-seq h k) z = lift-cong (by thenT) (λ x. same-traces h x) (λ y. same-traces k y) z
-  same-traces (in-alt h k) z = let a = same-traces h z in let b = same-traces k z in (sum-map (a .0) (b .0), sum-map (a .1) (b .1))
+  same-traces (in-seq h k) z = lift-cong (by (onT done)) (λ x. same-traces h x) (λ y. same-traces k y) z
+  same-traces (in-alt h k) z = sum-iff (same-traces h z) (same-traces k z)
   same-traces (in-par h k) z = lift-cong ParT (λ x. same-traces h x) (λ y. same-traces k y) z
-  same-traces (in-hnd h k) z = lift-cong (by catchT) (λ x. same-traces h x) (λ y. same-traces k y) z
+  same-traces (in-hnd h k) z = lift-cong (by (onT failed)) (λ x. same-traces h x) (λ y. same-traces k y) z
   same-traces (in-blk h) z = (λ t. (t .0, csame-traces h (t .0) .0 (t .1), t .2), λ t. (t .0, csame-traces h (t .0) .1 (t .1), t .2))
-  same-traces (seq-assoc {p} {q} {r}) z = lift-assoc thenT then-assoc (Tr p) (Tr q) (Tr r) z
-  same-traces (seq-unit-left {p}) z = lift-unit-left thenT (Tr p) z (tr [] done) onto-none
-  same-traces (seq-unit-right {p}) z = lift-unit-right thenT (Tr p) z (tr [] done) then-none
-  same-traces (seq-throw {p}) z = let x = some p in lift-zero thenT (Tr p) z (tr [] failed) (λ x. refl) (x .0) (x .1)
-  same-traces alt-comm z = (sum-swap, sum-swap)
-  same-traces alt-assoc z = (sum-right, sum-left)
-  same-traces alt-self z = (sum-self, inl)
-  same-traces (par-comm {p} {q}) z = (lift-comm ParT (λ x y z. par-comm-traces) (Tr p) (Tr q) z, lift-comm ParT (λ x y z. par-comm-traces) (Tr q) (Tr p) z)
-  same-traces (par-assoc {p} {q} {r}) z = (
-    lift-rassoc ParT (λ x y z. par-comm-traces) (λ x y w u z. par-assoc-traces) (Tr p) (Tr q) (Tr r) z,
-    lift-lassoc ParT (λ x y z. par-comm-traces) (λ x y w u z. par-assoc-traces) (Tr p) (Tr q) (Tr r) z,
-  )
-  same-traces (par-unit {p}) z = (
-    λ t. subst (Tr p) (sym (par-unit-traces (subst (λ x. ParT x (t .1) z) (t .2) (t .4)))) (t .3),
-    λ h. (tr [] done, z, refl, h, par-unit-in z),
-  )
-  same-traces (seq-alt-left {p} {q} {r}) z = lift-alt-left (by thenT) (Tr p) (Tr q) (Tr r) z
-  same-traces (seq-alt-right {p} {q} {r}) z = lift-alt-right (by thenT) (Tr p) (Tr q) (Tr r) z
-  same-traces (par-alt-left {p} {q} {r}) z = lift-alt-left ParT (Tr p) (Tr q) (Tr r) z
-  same-traces (par-alt-right {p} {q} {r}) z = lift-alt-right ParT (Tr p) (Tr q) (Tr r) z
-  same-traces (hnd-assoc {p} {q} {r}) z = lift-assoc catchT catch-assoc (Tr p) (Tr q) (Tr r) z
-  same-traces (hnd-throw-right {p}) z = lift-unit-right catchT (Tr p) z (tr [] failed) catch-none
-  same-traces (hnd-throw-left {p}) z = lift-unit-left catchT (Tr p) z (tr [] failed) onto-none
-  same-traces (hnd-skip {p}) z = let x = some p in lift-zero catchT (Tr p) z (tr [] done) (λ x. refl) (x .0) (x .1)
+  same-traces (law h) z = law-traces std-meaning h z
+  same-traces (hnd-assoc {p} {q} {r}) z = lift-assoc (onT failed) (on-assoc failed) (Tr p) (Tr q) (Tr r) z
+  same-traces (hnd-throw-right {p}) z = lift-unit-right (onT failed) (Tr p) z (tr [] failed) (on-none failed)
+  same-traces (hnd-throw-left {p}) z = lift-unit-left (onT failed) (Tr p) z (tr [] failed) onto-none
+  same-traces (hnd-skip {p}) z = let x = some p in lift-zero (onT failed) (Tr p) z (tr [] done) (λ x. refl) (x .0) (x .1)
   same-traces blk-skipp z = blk-of skip-pair z (z ≡ tr [] done) (blk-done (tr [] done) z) (CTr skipp) (pair-of (tr [] done) (tr [] done))
   same-traces blk-throww z = blk-of throw-pair z (z ≡ tr [] done) (blk-failed [] (tr [] done) z) (CTr throww) (pair-of (tr [] failed) (tr [] done))
   same-traces blk-yieldd z = yieldd-traces z
@@ -343,34 +422,10 @@ mutual
 
   pub csame-traces : {p q : Cmp} → CSame p q → (z : CTrace) → CTr p z ↔ CTr q z
   csame-traces csame z = iff-self
-  csame-traces (cflip h) z = let k = csame-traces h z in (k .1, k .0)
+  csame-traces (cflip h) z = iff-back (csame-traces h z)
   csame-traces (cthen h k) z = iff-then (csame-traces h z) (csame-traces k z)
   csame-traces (in-pair h k) z = lift-cong (by pairT) (λ x. same-traces h x) (λ y. same-traces k y) z
   csame-traces (in-cseq h k) z = lift-cong (by cthenT) (λ x. csame-traces h x) (λ y. csame-traces k y) z
-  csame-traces (in-calt h k) z = let a = csame-traces h z in let b = csame-traces k z in (sum-map (a .0) (b .0), sum-map (a .1) (b .1))
+  csame-traces (in-calt h k) z = sum-iff (csame-traces h z) (csame-traces k z)
   csame-traces (in-cpar h k) z = lift-cong CParT (λ x. csame-traces h x) (λ y. csame-traces k y) z
-  csame-traces (cseq-assoc {p} {q} {r}) z = lift-assoc cthenT cthen-assoc (CTr p) (CTr q) (CTr r) z
-  csame-traces (cseq-unit-left {p}) z =
-      iff-then (lift-cong (by cthenT) (pair-of (tr [] done) (tr [] done)) (λ y. iff-self) z) (lift-unit-left cthenT (CTr p) z skip-pair cthen-unit-left)
-  csame-traces (cseq-unit-right {p}) z =
-      iff-then (lift-cong (by cthenT) (λ y. iff-self) (pair-of (tr [] done) (tr [] done)) z) (lift-unit-right cthenT (CTr p) z skip-pair cthen-unit-right)
-  csame-traces (cseq-throw {p}) z =
-      let x = csome p in
-      let f = pair-of (tr [] failed) (tr [] done) z in
-      iff-then (iff-then (lift-cong (by cthenT) (pair-of (tr [] failed) (tr [] done)) (λ y. iff-self) z) (lift-zero cthenT (CTr p) z throw-pair (λ x. refl) (x .0) (x .1))) (f .1, f .0)
-  csame-traces calt-comm z = (sum-swap, sum-swap)
-  csame-traces calt-assoc z = (sum-right, sum-left)
-  csame-traces calt-self z = (sum-self, inl)
-  csame-traces (cpar-comm {p} {q}) z = (lift-comm CParT (λ x y z. cpar-comm-traces) (CTr p) (CTr q) z, lift-comm CParT (λ x y z. cpar-comm-traces) (CTr q) (CTr p) z)
-  csame-traces (cpar-assoc {p} {q} {r}) z = (
-    lift-rassoc CParT (λ x y z. cpar-comm-traces) (λ x y w u z. cpar-assoc-traces) (CTr p) (CTr q) (CTr r) z,
-    lift-lassoc CParT (λ x y z. cpar-comm-traces) (λ x y w u z. cpar-assoc-traces) (CTr p) (CTr q) (CTr r) z,
-  )
-  csame-traces (cpar-unit {p}) z = (
-    λ t. subst (CTr p) (sym (cpar-unit-traces (subst (λ x. CParT x (t .1) z) (pair-of (tr [] done) (tr [] done) (t .0) .0 (t .2)) (t .4)))) (t .3),
-    λ h. (skip-pair, z, pair-of (tr [] done) (tr [] done) skip-pair .1 refl, h, cpar-unit-in z),
-  )
-  csame-traces (cseq-alt-left {p} {q} {r}) z = lift-alt-left (by cthenT) (CTr p) (CTr q) (CTr r) z
-  csame-traces (cseq-alt-right {p} {q} {r}) z = lift-alt-right (by cthenT) (CTr p) (CTr q) (CTr r) z
-  csame-traces (cpar-alt-left {p} {q} {r}) z = lift-alt-left CParT (CTr p) (CTr q) (CTr r) z
-  csame-traces (cpar-alt-right {p} {q} {r}) z = lift-alt-right CParT (CTr p) (CTr q) (CTr r) z
+  csame-traces (claw h) z = law-traces cmp-meaning h z

@@ -10,6 +10,7 @@ pub mod Entered
 -- Theorems.
 pub mod Equations
 pub mod Members
+pub mod Onward
 pub mod Exact
 pub mod RunsAreTraces
 pub mod EnteredTraces
@@ -18,3 +19,4 @@ pub mod Found
 pub mod Redrawn
 pub mod Budget
 pub mod JudgedByHand
+pub mod RuledOut

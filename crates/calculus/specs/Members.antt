@@ -1,11 +1,11 @@
--- Membership in the lists that the successor functions build, and truth of their tests.
+-- Membership in the lists that the successor functions build, and truth of their tests. Assumes nothing.
 use mathlib.Core.Path.{_≡_, refl, subst}
 use mathlib.Core.Logic.{_≢_, _⊎_, inl, inr}
-use mathlib.Core.Bool.{Bool, true, false, not, _&&_, _||_}
+use mathlib.Core.Bool.{Bool, true, false, cond, not, _&&_, _||_}
 use lib.Dec.{T}
-use mathlib.Core.List.{List, [], _∷_, List·Memᴰ, List·Memᴰ·head, List·Memᴰ·tail, List·Memᴰ·not-nil, List·Memᴰ·append-cases, Memᴰ·append-left, Memᴰ·append-right}
-use Rattle.calculus.specs.Term.{Closing, done, withdrawn, failed}
-use Rattle.calculus.specs.Successors.{eqc, closings, only, some-of, each, any-at-all}
+use mathlib.Core.List.{List, [], _∷_, _++_, map, List·Memᴰ, List·Memᴰ·head, List·Memᴰ·tail, List·Memᴰ·not-nil, List·Memᴰ·append-cases, Memᴰ·append-left, Memᴰ·append-right, Memᴰ·of-map}
+use Rattle.calculus.specs.Term.{Closing, done, withdrawn, failed, eqc}
+use Rattle.calculus.specs.Successors.{closings, only, some-of, each, any-at-all}
 
 pub or-in-left : (a b : Bool) → T a → T (a || b)
 or-in-left true b h = tt
@@ -32,15 +32,9 @@ and-right true b h = h
 and-right false b h = absurd h
 
 pub same : (u v : Closing) → T (eqc u v) → u ≡ v
-same done done h = refl
-same withdrawn withdrawn h = refl
-same failed failed h = refl
-same done withdrawn h = absurd h
-same done failed h = absurd h
-same withdrawn done h = absurd h
-same withdrawn failed h = absurd h
-same failed done h = absurd h
-same failed withdrawn h = absurd h
+same done = elim [ done ↦ λ h. refl | withdrawn ↦ λ h. absurd h | failed ↦ λ h. absurd h ]
+same withdrawn = elim [ done ↦ λ h. absurd h | withdrawn ↦ λ h. refl | failed ↦ λ h. absurd h ]
+same failed = elim [ done ↦ λ h. absurd h | withdrawn ↦ λ h. absurd h | failed ↦ λ h. refl ]
 
 pub same-in : (u v : Closing) → u ≡ v → T (eqc u v)
 same-in u v e = subst (λ x. T (eqc u x)) e (refl-in u)
@@ -63,6 +57,30 @@ other-in u v h = by (eqc u v) (λ g. h (same u v g))
     by : (b : Bool) → (T b → ⊥) → T (not b)
     by true k = k tt
     by false k = tt
+
+-- the two outcomes of comparing closings
+pub data Is (w u : Closing) : Bool → Type 0 where
+  it : w ≡ u → Is w u true
+  other-one : w ≢ u → Is w u false
+
+pub is : (w u : Closing) → Is w u (eqc w u)
+is w u = by (eqc w u) (same w u) (other w u)
+  where
+    by : (b : Bool) → (T b → w ≡ u) → (T (not b) → w ≢ u) → Is w u b
+    by true f g = it (f tt)
+    by false f g = other-one (g tt)
+
+module _ {A : Type 0} where
+  pub cond-other : {w u : Closing} (x y : A) → w ≢ u → cond (eqc w u) x y ≡ y
+  cond-other {w} {u} x y n = by (is w u)
+    where
+      by : {b : Bool} → Is w u b → cond b x y ≡ y
+      by (it e) = absurd (n e)
+      by (other-one k) = refl
+
+  pub cond-both : (P : A → Type 0) (b : Bool) (x y : A) → P x → P y → P (cond b x y)
+  cond-both P true x y f g = f
+  cond-both P false x y f g = g
 
 pub in-closings : (w : Closing) → List·Memᴰ w closings
 in-closings done = List·Memᴰ·head refl
@@ -118,3 +136,10 @@ module _ {A B : Type 0} where
       step : (List·Memᴰ y (each xs f) → (z : A) × List·Memᴰ z xs × List·Memᴰ y (f z)) → List·Memᴰ y (f x) ⊎ List·Memᴰ y (each xs f) → (z : A) × List·Memᴰ z (x ∷ xs) × List·Memᴰ y (f z)
       step below (inl g) = (x, List·Memᴰ·head refl, g)
       step below (inr g) = let r = below g in (r .0, List·Memᴰ·tail (r .1), r .2)
+
+  pub map-by : (f : A → B) (P : B → Type 0) (xs : List A) → ((x : A) → List·Memᴰ x xs → P (f x)) → (y : B) → List·Memᴰ y (map f xs) → P y
+  map-by f P xs h y m = let e = Memᴰ·of-map f xs m in subst P (e .2) (h (e .0) (e .1))
+
+-- what holds of each of two lists holds of both together
+pub append-by : {A P : Type 0} {x : A} (xs : List A) {ys : List A} → (List·Memᴰ x xs → P) → (List·Memᴰ x ys → P) → List·Memᴰ x (xs ++ ys) → P
+append-by xs f g m = elim (List·Memᴰ·append-cases xs m) [ inl h ↦ f h | inr h ↦ g h ]

@@ -4,7 +4,7 @@
 -- run that closes done or failed (`has-firm-run`). Assumes nothing.
 use Prim.Native.Nat.{ℕ, suc}
 use mathlib.Core.Path.{_≡_, refl}
-use mathlib.Core.Logic.{_↔_}
+use mathlib.Core.Logic.{_≢_, _↔_}
 use mathlib.Core.Bool.{Bool, true, false}
 use mathlib.Core.List.{List, [], _∷_}
 use native.Mathlib.Omega.{arith}
@@ -43,13 +43,11 @@ pub data ClosesFirm : List Record → Type 0 where
   by-failed : ClosesFirm (close failed ∷ [])
   later : {r : Record} {rs : List Record} → ClosesFirm rs → ClosesFirm (r ∷ rs)
 
-firm-standard : (s : List ℕ) (w : Closing) → Firm (tr s w) → ClosesFirm (standard s w)
+firm-standard : (s : List ℕ) (w : Closing) → w ≢ withdrawn → ClosesFirm (standard s w)
 firm-standard [] done f = by-done
-firm-standard [] withdrawn f = absurd f
+firm-standard [] withdrawn f = absurd (f refl)
 firm-standard [] failed f = by-failed
-firm-standard (a ∷ s) done f = later (firm-standard s done f)
-firm-standard (a ∷ s) withdrawn f = absurd f
-firm-standard (a ∷ s) failed f = later (firm-standard s failed f)
+firm-standard (a ∷ s) w f = later (firm-standard s w f)
 
 firm-compensable : (s : List ℕ) (w : Closing) (t : List ℕ) (v : Closing) → Firm (tr t v) → ClosesFirm (compensable s w t v)
 firm-compensable [] w t v f = later (firm-standard t v f)

@@ -1,12 +1,15 @@
--- The runs of a term are its traces.
+-- The runs of a term are its traces: `runs-are-traces`, `cruns-are-traces`. Runs of the parts make runs of the whole; every term has a
+-- trace that ends done or failed (`some`, `csome`), to be drawn where a second part is not entered. Assumes nothing.
 use Prim.Native.Nat.{ℕ}
 use mathlib.Core.Path.{_≡_, refl, sym, _∙_, ap, subst}
 use mathlib.Core.Logic.{_≢_, inl, inr, _↔_}
+use mathlib.Core.Bool.{Bool, true, false, cond}
 use mathlib.Core.List.{List, [], _∷_, _++_}
-use Rattle.calculus.specs.Term.{Closing, done, withdrawn, failed, Std, Cmp, skip, throw, yield, ev, seq, alt, par, hnd, blk, pair, cseq, calt, cpar, held, join}
+use Rattle.calculus.specs.Term.{Closing, done, withdrawn, failed, eqc, Std, Cmp, skip, throw, yield, ev, seq, alt, par, hnd, blk, pair, cseq, calt, cpar, held, join}
 use Rattle.calculus.specs.Rules.{End, CEnd, Step, CStep, Run, closes, goes, Fwd, ccloses, cgoes, CRun, skip-ends, throw-ends, yield-ends, yield-yields, seq-on, seq-stops, hnd-on, hnd-stops, alt-left, alt-right, par-joins, blk-ends, blk-undoes, pair-ends, pair-stops, cseq-stops, cseq-on, held-ends, calt-left, calt-right, cpar-joins, ev-step, seq-first, seq-second, hnd-first, hnd-second, alt-first, alt-second, par-first, par-second, blk-first, blk-second, pair-step, cseq-first, cseq-second, held-step, calt-first, calt-second, cpar-first, cpar-second}
-use Rattle.calculus.specs.Members.{other}
-use Rattle.calculus.specs.Traces.{Trace, tr, CTrace, ct, onto, thenT, catchT, pairT, cthenT, heldT, Mix, mix-none, mix-left, mix-right, ParT, mixed, CParT, both, BlkT, undone, closed, Tr, CTr}
+use Rattle.calculus.specs.Members.{other, Is, it, other-one, is, cond-other, cond-both}
+use Rattle.calculus.specs.Onward.{Onward, seq-onward, hnd-onward}
+use Rattle.calculus.specs.Traces.{Trace, tr, CTrace, ct, onto, onT, pairT, cthenT, heldT, Mix, mix-none, mix-left, mix-right, ParT, mixed, CParT, both, BlkT, undone, closed, Tr, CTr}
 
 abbrev pub Runs : Std → Trace → Type 0
 Runs p (tr s w) = Run p s w
@@ -16,23 +19,15 @@ CRuns pp (ct (tr s w) y) = (k : Std) × Fwd pp s w k × Runs k y
 
 -- runs of the parts make runs of the whole
 
-run-seq : {p q : Std} {s t : List ℕ} {v : Closing} → Run p s done → Run q t v → Run (seq p q) (s ++ t) v
-run-seq (closes e) (closes f) = closes (seq-on e f)
-run-seq (closes e) (goes h r) = goes (seq-second e h) r
-run-seq (goes h r) k = goes (seq-first h) (run-seq r k)
+module _ {op : Std → Std → Std} {u : Closing} (o : Onward op u) where
+  run-on : {p q : Std} {s t : List ℕ} {v : Closing} → Run p s u → Run q t v → Run (op p q) (s ++ t) v
+  run-on (closes e) (closes f) = closes (o .on e f)
+  run-on (closes e) (goes h r) = goes (o .second e h) r
+  run-on (goes h r) k = goes (o .first h) (run-on r k)
 
-run-seq-stop : {p q : Std} {s : List ℕ} {w : Closing} → w ≢ done → Run p s w → Run (seq p q) s w
-run-seq-stop n (closes e) = closes (seq-stops e n)
-run-seq-stop n (goes h r) = goes (seq-first h) (run-seq-stop n r)
-
-run-hnd : {p q : Std} {s t : List ℕ} {v : Closing} → Run p s failed → Run q t v → Run (hnd p q) (s ++ t) v
-run-hnd (closes e) (closes f) = closes (hnd-on e f)
-run-hnd (closes e) (goes h r) = goes (hnd-second e h) r
-run-hnd (goes h r) k = goes (hnd-first h) (run-hnd r k)
-
-run-hnd-stop : {p q : Std} {s : List ℕ} {w : Closing} → w ≢ failed → Run p s w → Run (hnd p q) s w
-run-hnd-stop n (closes e) = closes (hnd-stops e n)
-run-hnd-stop n (goes h r) = goes (hnd-first h) (run-hnd-stop n r)
+  run-stop : {p q : Std} {s : List ℕ} {w : Closing} → w ≢ u → Run p s w → Run (op p q) s w
+  run-stop n (closes e) = closes (o .stops e n)
+  run-stop n (goes h r) = goes (o .first h) (run-stop n r)
 
 run-alt-left : {p q : Std} {s : List ℕ} {w : Closing} → Run p s w → Run (alt p q) s w
 run-alt-left (closes e) = closes (alt-left e)
@@ -92,15 +87,12 @@ fwd-par (mix-right m) r (cgoes h k) j = cgoes (cpar-second h) (fwd-par m r k j)
 
 -- the same over traces
 
-seq-runs : (p q : Std) (x y : Trace) → Runs p x → Runs q y → Runs (seq p q) (thenT x y)
-seq-runs p q (tr s done) (tr t v) r k = run-seq r k
-seq-runs p q (tr s withdrawn) y r k = run-seq-stop (other withdrawn done tt) r
-seq-runs p q (tr s failed) y r k = run-seq-stop (other failed done tt) r
-
-hnd-runs : (p q : Std) (x y : Trace) → Runs p x → Runs q y → Runs (hnd p q) (catchT x y)
-hnd-runs p q (tr s failed) (tr t v) r k = run-hnd r k
-hnd-runs p q (tr s withdrawn) y r k = run-hnd-stop (other withdrawn failed tt) r
-hnd-runs p q (tr s done) y r k = run-hnd-stop (other done failed tt) r
+on-runs : {op : Std → Std → Std} {u : Closing} → Onward op u → (p q : Std) (x y : Trace) → Runs p x → Runs q y → Runs (op p q) (onT u x y)
+on-runs {op} {u} o p q (tr s w) (tr t v) r k = by (is w u)
+  where
+    by : {b : Bool} → Is w u b → Runs (op p q) (cond b (tr (s ++ t) v) (tr s w))
+    by (it e) = run-on o (subst (Run p s) e r) k
+    by (other-one n) = run-stop o n r
 
 par-runs : (p q : Std) {x y z : Trace} → ParT x y z → Runs p x → Runs q y → Runs (par p q) z
 par-runs p q (mixed m e) r k = run-par m r k e
@@ -118,12 +110,12 @@ pair-runs p q (tr s withdrawn) y r k = (skip, fwd-pair-stop (other withdrawn don
 pair-runs p q (tr s failed) y r k = (skip, fwd-pair-stop (other failed done tt) r, closes skip-ends)
 
 cseq-runs : (pp qq : Cmp) (x y : CTrace) → CRuns pp x → CRuns qq y → CRuns (cseq pp qq) (cthenT x y)
-cseq-runs pp qq (ct (tr s done) x) (ct (tr t w) z) r k = (seq (k .0) (r .0), fwd-on (r .1) (k .1), seq-runs (k .0) (r .0) z x (k .2) (r .2))
-cseq-runs pp qq (ct (tr s withdrawn) x) y r k = (r .0, fwd-stop (other withdrawn done tt) (r .1), r .2)
-cseq-runs pp qq (ct (tr s failed) x) y r k = (r .0, fwd-stop (other failed done tt) (r .1), r .2)
+cseq-runs pp qq (ct (tr s done) x) (ct (tr t w) z) r k = (seq (k .0) (r .0), fwd-on (r .1) (k .1), on-runs seq-onward (k .0) (r .0) z x (k .2) (r .2))
+cseq-runs pp qq (ct (tr s withdrawn) x) (ct y z) r k = (r .0, fwd-stop (other withdrawn done tt) (r .1), r .2)
+cseq-runs pp qq (ct (tr s failed) x) (ct y z) r k = (r .0, fwd-stop (other failed done tt) (r .1), r .2)
 
 held-runs : (qq : Cmp) (p : Std) (y : CTrace) (x : Trace) → CRuns qq y → Runs p x → CRuns (held qq p) (heldT y x)
-held-runs qq p (ct (tr t w) z) x k r = (seq (k .0) p, fwd-held (k .1), seq-runs (k .0) p z x (k .2) r)
+held-runs qq p (ct (tr t w) z) x k r = (seq (k .0) p, fwd-held (k .1), on-runs seq-onward (k .0) p z x (k .2) r)
 
 calt-left-runs : (pp qq : Cmp) (z : CTrace) → CRuns pp z → CRuns (calt pp qq) z
 calt-left-runs pp qq (ct (tr s w) y) r = (r .0, fwd-alt-left (r .1), r .2)
@@ -147,11 +139,11 @@ mutual
   trace-runs yield z (inl e) = subst (Runs yield) (sym e) (closes yield-yields)
   trace-runs yield z (inr e) = subst (Runs yield) (sym e) (closes yield-ends)
   trace-runs (ev l) z t = subst (Runs (ev l)) (sym (t .2)) (goes (ev-step (t .1)) (closes skip-ends))
-  trace-runs (seq p q) z t = subst (Runs (seq p q)) (sym (t .4)) (seq-runs p q (t .0) (t .1) (trace-runs p (t .0) (t .2)) (trace-runs q (t .1) (t .3)))
+  trace-runs (seq p q) z t = subst (Runs (seq p q)) (sym (t .4)) (on-runs seq-onward p q (t .0) (t .1) (trace-runs p (t .0) (t .2)) (trace-runs q (t .1) (t .3)))
   trace-runs (alt p q) z (inl t) = alt-left-runs p q z (trace-runs p z t)
   trace-runs (alt p q) z (inr t) = alt-right-runs p q z (trace-runs q z t)
   trace-runs (par p q) z t = par-runs p q (t .4) (trace-runs p (t .0) (t .2)) (trace-runs q (t .1) (t .3))
-  trace-runs (hnd p q) z t = subst (Runs (hnd p q)) (sym (t .4)) (hnd-runs p q (t .0) (t .1) (trace-runs p (t .0) (t .2)) (trace-runs q (t .1) (t .3)))
+  trace-runs (hnd p q) z t = subst (Runs (hnd p q)) (sym (t .4)) (on-runs hnd-onward p q (t .0) (t .1) (trace-runs p (t .0) (t .2)) (trace-runs q (t .1) (t .3)))
   trace-runs (blk pp) z t = blk-runs pp (t .2) (ctrace-runs pp (t .0) (t .1))
 
   pub ctrace-runs : (pp : Cmp) (z : CTrace) → CTr pp z → CRuns pp z
@@ -165,53 +157,45 @@ mutual
 -- every term has a trace, and one that is not withdrawn
 
 abbrev pub Firm : Trace → Type 0
-Firm (tr s done) = Unit {0}
-Firm (tr s withdrawn) = ⊥
-Firm (tr s failed) = Unit {0}
+Firm (tr s w) = w ≢ withdrawn
 
 abbrev pub CFirm : CTrace → Type 0
 CFirm (ct x y) = Firm x × Firm y
 
-then-firm : (x y : Trace) → Firm x → Firm y → Firm (thenT x y)
-then-firm (tr s done) (tr t done) f g = tt
-then-firm (tr s done) (tr t withdrawn) f g = g
-then-firm (tr s done) (tr t failed) f g = tt
-then-firm (tr s withdrawn) y f g = f
-then-firm (tr s failed) y f g = tt
+done-firm : done ≢ withdrawn
+done-firm = other done withdrawn tt
 
-catch-firm : (x y : Trace) → Firm x → Firm y → Firm (catchT x y)
-catch-firm (tr s failed) (tr t done) f g = tt
-catch-firm (tr s failed) (tr t withdrawn) f g = g
-catch-firm (tr s failed) (tr t failed) f g = tt
-catch-firm (tr s withdrawn) y f g = f
-catch-firm (tr s done) y f g = tt
+failed-firm : failed ≢ withdrawn
+failed-firm = other failed withdrawn tt
+
+onto-firm : (s : List ℕ) (y : Trace) → Firm y → Firm (onto s y)
+onto-firm s (tr t v) f = f
+
+on-firm : (u : Closing) (x y : Trace) → Firm x → Firm y → Firm (onT u x y)
+on-firm u (tr s w) y f g = cond-both Firm (eqc w u) (onto s y) (tr s w) (onto-firm s y g) f
 
 mix-any : (s t : List ℕ) → Mix s t (s ++ t)
 mix-any [] [] = mix-none
 mix-any [] (a ∷ t) = mix-right (mix-any [] t)
 mix-any (a ∷ s) t = mix-left (mix-any s t)
 
+join-firm : (w v : Closing) → w ≢ withdrawn → v ≢ withdrawn → join w v ≢ withdrawn
+join-firm done v f g = g
+join-firm withdrawn v f g = absurd (f refl)
+join-firm failed v f g = f
+
 par-firm : (x y : Trace) → Firm x → Firm y → (z : Trace) × ParT x y z × Firm z
-par-firm (tr s done) (tr t done) f g = (tr (s ++ t) done, mixed (mix-any s t) refl, tt)
-par-firm (tr s done) (tr t failed) f g = (tr (s ++ t) failed, mixed (mix-any s t) refl, tt)
-par-firm (tr s done) (tr t withdrawn) f g = absurd g
-par-firm (tr s failed) (tr t v) f g = (tr (s ++ t) failed, mixed (mix-any s t) refl, tt)
-par-firm (tr s withdrawn) y f g = absurd f
+par-firm (tr s w) (tr t v) f g = (tr (s ++ t) (join w v), mixed (mix-any s t) refl, join-firm w v f g)
 
 pair-firm : (x y : Trace) → Firm x → Firm y → CFirm (pairT x y)
-pair-firm (tr s done) y f g = (tt, g)
-pair-firm (tr s withdrawn) y f g = absurd f
-pair-firm (tr s failed) y f g = (tt, tt)
+pair-firm (tr s w) y f g = (f, cond-both Firm (eqc w done) y (tr [] done) g done-firm)
 
 cthen-firm : (x y : CTrace) → CFirm x → CFirm y → CFirm (cthenT x y)
-cthen-firm (ct (tr s done) x) (ct (tr t done) z) f g = (tt, then-firm z x (g .1) (f .1))
-cthen-firm (ct (tr s done) x) (ct (tr t withdrawn) z) f g = absurd (g .0)
-cthen-firm (ct (tr s done) x) (ct (tr t failed) z) f g = (tt, then-firm z x (g .1) (f .1))
-cthen-firm (ct (tr s withdrawn) x) y f g = absurd (f .0)
-cthen-firm (ct (tr s failed) x) y f g = f
+cthen-firm (ct (tr s w) x) (ct y z) f g =
+    cond-both CFirm (eqc w done) (ct (onto s y) (onT done z x)) (ct (tr s w) x) (onto-firm s y (g .0), on-firm done z x (g .1) (f .1)) f
 
 held-firm : (y : CTrace) (x : Trace) → CFirm y → Firm x → CFirm (heldT y x)
-held-firm (ct y z) x f g = (f .0, then-firm z x (f .1) g)
+held-firm (ct y z) x f g = (f .0, on-firm done z x (f .1) g)
 
 cpar-firm : (x y : CTrace) → CFirm x → CFirm y → (z : CTrace) × CParT x y z × CFirm z
 cpar-firm (ct x x′) (ct y y′) f g =
@@ -220,25 +204,20 @@ cpar-firm (ct x x′) (ct y y′) f g =
     (ct (a .0) (b .0), both (a .1) (b .1), (a .2, b .2))
 
 blk-firm : (x : CTrace) → CFirm x → (z : Trace) × BlkT x z × Firm z
-blk-firm (ct (tr s done) y) f = (tr s done, closed, tt)
-blk-firm (ct (tr s withdrawn) y) f = absurd (f .0)
-blk-firm (ct (tr s failed) y) f = (onto s y, undone refl, at y (f .1))
-  where
-    at : (y : Trace) → Firm y → Firm (onto s y)
-    at (tr t done) f = tt
-    at (tr t withdrawn) f = f
-    at (tr t failed) f = tt
+blk-firm (ct (tr s done) y) f = (tr s done, closed, done-firm)
+blk-firm (ct (tr s withdrawn) y) f = absurd (f .0 refl)
+blk-firm (ct (tr s failed) y) f = (onto s y, undone refl, onto-firm s y (f .1))
 
 mutual
   pub some : (p : Std) → (z : Trace) × Tr p z × Firm z
-  some skip = (tr [] done, refl, tt)
-  some throw = (tr [] failed, refl, tt)
-  some yield = (tr [] done, inr refl, tt)
-  some (ev l) = (tr (l .names ∷ []) done, (l .names, l .own, refl), tt)
-  some (seq p q) = let x = some p in let y = some q in (thenT (x .0) (y .0), (x .0, y .0, x .1, y .1, refl), then-firm (x .0) (y .0) (x .2) (y .2))
+  some skip = (tr [] done, refl, done-firm)
+  some throw = (tr [] failed, refl, failed-firm)
+  some yield = (tr [] done, inr refl, done-firm)
+  some (ev l) = (tr (l .names ∷ []) done, (l .names, l .own, refl), done-firm)
+  some (seq p q) = let x = some p in let y = some q in (onT done (x .0) (y .0), (x .0, y .0, x .1, y .1, refl), on-firm done (x .0) (y .0) (x .2) (y .2))
   some (alt p q) = let x = some p in (x .0, inl (x .1), x .2)
   some (par p q) = let x = some p in let y = some q in let z = par-firm (x .0) (y .0) (x .2) (y .2) in (z .0, (x .0, y .0, x .1, y .1, z .1), z .2)
-  some (hnd p q) = let x = some p in let y = some q in (catchT (x .0) (y .0), (x .0, y .0, x .1, y .1, refl), catch-firm (x .0) (y .0) (x .2) (y .2))
+  some (hnd p q) = let x = some p in let y = some q in (onT failed (x .0) (y .0), (x .0, y .0, x .1, y .1, refl), on-firm failed (x .0) (y .0) (x .2) (y .2))
   some (blk pp) = let x = csome pp in let z = blk-firm (x .0) (x .2) in (z .0, (x .0, x .1, z .1), z .2)
 
   pub csome : (pp : Cmp) → (z : CTrace) × CTr pp z × CFirm z
@@ -250,25 +229,14 @@ mutual
 
 -- an ending is a trace with no events
 
-pub then-stop : (s : List ℕ) (w : Closing) (y : Trace) → w ≢ done → tr s w ≡ thenT (tr s w) y
-then-stop s done y n = absurd (n refl)
-then-stop s withdrawn y n = refl
-then-stop s failed y n = refl
-
-pub catch-stop : (s : List ℕ) (w : Closing) (y : Trace) → w ≢ failed → tr s w ≡ catchT (tr s w) y
-catch-stop s done y n = refl
-catch-stop s withdrawn y n = refl
-catch-stop s failed y n = absurd (n refl)
+pub on-stop : (u : Closing) (s : List ℕ) (w : Closing) (y : Trace) → w ≢ u → tr s w ≡ onT u (tr s w) y
+on-stop u s w y n = sym (cond-other (onto s y) (tr s w) n)
 
 pub pair-stop : (s : List ℕ) (w : Closing) (y : Trace) → w ≢ done → ct (tr s w) (tr [] done) ≡ pairT (tr s w) y
-pair-stop s done y n = absurd (n refl)
-pair-stop s withdrawn y n = refl
-pair-stop s failed y n = refl
+pair-stop s w y n = ap (ct (tr s w)) (sym (cond-other y (tr [] done) n))
 
 pub cthen-stop : (s : List ℕ) (w : Closing) (x : Trace) (y : CTrace) → w ≢ done → ct (tr s w) x ≡ cthenT (ct (tr s w) x) y
-cthen-stop s done x y n = absurd (n refl)
-cthen-stop s withdrawn x y n = refl
-cthen-stop s failed x y n = refl
+cthen-stop s w x (ct y z) n = sym (cond-other (ct (onto s y) (onT done z x)) (ct (tr s w) x) n)
 
 onto-none : (z : Trace) → z ≡ onto [] z
 onto-none (tr s w) = refl
@@ -280,9 +248,9 @@ mutual
   end-trace yield-ends = inr refl
   end-trace yield-yields = inl refl
   end-trace (seq-on {w} e f) = (tr [] done, tr [] w, end-trace e, end-trace f, refl)
-  end-trace (seq-stops {q} {w} e n) = let y = some q in (tr [] w, y .0, end-trace e, y .1, then-stop [] w (y .0) n)
+  end-trace (seq-stops {q} {w} e n) = let y = some q in (tr [] w, y .0, end-trace e, y .1, on-stop done [] w (y .0) n)
   end-trace (hnd-on {w} e f) = (tr [] failed, tr [] w, end-trace e, end-trace f, refl)
-  end-trace (hnd-stops {q} {w} e n) = let y = some q in (tr [] w, y .0, end-trace e, y .1, catch-stop [] w (y .0) n)
+  end-trace (hnd-stops {q} {w} e n) = let y = some q in (tr [] w, y .0, end-trace e, y .1, on-stop failed [] w (y .0) n)
   end-trace (alt-left e) = inl (end-trace e)
   end-trace (alt-right e) = inr (end-trace e)
   end-trace (par-joins {w} {v} e f j) = (tr [] w, tr [] v, end-trace e, end-trace f, mixed mix-none j)
@@ -311,31 +279,28 @@ module _ (a : ℕ) where
   pre-onto : (s : List ℕ) (y : Trace) → pre a (onto s y) ≡ onto (a ∷ s) y
   pre-onto s (tr t v) = refl
 
-  pre-then : (x y : Trace) → pre a (thenT x y) ≡ thenT (pre a x) y
-  pre-then (tr s done) y = pre-onto s y
-  pre-then (tr s withdrawn) y = refl
-  pre-then (tr s failed) y = refl
-
-  pre-catch : (x y : Trace) → pre a (catchT x y) ≡ catchT (pre a x) y
-  pre-catch (tr s done) y = refl
-  pre-catch (tr s withdrawn) y = refl
-  pre-catch (tr s failed) y = pre-onto s y
+  pre-on : (u : Closing) (x y : Trace) → pre a (onT u x y) ≡ onT u (pre a x) y
+  pre-on u (tr s w) y = by (eqc w u)
+    where
+      by : (b : Bool) → pre a (cond b (onto s y) (tr s w)) ≡ cond b (onto (a ∷ s) y) (tr (a ∷ s) w)
+      by true = pre-onto s y
+      by false = refl
 
   pre-pair : (x y : Trace) → cpre a (pairT x y) ≡ pairT (pre a x) y
-  pre-pair (tr s done) y = refl
-  pre-pair (tr s withdrawn) y = refl
-  pre-pair (tr s failed) y = refl
+  pre-pair (tr s w) y = refl
 
   pre-cthen : (x y : CTrace) → cpre a (cthenT x y) ≡ cthenT (cpre a x) y
-  pre-cthen (ct (tr s done) x) (ct y z) = ap (λ u. ct u (thenT z x)) (pre-onto s y)
-  pre-cthen (ct (tr s withdrawn) x) y = refl
-  pre-cthen (ct (tr s failed) x) y = refl
+  pre-cthen (ct (tr s w) x) (ct y z) = by (eqc w done)
+    where
+      by : (b : Bool) → cpre a (cond b (ct (onto s y) (onT done z x)) (ct (tr s w) x)) ≡ cond b (ct (onto (a ∷ s) y) (onT done z x)) (ct (tr (a ∷ s) w) x)
+      by true = ap (λ u. ct u (onT done z x)) (pre-onto s y)
+      by false = refl
 
   pre-held : (y : CTrace) (x : Trace) → cpre a (heldT y x) ≡ heldT (cpre a y) x
   pre-held (ct y z) x = refl
 
-  pre-on : (y : CTrace) (x : Trace) → cpre a (heldT y x) ≡ cthenT (ct (tr [] done) x) (cpre a y)
-  pre-on (ct (tr s w) z) x = refl
+  pre-held-on : (y : CTrace) (x : Trace) → cpre a (heldT y x) ≡ cthenT (ct (tr [] done) x) (cpre a y)
+  pre-held-on (ct (tr s w) z) x = refl
 
   par-left : {x y z : Trace} → ParT x y z → ParT (pre a x) y (pre a z)
   par-left (mixed m e) = mixed (mix-left m) e
@@ -356,9 +321,9 @@ module _ (a : ℕ) where
 mutual
   step-trace : {p p′ : Std} {a : ℕ} → Step p a p′ → (z : Trace) → Tr p′ z → Tr p (pre a z)
   step-trace (ev-step {a} h) z t = (a, h, ap (pre a) t)
-  step-trace (seq-first {a} h) z t = (pre a (t .0), t .1, step-trace h (t .0) (t .2), t .3, ap (pre a) (t .4) ∙ pre-then a (t .0) (t .1))
+  step-trace (seq-first {a} h) z t = (pre a (t .0), t .1, step-trace h (t .0) (t .2), t .3, ap (pre a) (t .4) ∙ pre-on a done (t .0) (t .1))
   step-trace (seq-second {a} e h) z t = (tr [] done, pre a z, end-trace e, step-trace h z t, onto-none (pre a z))
-  step-trace (hnd-first {a} h) z t = (pre a (t .0), t .1, step-trace h (t .0) (t .2), t .3, ap (pre a) (t .4) ∙ pre-catch a (t .0) (t .1))
+  step-trace (hnd-first {a} h) z t = (pre a (t .0), t .1, step-trace h (t .0) (t .2), t .3, ap (pre a) (t .4) ∙ pre-on a failed (t .0) (t .1))
   step-trace (hnd-second {a} e h) z t = (tr [] failed, pre a z, end-trace e, step-trace h z t, onto-none (pre a z))
   step-trace (alt-first h) z t = inl (step-trace h z t)
   step-trace (alt-second h) z t = inr (step-trace h z t)
@@ -370,7 +335,7 @@ mutual
   cstep-trace : {pp pp′ : Cmp} {a : ℕ} → CStep pp a pp′ → (z : CTrace) → CTr pp′ z → CTr pp (cpre a z)
   cstep-trace (pair-step {a} h) z t = (pre a (t .0), t .1, step-trace h (t .0) (t .2), t .3, ap (cpre a) (t .4) ∙ pre-pair a (t .0) (t .1))
   cstep-trace (cseq-first {a} h) z t = (cpre a (t .0), t .1, cstep-trace h (t .0) (t .2), t .3, ap (cpre a) (t .4) ∙ pre-cthen a (t .0) (t .1))
-  cstep-trace (cseq-second {a} e h) z t = (ct (tr [] done) (t .1), cpre a (t .0), cend-trace e (t .1) (t .3), cstep-trace h (t .0) (t .2), ap (cpre a) (t .4) ∙ pre-on a (t .0) (t .1))
+  cstep-trace (cseq-second {a} e h) z t = (ct (tr [] done) (t .1), cpre a (t .0), cend-trace e (t .1) (t .3), cstep-trace h (t .0) (t .2), ap (cpre a) (t .4) ∙ pre-held-on a (t .0) (t .1))
   cstep-trace (held-step {a} h) z t = (cpre a (t .0), t .1, cstep-trace h (t .0) (t .2), t .3, ap (cpre a) (t .4) ∙ pre-held a (t .0) (t .1))
   cstep-trace (calt-first h) z t = inl (cstep-trace h z t)
   cstep-trace (calt-second h) z t = inr (cstep-trace h z t)

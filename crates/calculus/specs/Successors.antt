@@ -1,34 +1,12 @@
--- The ordered successor lists of 01, "The search that is counted": endings, compensations and steps, with repetitions. A term's
--- behaviour is made of its parts' behaviours, one combinator to a kind, so that the steps of a block by a compensation need
--- no second recursion. 01's own equations over terms are theorems (Equations), and so is that the lists hold exactly what
--- the rules allow (Exact). Definitions only. Assumes nothing.
+-- The ordered successor lists of 01, "The search that is counted": endings, compensations and steps, with repetitions, a line for
+-- each kind. A compensation is no part of the term that leaves it; so it is listed with what it does (`Beh`), and a block's
+-- endings and steps need no second recursion. 01's equations over terms alone are theorems (Equations), and so is that the
+-- lists hold exactly what the rules allow (Exact). Definitions only. Assumes nothing.
 use Prim.Native.Nat.{ℕ}
-use mathlib.Core.Bool.{Bool, true, false, not, _&&_, _||_}
+use mathlib.Core.Bool.{Bool, true, false, cond, not, _&&_, _||_}
 use mathlib.Core.List.{List, [], _∷_, _++_, map}
-use Rattle.calculus.specs.Term.{Closing, done, withdrawn, failed, Leaf, Std, Cmp, skip, throw, yield, ev, seq, alt, par, hnd, blk, pair, cseq, calt, cpar, held, join}
-
--- What a standard term does: the term, whether it can end by a closing, and its successors by an event, in order.
-pub record Beh : Type 0 where
-  pub term : Std
-  pub ends : Closing → Bool
-  pub steps : ℕ → List Std
-
--- What a compensable term does: its compensations by a closing, in order, and its successors.
-pub record CBeh : Type 0 where
-  pub cterm : Cmp
-  pub comps : Closing → List Beh
-  pub csteps : ℕ → List Cmp
-
-abbrev pub eqc : Closing → Closing → Bool
-eqc done done = true
-eqc done withdrawn = false
-eqc done failed = false
-eqc withdrawn done = false
-eqc withdrawn withdrawn = true
-eqc withdrawn failed = false
-eqc failed done = false
-eqc failed withdrawn = false
-eqc failed failed = true
+use Rattle.calculus.specs.Term.{Closing, done, withdrawn, failed, Std, Cmp, skip, throw, yield, ev, seq, alt, par, hnd, blk, pair, cseq, calt, cpar, held, join}
+pub use Rattle.calculus.specs.Term.{eqc}
 
 -- the order of the endings
 abbrev pub closings : List Closing
@@ -51,131 +29,80 @@ module _ {A : Type 0} where
   any-at-all [] = false
   any-at-all (x ∷ xs) = true
 
--- ways of putting parts together, one for each kind
+-- 01: "P;Q ends as P does by ! or ?, and as Q does where P can end ✓"; P▷Q likewise, with ! for ✓. Q goes on after u.
+abbrev pub ends-on : Closing → (Closing → Bool) → (Closing → Bool) → Closing → Bool
+ends-on u f g w = (not (eqc w u) && f w) || (f u && g w)
 
-unfoldable pub seqB : Beh → Beh → Beh
-unfolding only
-seqB x y = record {
-  term = seq x.term y.term;
-  ends = λ w. (not (eqc w done) && x.ends w) || (x.ends done && y.ends w);
-  steps = λ a. map (λ p. seq p y.term) (x.steps a) ++ only (x.ends done) (y.steps a);
-}
+-- 01: "Two parallel sides end together"
+abbrev pub ends-both : (Closing → Bool) → (Closing → Bool) → Closing → Bool
+ends-both f g u = some-of (λ w. some-of (λ v. eqc u (join w v) && (f w && g v)) closings) closings
 
-unfoldable pub hndB : Beh → Beh → Beh
-unfolding only
-hndB x y = record {
-  term = hnd x.term y.term;
-  ends = λ w. (not (eqc w failed) && x.ends w) || (x.ends failed && y.ends w);
-  steps = λ a. map (λ p. hnd p y.term) (x.steps a) ++ only (x.ends failed) (y.steps a);
-}
+-- a term with what it does: whether it can end by a closing, and its successors by an event, in order
+pub record Beh : Type 0 where
+  pub term : Std
+  pub ends : Closing → Bool
+  pub steps : ℕ → List Std
 
-unfoldable pub altB : Beh → Beh → Beh
-altB x y = record {
-  term = alt x.term y.term;
-  ends = λ w. x.ends w || y.ends w;
-  steps = λ a. x.steps a ++ y.steps a;
-}
-
-unfoldable pub parB : Beh → Beh → Beh
-unfolding some-of
-parB x y = record {
-  term = par x.term y.term;
-  ends = λ u. some-of (λ w. some-of (λ v. eqc u (join w v) && (x.ends w && y.ends v)) closings) closings;
-  steps = λ a. map (λ p. par p y.term) (x.steps a) ++ map (λ q. par x.term q) (y.steps a);
-}
-
-unfoldable pub blkB : CBeh → Beh
-unfolding some-of each any-at-all
-blkB x = record {
-  term = blk x.cterm;
-  ends = λ w. (eqc w done && any-at-all (x.comps done)) || some-of (λ k. k .ends w) (x.comps failed);
-  steps = λ a. map blk (x.csteps a) ++ each (x.comps failed) (λ k. k .steps a);
-}
-
-unfoldable pub pairB : Beh → Beh → Beh → CBeh
-unfolding only
-pairB s x y = record {
-  cterm = pair x.term y.term;
-  comps = λ w. only (x.ends w) (elim w [ done ↦ y ∷ [] | withdrawn ↦ s ∷ [] | failed ↦ s ∷ [] ]);
-  csteps = λ a. map (λ p. pair p y.term) (x.steps a);
-}
-
-unfoldable pub cseqB : CBeh → CBeh → CBeh
-unfolding only each
-cseqB x y = record {
-  cterm = cseq x.cterm y.cterm;
-  comps = λ w. only (not (eqc w done)) (x.comps w) ++ each (x.comps done) (λ k. map (λ l. seqB l k) (y.comps w));
-  csteps = λ a. map (λ p. cseq p y.cterm) (x.csteps a) ++ each (x.comps done) (λ k. map (λ q. held q k.term) (y.csteps a));
-}
-
-unfoldable pub heldB : CBeh → Beh → CBeh
-heldB y k = record {
-  cterm = held y.cterm k.term;
-  comps = λ w. map (λ l. seqB l k) (y.comps w);
-  csteps = λ a. map (λ q. held q k.term) (y.csteps a);
-}
-
-unfoldable pub caltB : CBeh → CBeh → CBeh
-caltB x y = record {
-  cterm = calt x.cterm y.cterm;
-  comps = λ w. x.comps w ++ y.comps w;
-  csteps = λ a. x.csteps a ++ y.csteps a;
-}
-
-unfoldable pub cparB : CBeh → CBeh → CBeh
-unfolding only each
-cparB x y = record {
-  cterm = cpar x.cterm y.cterm;
-  comps = λ u. each closings (λ w. each (x.comps w) (λ k. each closings (λ v. only (eqc u (join w v)) (map (λ l. parB k l) (y.comps v)))));
-  csteps = λ a. map (λ p. cpar p y.cterm) (x.csteps a) ++ map (λ q. cpar x.cterm q) (y.csteps a);
-}
+abbrev pub does : Std → (Closing → Bool) → (ℕ → List Std) → Beh
+does p f g = record { term = p; ends = f; steps = g }
 
 abbrev pub skipB : Beh
-skipB = record { term = skip; ends = λ w. eqc w done; steps = λ a. [] }
+skipB = does skip (λ w. eqc w done) (λ a. [])
 
-abbrev pub throwB : Beh
-throwB = record { term = throw; ends = λ w. eqc w failed; steps = λ a. [] }
+-- one compensation after another ("QQ's first and then R"), and two in parallel
+abbrev pub seqB : Beh → Beh → Beh
+seqB x y =
+    does (seq x.term y.term) (ends-on done x.ends y.ends) (λ a. map (λ p. seq p y.term) (x.steps a) ++ only (x.ends done) (y.steps a))
 
-abbrev pub yieldB : Beh
-yieldB = record { term = yield; ends = λ w. not (eqc w failed); steps = λ a. [] }
-
-unfoldable pub evB : Leaf → Beh
-unfolding only
-evB l = record { term = ev l; ends = λ w. false; steps = λ a. only (l .takes a) (skip ∷ []) }
+abbrev pub parB : Beh → Beh → Beh
+parB x y =
+    does (par x.term y.term) (ends-both x.ends y.ends) (λ a. map (λ p. par p y.term) (x.steps a) ++ map (λ q. par x.term q) (y.steps a))
 
 unfoldable mutual
-  unfolding seqB altB parB hndB blkB pairB cseqB caltB cparB heldB evB
+  unfolding only some-of each any-at-all
 
-  pub beh : Std → Beh
-  beh skip = skipB
-  beh throw = throwB
-  beh yield = yieldB
-  beh (ev l) = evB l
-  beh (seq p q) = seqB (beh p) (beh q)
-  beh (alt p q) = altB (beh p) (beh q)
-  beh (par p q) = parB (beh p) (beh q)
-  beh (hnd p q) = hndB (beh p) (beh q)
-  beh (blk pp) = blkB (cbeh pp)
+  -- 01, "Endings": P can end by w
+  pub ends : Std → Closing → Bool
+  ends skip w = eqc w done
+  ends throw w = eqc w failed
+  ends yield w = not (eqc w failed)
+  ends (ev l) w = false
+  ends (seq p q) w = ends-on done (λ v. ends p v) (λ v. ends q v) w
+  ends (alt p q) w = ends p w || ends q w
+  ends (par p q) w = ends-both (λ v. ends p v) (λ v. ends q v) w
+  ends (hnd p q) w = ends-on failed (λ v. ends p v) (λ v. ends q v) w
+  ends (blk pp) w = (eqc w done && any-at-all (left-by pp done)) || some-of (λ k. k .ends w) (left-by pp failed)
 
-  pub cbeh : Cmp → CBeh
-  cbeh (pair p q) = pairB skipB (beh p) (beh q)
-  cbeh (cseq pp qq) = cseqB (cbeh pp) (cbeh qq)
-  cbeh (calt pp qq) = caltB (cbeh pp) (cbeh qq)
-  cbeh (cpar pp qq) = cparB (cbeh pp) (cbeh qq)
-  cbeh (held qq r) = heldB (cbeh qq) (beh r)
+  -- 01, "Compensations": those that PP can leave when it ends by w, "the first part's own .. before the combined ones"
+  pub left-by : Cmp → Closing → List Beh
+  left-by (pair p q) w = only (ends p w) (cond (eqc w done) (does q (λ v. ends q v) (λ a. steps q a)) skipB ∷ [])
+  left-by (cseq pp qq) w = only (not (eqc w done)) (left-by pp w) ++ each (left-by pp done) (λ k. map (λ l. seqB l k) (left-by qq w))
+  left-by (calt pp qq) w = left-by pp w ++ left-by qq w
+  left-by (cpar pp qq) u =
+      each closings (λ w. each (left-by pp w) (λ k. each closings (λ v. only (eqc u (join w v)) (map (λ l. parB k l) (left-by qq v)))))
+  left-by (held qq r) w = map (λ l. seqB l (does r (λ v. ends r v) (λ a. steps r a))) (left-by qq w)
 
-unfoldable pub ends : Std → Closing → Bool
-unfolding beh
-ends p w = (beh p) .ends w
+  -- 01, "Steps": what P steps to by a, "steps inside the first part .. before the others"
+  pub steps : Std → ℕ → List Std
+  steps skip a = []
+  steps throw a = []
+  steps yield a = []
+  steps (ev l) a = only (l .takes a) (skip ∷ [])
+  steps (seq p q) a = map (λ r. seq r q) (steps p a) ++ only (ends p done) (steps q a)
+  steps (alt p q) a = steps p a ++ steps q a
+  steps (par p q) a = map (λ r. par r q) (steps p a) ++ map (λ r. par p r) (steps q a)
+  steps (hnd p q) a = map (λ r. hnd r q) (steps p a) ++ only (ends p failed) (steps q a)
+  steps (blk pp) a = map blk (csteps pp a) ++ each (left-by pp failed) (λ k. k .steps a)
 
-unfoldable pub steps : Std → ℕ → List Std
-unfolding beh
-steps p a = (beh p) .steps a
+  -- what PP steps to by a; "the compensations go outermost"
+  pub csteps : Cmp → ℕ → List Cmp
+  csteps (pair p q) a = map (λ r. pair r q) (steps p a)
+  csteps (cseq pp qq) a = map (λ r. cseq r qq) (csteps pp a) ++ each (left-by pp done) (λ k. map (λ r. held r k.term) (csteps qq a))
+  csteps (calt pp qq) a = csteps pp a ++ csteps qq a
+  csteps (cpar pp qq) a = map (λ r. cpar r qq) (csteps pp a) ++ map (λ r. cpar pp r) (csteps qq a)
+  csteps (held qq k) a = map (λ r. held r k) (csteps qq a)
 
+-- the compensations as terms
 unfoldable pub comps : Cmp → Closing → List Std
-unfolding beh
-comps pp w = map (λ k. k .term) ((cbeh pp) .comps w)
-
-unfoldable pub csteps : Cmp → ℕ → List Cmp
-unfolding beh
-csteps pp a = (cbeh pp) .csteps a
+unfolding ends
+comps pp w = map (λ k. k .term) (left-by pp w)

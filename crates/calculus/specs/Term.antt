@@ -1,7 +1,7 @@
 -- Flows as terms: standard and compensable parts (the table of sixteen kinds in 01), the form ⟨QQ, R⟩ that 002 adds for
 -- states, and the three closings with their join. Definitions only. Assumes nothing.
 use Prim.Native.Nat.{ℕ}
-use mathlib.Core.Bool.{Bool}
+use mathlib.Core.Bool.{Bool, true, false}
 use lib.Dec.{T, eqb, eqb-refl}
 
 -- ✓, ? and !
@@ -15,6 +15,12 @@ join withdrawn done = withdrawn
 join withdrawn withdrawn = withdrawn
 join withdrawn failed = failed
 join failed v = failed
+
+-- the same closing
+abbrev pub eqc : Closing → Closing → Bool
+eqc done v = elim v [ done ↦ true | withdrawn ↦ false | failed ↦ false ]
+eqc withdrawn v = elim v [ done ↦ false | withdrawn ↦ true | failed ↦ false ]
+eqc failed v = elim v [ done ↦ false | withdrawn ↦ false | failed ↦ true ]
 
 -- An event leaf: the event that it names, and the events of records that it takes, its own among them.
 -- Which those are is settled where a leaf is made, and nowhere else.

@@ -4,9 +4,10 @@
 use Prim.Native.Nat.{ℕ}
 use mathlib.Core.Path.{_≡_}
 use mathlib.Core.Logic.{_⊎_}
+use mathlib.Core.Bool.{cond}
 use mathlib.Core.List.{List, [], _∷_, _++_}
 use lib.Dec.{T}
-use Rattle.calculus.specs.Term.{Closing, done, withdrawn, failed, Std, Cmp, skip, throw, yield, ev, seq, alt, par, hnd, blk, pair, cseq, calt, cpar, held, join}
+use Rattle.calculus.specs.Term.{Closing, done, withdrawn, failed, eqc, Std, Cmp, skip, throw, yield, ev, seq, alt, par, hnd, blk, pair, cseq, calt, cpar, held, join}
 
 -- a trace: events and a closing. A compensable one: a forward trace and a compensation trace.
 pub data Trace : Type 0 where
@@ -19,33 +20,21 @@ pub data CTrace : Type 0 where
 abbrev pub onto : List ℕ → Trace → Trace
 onto s (tr t v) = tr (s ++ t) v
 
--- p ; q
-abbrev pub thenT : Trace → Trace → Trace
-thenT (tr s done) y = onto s y
-thenT (tr s withdrawn) y = tr s withdrawn
-thenT (tr s failed) y = tr s failed
-
--- p ▷ q
-abbrev pub catchT : Trace → Trace → Trace
-catchT (tr s done) y = tr s done
-catchT (tr s withdrawn) y = tr s withdrawn
-catchT (tr s failed) y = onto s y
+-- p ; q goes on by q after ✓, p ▷ q after !: u is that closing
+abbrev pub onT : Closing → Trace → Trace → Trace
+onT u (tr s w) y = cond (eqc w u) (onto s y) (tr s w)
 
 -- p ÷ q
 abbrev pub pairT : Trace → Trace → CTrace
-pairT (tr s done) y = ct (tr s done) y
-pairT (tr s withdrawn) y = ct (tr s withdrawn) (tr [] done)
-pairT (tr s failed) y = ct (tr s failed) (tr [] done)
+pairT (tr s w) y = ct (tr s w) (cond (eqc w done) y (tr [] done))
 
 -- (p, p′) ; (q, q′)
 abbrev pub cthenT : CTrace → CTrace → CTrace
-cthenT (ct (tr s done) x) (ct y z) = ct (onto s y) (thenT z x)
-cthenT (ct (tr s withdrawn) x) y = ct (tr s withdrawn) x
-cthenT (ct (tr s failed) x) y = ct (tr s failed) x
+cthenT (ct (tr s w) x) (ct y z) = cond (eqc w done) (ct (onto s y) (onT done z x)) (ct (tr s w) x)
 
 -- ⟨(q, q′), r⟩, for 002's auxiliary term
 abbrev pub heldT : CTrace → Trace → CTrace
-heldT (ct y z) x = ct y (thenT z x)
+heldT (ct y z) x = ct y (onT done z x)
 
 -- r is an interleaving of s and t, with nothing synchronised: the one place that a set of joint events would enter
 pub data Mix : List ℕ → List ℕ → List ℕ → Type 0 where
@@ -82,10 +71,10 @@ abbrev mutual
   Tr throw z = z ≡ tr [] failed
   Tr yield z = (z ≡ tr [] withdrawn) ⊎ (z ≡ tr [] done)
   Tr (ev l) z = (a : ℕ) × T (l .takes a) × (z ≡ tr (a ∷ []) done)
-  Tr (seq p q) z = lift (by thenT) (λ x. Tr p x) (λ y. Tr q y) z
+  Tr (seq p q) z = lift (by (onT done)) (λ x. Tr p x) (λ y. Tr q y) z
   Tr (alt p q) z = Tr p z ⊎ Tr q z
   Tr (par p q) z = lift ParT (λ x. Tr p x) (λ y. Tr q y) z
-  Tr (hnd p q) z = lift (by catchT) (λ x. Tr p x) (λ y. Tr q y) z
+  Tr (hnd p q) z = lift (by (onT failed)) (λ x. Tr p x) (λ y. Tr q y) z
   Tr (blk pp) z = (x : CTrace) × CTr pp x × BlkT x z
 
   pub CTr : Cmp → CTrace → Type 0
