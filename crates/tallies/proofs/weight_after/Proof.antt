@@ -5,7 +5,7 @@ use Rattle.tallies.proofs.weight_after.Tie as tie
 
 returns : tie.Need-returns
 unfolding afterG
-returns c = cc
+returns c = simp (c .weight-of .ensures, c .before .product4 .ensures, c .before .before .product3 .ensures, c .before .before .before .sum .ensures, c .before .before .before .before .product2 .ensures, c .before .before .before .before .before .product .ensures)
 
 pub weight-after-spec : {M : Type 1} → statement M
 weight-after-spec = tie.close (tie.spec (λ _ _. tt) (λ _ _. tt) (λ _ _. tt) (λ _ _. tt) (λ _ _. tt) (λ _ _. tt) returns)
