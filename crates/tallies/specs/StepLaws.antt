@@ -8,7 +8,7 @@ use mathlib.Core.Bool.{Bool, true, false}
 use mathlib.Core.List.{List, [], _∷_, _++_, map}
 use lib.Dec.{T}
 use lib.ListN.{length, length-append, length-map}
-use Rattle.calculus.specs.Term.{done, failed, Leaf, Std, Cmp, skip, throw, yield, ev, seq, alt, par, hnd, blk, pair, cseq, calt, cpar, held}
+use Rattle.calculus.specs.Term.{Closing, done, failed, Leaf, Std, Cmp, skip, throw, yield, ev, seq, alt, par, hnd, blk, pair, cseq, calt, cpar, held}
 use Rattle.calculus.specs.Successors.{only, each, ends, steps, comps, csteps}
 use Rattle.calculus.specs.Equations.{steps-skip, steps-throw, steps-yield, steps-ev, steps-seq, steps-hnd, steps-alt, steps-par, steps-blk, csteps-pair, csteps-cseq, csteps-calt, csteps-cpar, csteps-held}
 use Rattle.tallies.specs.Capped.{cap}
@@ -58,28 +58,44 @@ at-ev l a {k} h =
     rw steps-ev (go (l .takes a) (rw steps-ev at h))
 
 -- the leaves without steps
+no-step : (p : Std) (a : ℕ) → steps p a ≡ [] → {k : ℕ} → k < cap (moves a p) → ⊥
+unfolding moves
+no-step p a e h = let z = ap length e in omega arith
+
 module _ (a : ℕ) {k : ℕ} where
   pub no-skip-step : k < cap (moves a skip) → ⊥
-  unfolding moves
-  no-skip-step h = let z = ap length (steps-skip a) in omega arith
+  no-skip-step = no-step skip a (steps-skip a)
 
   pub no-throw-step : k < cap (moves a throw) → ⊥
-  unfolding moves
-  no-throw-step h = let z = ap length (steps-throw a) in omega arith
+  no-throw-step = no-step throw a (steps-throw a)
 
   pub no-yield-step : k < cap (moves a yield) → ⊥
+  no-yield-step = no-step yield a (steps-yield a)
+
+-- P;Q and P▷Q: the steps of P and, where P can end by w, those of Q
+module _ (on : Std → Std → Std) (w : Closing) (a : ℕ) (p q : Std) (split : steps (on p q) a ≡ map (λ r. on r q) (steps p a) ++ only (ends p w) (steps q a)) where
+  on-joined : Joined (steps (on p q) a) (map (λ r. on r q) (steps p a)) (only (ends p w) (steps q a)) (moves a p)
   unfolding moves
-  no-yield-step h = let z = ap length (steps-yield a) in omega arith
+  on-joined = record { whole = split; many = length-map (steps p a) (λ r. on r q) }
+
+  at-on-first : {k : ℕ} {p′ : Std} → At (steps p a) k p′ → At (steps (on p q) a) k (on p′ q)
+  at-on-first u = at-first on-joined (at-map (λ r. on r q) u)
+
+  -- an index beyond the steps of P: P can end by w, and the rest lies among the steps of Q
+  module _ {c k : ℕ} (e : c ≡ cap (moves a p)) (h : k < cap (moves a (on p q))) (g : c ≤ k) where
+    on-rest : k - c < cap (length (only (ends p w) (steps q a)))
+    unfolding moves
+    on-rest = room on-joined e h g
+
+    on-room : k - c < cap (moves a q)
+    unfolding moves
+    on-room = only-room (ends p w) (steps q a) on-rest
+
+    at-on-second : {q′ : Std} → At (steps q a) (k - c) q′ → At (steps (on p q) a) k q′
+    unfolding moves
+    at-on-second u = at-second on-joined e h g (at-only (ends p w) (only-holds (ends p w) (steps q a) on-rest) u)
 
 module _ (a : ℕ) (p q : Std) where
-  seq-joined : Joined (steps (seq p q) a) (map (λ r. seq r q) (steps p a)) (only (ends p done) (steps q a)) (moves a p)
-  unfolding moves
-  seq-joined = record { whole = steps-seq p q a; many = length-map (steps p a) (λ r. seq r q) }
-
-  hnd-joined : Joined (steps (hnd p q) a) (map (λ r. hnd r q) (steps p a)) (only (ends p failed) (steps q a)) (moves a p)
-  unfolding moves
-  hnd-joined = record { whole = steps-hnd p q a; many = length-map (steps p a) (λ r. hnd r q) }
-
   alt-joined : Joined (steps (alt p q) a) (steps p a) (steps q a) (moves a p)
   unfolding moves
   alt-joined = record { whole = steps-alt p q a; many = refl }
@@ -89,10 +105,10 @@ module _ (a : ℕ) (p q : Std) where
   par-joined = record { whole = steps-par p q a; many = length-map (steps p a) (λ r. par r q) }
 
   pub at-seq-first : {k : ℕ} {p′ : Std} → At (steps p a) k p′ → At (steps (seq p q) a) k (seq p′ q)
-  at-seq-first u = at-first seq-joined (at-map (λ r. seq r q) u)
+  at-seq-first = at-on-first seq done a p q (steps-seq p q a)
 
   pub at-hnd-first : {k : ℕ} {p′ : Std} → At (steps p a) k p′ → At (steps (hnd p q) a) k (hnd p′ q)
-  at-hnd-first u = at-first hnd-joined (at-map (λ r. hnd r q) u)
+  at-hnd-first = at-on-first hnd failed a p q (steps-hnd p q a)
 
   pub at-alt-first : {k : ℕ} {p′ : Std} → At (steps p a) k p′ → At (steps (alt p q) a) k p′
   at-alt-first u = at-first alt-joined u
@@ -100,39 +116,19 @@ module _ (a : ℕ) (p q : Std) where
   pub at-par-first : {k : ℕ} {p′ : Std} → At (steps p a) k p′ → At (steps (par p q) a) k (par p′ q)
   at-par-first u = at-first par-joined (at-map (λ r. par r q) u)
 
-  -- an index beyond the first part's steps: the first part can end done, and the rest lies among the second's
   module _ {c k : ℕ} (e : c ≡ cap (moves a p)) (h : k < cap (moves a (seq p q))) (g : c ≤ k) where
-    seq-rest : k - c < cap (length (only (ends p done) (steps q a)))
-    unfolding moves
-    seq-rest = room seq-joined e h g
-
-    pub seq-goes-on : T (ends p done)
-    seq-goes-on = only-holds (ends p done) (steps q a) seq-rest
-
     pub seq-room : k - c < cap (moves a q)
-    unfolding moves
-    seq-room = only-room (ends p done) (steps q a) seq-rest
+    seq-room = on-room seq done a p q (steps-seq p q a) e h g
 
     pub at-seq-second : {q′ : Std} → At (steps q a) (k - c) q′ → At (steps (seq p q) a) k q′
-    unfolding moves
-    at-seq-second u = at-second seq-joined e h g (at-only (ends p done) seq-goes-on u)
+    at-seq-second = at-on-second seq done a p q (steps-seq p q a) e h g
 
-  -- the same of a handler, whose first part can fail
   module _ {c k : ℕ} (e : c ≡ cap (moves a p)) (h : k < cap (moves a (hnd p q))) (g : c ≤ k) where
-    hnd-rest : k - c < cap (length (only (ends p failed) (steps q a)))
-    unfolding moves
-    hnd-rest = room hnd-joined e h g
-
-    pub hnd-goes-on : T (ends p failed)
-    hnd-goes-on = only-holds (ends p failed) (steps q a) hnd-rest
-
     pub hnd-room : k - c < cap (moves a q)
-    unfolding moves
-    hnd-room = only-room (ends p failed) (steps q a) hnd-rest
+    hnd-room = on-room hnd failed a p q (steps-hnd p q a) e h g
 
     pub at-hnd-second : {q′ : Std} → At (steps q a) (k - c) q′ → At (steps (hnd p q) a) k q′
-    unfolding moves
-    at-hnd-second u = at-second hnd-joined e h g (at-only (ends p failed) hnd-goes-on u)
+    at-hnd-second = at-on-second hnd failed a p q (steps-hnd p q a) e h g
 
   module _ {c k : ℕ} (e : c ≡ cap (moves a p)) (h : k < cap (moves a (alt p q))) (g : c ≤ k) where
     pub alt-room : k - c < cap (moves a q)
