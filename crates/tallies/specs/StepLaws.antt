@@ -6,7 +6,6 @@ use native.Mathlib.Omega.{arith}
 use mathlib.Core.Path.{_≡_, refl, _∙_, ap}
 use mathlib.Core.Bool.{Bool, true, false}
 use mathlib.Core.List.{List, [], _∷_, _++_, map}
-use lib.Dec.{T}
 use lib.ListN.{length, length-append, length-map}
 use Rattle.calculus.specs.Term.{Closing, done, failed, Leaf, Std, Cmp, skip, throw, yield, ev, seq, alt, par, hnd, blk, pair, cseq, calt, cpar, held}
 use Rattle.calculus.specs.Successors.{only, each, ends, steps, comps, csteps}
@@ -16,7 +15,7 @@ use Rattle.tallies.specs.Formulas.{movesG, holdG}
 use Rattle.tallies.specs.Counts.{sum-of, moves, weight}
 use Rattle.tallies.specs.SumsLaws.{length-each}
 use Rattle.tallies.specs.Places.{At, Finds}
-use Rattle.tallies.specs.PlacesLaws.{at-is, at-left, at-after, at-map, at-only, at-each, finds-rest, finds-rest-le, finds-same, finds-cap, sum-cap}
+use Rattle.tallies.specs.PlacesLaws.{at-is, at-left, at-after, at-map, at-only, at-each, finds-rest, finds-rest-le, finds-same, finds-cap, sum-cap, only-holds, only-room}
 
 -- Two lists, one after the other ----------------------------------------------------------------------------------------
 
@@ -38,15 +37,6 @@ module _ {A : Type 0} {w l m : List A} {n : ℕ} (s : Joined w l m n) where
     at-second p =
         let z : length l ≡ c = omega (arith, s .many) in
         rw (s .whole) (at-after l (omega arith) (at-is (omega arith) p))
-
-module _ {A : Type 0} (b : Bool) (l : List A) {k : ℕ} where
-  only-holds : k < cap (length (only b l)) → T b
-  unfolding only
-  only-holds = elim b [ true ↦ λ h. tt | false ↦ λ h. omega arith ]
-
-  only-room : k < cap (length (only b l)) → k < cap (length l)
-  unfolding only
-  only-room = elim b [ true ↦ λ h. h | false ↦ λ h. omega arith ]
 
 -- Standard parts --------------------------------------------------------------------------------------------------------
 
@@ -89,11 +79,11 @@ module _ (on : Std → Std → Std) (w : Closing) (a : ℕ) (p q : Std) (split :
 
     on-room : k - c < cap (moves a q)
     unfolding moves
-    on-room = only-room (ends p w) (steps q a) on-rest
+    on-room = only-room length refl (ends p w) (steps q a) on-rest
 
     at-on-second : {q′ : Std} → At (steps q a) (k - c) q′ → At (steps (on p q) a) k q′
     unfolding moves
-    at-on-second u = at-second on-joined e h g (at-only (ends p w) (only-holds (ends p w) (steps q a) on-rest) u)
+    at-on-second u = at-second on-joined e h g (at-only (ends p w) (only-holds length refl (ends p w) (steps q a) on-rest) u)
 
 module _ (a : ℕ) (p q : Std) where
   alt-joined : Joined (steps (alt p q) a) (steps p a) (steps q a) (moves a p)
