@@ -1,10 +1,10 @@
 -- The formulas that the code of this crate computes: views, tallies, words and weights of a whole from those of its parts. What
 -- they mean for terms is in Counts, and that they are right in CountsLaws. Definitions only. Assumes nothing.
 --
--- A name ends in the letter of what it makes: V a view, T a tally, W a word, G a weight. It begins with the calculus's own word for
--- the whole (skip throw yield ev seq alt par hnd blk; pair cseq held calt cpar skipp throww yieldd), or with what is done to a
--- tally or a weight (none one when plus; after inside beside within). Below, of a view d w f are whether it can end done,
--- withdrawn, failed; of two sides p q that end by x and y, both end by u.
+-- A name ends in the letter of what it makes: V a view, T a tally, W a word, G a weight; one that reads something out of views or of
+-- a word ends in theirs (endsV, meetV, bothV, byW). It begins with the calculus's own word for the whole (skip throw yield ev seq
+-- alt par hnd blk; pair cseq held calt cpar skipp throww yieldd), or with what is done to tallies or weights (none one when plus over
+-- fitting partners both; after inside beside within). Of two sides p and q that end by x and y, both end by u.
 use Prim.Native.Nat.{ℕ, _+_, _*_}
 use mathlib.Core.Bool.{Bool, true, false, not, _&&_, _||_, cond}
 use lib.Dec.{eqb}
@@ -89,7 +89,12 @@ whenT b t = cond b t noneT
 
 -- of two lists, one after the other
 unfoldable pub plusT : Tally → Tally → Tally
-plusT x y = cond (eqb (x .many) 0) y (cond (eqb (y .many) 0) x (tallied (cap (x .many + y .many)) (cap (x .able + y .able)) (cap (x .moves + y .moves)) (x .withdraws || y .withdraws) (x .fails || y .fails)))
+plusT x y = cond (eqb (x .many) 0) y (cond (eqb (y .many) 0) x (tallied
+    (cap (x .many + y .many))
+    (cap (x .able + y .able))
+    (cap (x .moves + y .moves))
+    (x .withdraws || y .withdraws)
+    (x .fails || y .fails)))
 
 -- of all l;k, l of x and k of y
 unfoldable pub seqT : Tally → Tally → Tally
@@ -104,7 +109,7 @@ seqT x y = cond (eqb (x .many) 0) noneT (cond (eqb (y .many) 0) noneT (tallied
 abbrev pub anyV : Tally → View
 anyV t = viewed 0 (some? (t .able)) (t .withdraws) (t .fails)
 
--- of all k beside l, k of x and l of y
+-- of all k beside l, k of x and l of y; those that can end done multiply, since only done and done join to done
 unfoldable pub parT : Tally → Tally → Tally
 parT x y = cond (eqb (x .many) 0) noneT (cond (eqb (y .many) 0) noneT (tallied
     (cap (x .many * y .many))
@@ -128,21 +133,33 @@ byW x withdrawn = x .withdrawn
 byW x failed = x .failed
 
 unfoldable pub blkV : Word → View
-blkV x = viewed (cap (x .moves + x .failed .moves)) (some? (x .done .many) || some? (x .failed .able)) (x .failed .withdraws) (x .failed .fails)
+blkV x = viewed
+    (cap (x .moves + x .failed .moves))
+    (some? (x .done .many) || some? (x .failed .able))
+    (x .failed .withdraws)
+    (x .failed .fails)
 
 -- P÷Q
 unfoldable pub pairW : View → View → Word
 pairW p q = worded (p .moves) (whenT (p .done) (oneT q)) (whenT (p .withdraws) (oneT skipV)) (whenT (p .fails) (oneT skipV))
 
--- PP;QQ before its first part has ended, and after (R is its view)
+-- PP;QQ before its first part has ended, and after it has become what is viewed as r
 unfoldable pub cseqW : Word → Word → Word
-cseqW x y = worded (cap (x .moves + cap (x .done .many * y .moves))) (seqT (y .done) (x .done)) (plusT (x .withdrawn) (seqT (y .withdrawn) (x .done))) (plusT (x .failed) (seqT (y .failed) (x .done)))
+cseqW x y = worded
+    (cap (x .moves + cap (x .done .many * y .moves)))
+    (seqT (y .done) (x .done))
+    (plusT (x .withdrawn) (seqT (y .withdrawn) (x .done)))
+    (plusT (x .failed) (seqT (y .failed) (x .done)))
 
 unfoldable pub heldW : Word → View → Word
 heldW y r = worded (y .moves) (seqT (y .done) (oneT r)) (seqT (y .withdrawn) (oneT r)) (seqT (y .failed) (oneT r))
 
 unfoldable pub caltW : Word → Word → Word
-caltW x y = worded (cap (x .moves + y .moves)) (plusT (x .done) (y .done)) (plusT (x .withdrawn) (y .withdrawn)) (plusT (x .failed) (y .failed))
+caltW x y = worded
+    (cap (x .moves + y .moves))
+    (plusT (x .done) (y .done))
+    (plusT (x .withdrawn) (y .withdrawn))
+    (plusT (x .failed) (y .failed))
 
 -- compensations of the second side by y, where the first ends by x and both by u
 unfoldable pub fittingT : Word → Closing → Closing → Closing → Tally

@@ -107,11 +107,6 @@ module _ {A : Type 0} (f g : A → ℕ) (e : (x : A) → cap (f x) ≡ cap (g x)
   sum-cap [] = refl
   sum-cap (x ∷ l) = omega (arith, e x, sum-cap l)
 
-module _ {A : Type 0} (f g : A → ℕ) (e : (x : A) → f x ≡ g x) where
-  pub finds-same : {l : List A} {j : ℕ} {x : A} {r : ℕ} → Finds f l j x r → Finds g l j x r
-  finds-same (Finds.here {x} {r} h) = Finds.here {x = x} {r = r} (omega (arith, e x))
-  finds-same (Finds.past {y} {j} h) = finds-is (omega (arith, e y)) (Finds.past (finds-same h))
-
 -- What lies below the size of a list that is there under a condition -------------------------------------------------------
 
 module _ {A : Type 0} (size : List A → ℕ) (none : size [] ≡ 0) (b : Bool) (l : List A) {k : ℕ} where

@@ -90,7 +90,7 @@ fn view_of(moves: u32, done: bool, withdraws: bool, fails: bool) -> View
 
 // Closings ----------------------------------------------------------------------------------------------------------
 
-// How two parallel sides end that end by x and y. Nothing else combines closings.
+// How two parallel sides end that end by x and y. Nothing else combines two closings.
 fn joined(x: u8, y: u8) -> u8
     requires { ⌜ (x < 3) × (y < 3) ⌝ }
     ensures { λ r. ⌜ r ≡ rank (join (closing x) (closing y)) ⌝ }
@@ -322,7 +322,7 @@ fn any_view(t: Tally) -> View
     view_of(0, t.able != 0, t.withdraws, t.fails)
 }
 
-// Of all k beside l, k of x and l of y.
+// Of all k beside l, k of x and l of y. Those that can end done multiply: only done and done join to done.
 fn parallel_tally(x: Tally, y: Tally) -> Tally
     ensures { λ r. ⌜ r ≡ parT x y ⌝ }
 {

@@ -5,7 +5,16 @@ use Rattle.tallies.proofs.pair_word.Tie as tie
 
 returns : tie.Need-returns
 unfolding pairW
-returns c = simp (c .word-of .ensures, c .before .tally-when3 .ensures, c .before .before .tally-when2 .ensures, c .before .before .before .tally-when .ensures, c .before .before .before .before .one-tally .ensures, c .before .before .before .before .before .skip-tally .ensures)
+returns c =
+    let done = c .before .before .before in
+    simp (
+      c .word-of .ensures,
+      c .before .tally-when3 .ensures,
+      c .before .before .tally-when2 .ensures,
+      done .tally-when .ensures,
+      done .before .one-tally .ensures,
+      done .before .before .skip-tally .ensures,
+    )
 
 pub pair-word-spec : {M : Type 1} → statement M
 pair-word-spec = tie.close (tie.spec (λ _ _. tt) (λ _ _. tt) (λ _ _. tt) (λ _ _. tt) (λ _ _. tt) (λ _ _. tt) returns)

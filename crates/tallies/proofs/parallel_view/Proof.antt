@@ -15,7 +15,14 @@ both-end-requires-3 c κs = search needs
 
 returns : tie.Need-returns
 unfolding parV
-returns c = simp (c .view-of .ensures, c .before .both-end3 .ensures, c .before .before .both-end2 .ensures, c .before .before .before .both-end .ensures, c .before .before .before .before .sum .ensures)
+returns c =
+    simp (
+      c .view-of .ensures,
+      c .before .both-end3 .ensures,
+      c .before .before .both-end2 .ensures,
+      c .before .before .before .both-end .ensures,
+      c .before .before .before .before .sum .ensures,
+    )
 
 pub parallel-view-spec : {M : Type 1} → statement M
 parallel-view-spec = tie.close (tie.spec (λ _ _. tt) both-end-requires both-end-requires-2 both-end-requires-3 (λ _ _. tt) returns)

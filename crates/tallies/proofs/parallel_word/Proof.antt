@@ -15,7 +15,14 @@ both-tally-requires-3 c κs = search needs
 
 returns : tie.Need-returns
 unfolding cparW
-returns c = simp (c .word-of .ensures, c .before .both-tally3 .ensures, c .before .before .both-tally2 .ensures, c .before .before .before .both-tally .ensures, c .before .before .before .before .sum .ensures)
+returns c =
+    simp (
+      c .word-of .ensures,
+      c .before .both-tally3 .ensures,
+      c .before .before .both-tally2 .ensures,
+      c .before .before .before .both-tally .ensures,
+      c .before .before .before .before .sum .ensures,
+    )
 
 pub parallel-word-spec : {M : Type 1} → statement M
 parallel-word-spec = tie.close (tie.spec (λ _ _. tt) both-tally-requires both-tally-requires-2 both-tally-requires-3 (λ _ _. tt) returns)

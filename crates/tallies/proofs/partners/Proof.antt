@@ -15,7 +15,14 @@ fitting-requires-3 c κs = search needs
 
 returns : tie.Need-returns
 unfolding partnersT
-returns c = simp (c .plus2 .ensures, c .before .fitting3 .ensures, c .before .before .plus .ensures, c .before .before .before .fitting2 .ensures, c .before .before .before .before .fitting .ensures)
+returns c =
+    simp (
+      c .plus2 .ensures,
+      c .before .fitting3 .ensures,
+      c .before .before .plus .ensures,
+      c .before .before .before .fitting2 .ensures,
+      c .before .before .before .before .fitting .ensures,
+    )
 
 pub partners-spec : {M : Type 1} → statement M
 partners-spec = tie.close (tie.spec fitting-requires fitting-requires-2 (λ _ _. tt) fitting-requires-3 (λ _ _. tt) returns)
