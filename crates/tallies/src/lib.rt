@@ -454,12 +454,16 @@ pub fn partners(q: Word, u: u8, x: u8) -> Tally
     )
 }
 
-// Compensations of both sides, where the first ends by x and both by u.
-fn first_tally(p: Word, q: Word, u: u8, x: u8) -> Tally
+// Of all k beside what goes with it, k of t: where the first side ends by x and both by u. Most lists are empty, so this is told before
+// what goes with them is put together.
+fn beside_partners(t: Tally, q: Word, u: u8, x: u8) -> Tally
     requires { ⌜ (u < 3) × (x < 3) ⌝ }
-    ensures { λ r. ⌜ r ≡ parT (byW p (closing x)) (partnersT q (closing u) (closing x)) ⌝ }
+    ensures { λ r. ⌜ r ≡ parT t (partnersT q (closing u) (closing x)) ⌝ }
 {
-    parallel_tally(tally_by(p, x), partners(q, u, x))
+    if t.many == 0 {
+        return no_tally();
+    }
+    parallel_tally(t, partners(q, u, x))
 }
 
 // Compensations of both sides, where both end by u.
@@ -469,10 +473,10 @@ fn both_tally(p: Word, q: Word, u: u8) -> Tally
 {
     plus(
         plus(
-            first_tally(p, q, u, RANK_DONE),
-            first_tally(p, q, u, RANK_WITHDRAWN),
+            beside_partners(p.done, q, u, RANK_DONE),
+            beside_partners(p.withdrawn, q, u, RANK_WITHDRAWN),
         ),
-        first_tally(p, q, u, RANK_FAILED),
+        beside_partners(p.failed, q, u, RANK_FAILED),
     )
 }
 

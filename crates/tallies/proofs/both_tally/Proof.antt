@@ -4,25 +4,25 @@ use borrow.Author.Needs.{needs}
 use Rattle.tallies.proofs.both_tally.Statement.{statement}
 use Rattle.tallies.proofs.both_tally.Tie as tie
 
-first-tally-requires : tie.Need-first-tally-requires
-first-tally-requires c κs = search needs
+beside-partners-requires : tie.Need-beside-partners-requires
+beside-partners-requires c κs = search needs
 
-first-tally-requires-2 : tie.Need-first-tally-requires-2
-first-tally-requires-2 c κs = search needs
+beside-partners-requires-2 : tie.Need-beside-partners-requires-2
+beside-partners-requires-2 c κs = search needs
 
-first-tally-requires-3 : tie.Need-first-tally-requires-3
-first-tally-requires-3 c κs = search needs
+beside-partners-requires-3 : tie.Need-beside-partners-requires-3
+beside-partners-requires-3 c κs = search needs
 
 returns : tie.Need-returns
 unfolding bothT
 returns c =
     simp (
       c .plus2 .ensures,
-      c .before .first-tally3 .ensures,
+      c .before .beside-partners3 .ensures,
       c .before .before .plus .ensures,
-      c .before .before .before .first-tally2 .ensures,
-      c .before .before .before .before .first-tally .ensures,
+      c .before .before .before .beside-partners2 .ensures,
+      c .before .before .before .before .beside-partners .ensures,
     )
 
 pub both-tally-spec : {M : Type 1} → statement M
-both-tally-spec = tie.close (tie.spec first-tally-requires first-tally-requires-2 (λ _ _. tt) first-tally-requires-3 (λ _ _. tt) returns)
+both-tally-spec = tie.close (tie.spec beside-partners-requires beside-partners-requires-2 (λ _ _. tt) beside-partners-requires-3 (λ _ _. tt) returns)
