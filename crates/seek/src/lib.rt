@@ -95,7 +95,7 @@ fn own_weight(ns: &[u16], a: u16, t: &[u8], i: usize, w: u8, g: Weight) -> u32
     ensures { λ r. ⌜ r ≡ own-of (now (ns .entry)) (now (t .entry)) a i (closing w) g ⌝ }
 {
     tallies::weight_total(
-        tallies::tally_when(w != tallies::DONE, tally_at(ns, a, t, i, w)),
+        tallies::tally_when(w != tallies::RANK_DONE, tally_at(ns, a, t, i, w)),
         g,
     )
 }
@@ -137,8 +137,8 @@ fn first_ending(p: Word, q: Word, w: u8, g: Weight, j: u32) -> Fall
     ensures { λ r. ⌜ Fallen (total (byW p done) (besideG (partnersT q (closing w) done) g)) (total (byW p withdrawn) (besideG (partnersT q (closing w) withdrawn) g)) j (r .ending) (r .rest) ⌝ }
 {
     ending_at(
-        side_weight(p, q, w, tallies::DONE, g),
-        side_weight(p, q, w, tallies::WITHDRAWN, g),
+        side_weight(p, q, w, tallies::RANK_DONE, g),
+        side_weight(p, q, w, tallies::RANK_WITHDRAWN, g),
         j,
     )
 }
@@ -157,8 +157,8 @@ fn second_ending(q: Word, w: u8, x: u8, g: Weight, j: u32) -> Fall
     ensures { λ r. ⌜ Fallen (total (fittingT q (closing w) (closing x) done) g) (total (fittingT q (closing w) (closing x) withdrawn) g) j (r .ending) (r .rest) ⌝ }
 {
     ending_at(
-        fitting_weight(q, w, x, tallies::DONE, g),
-        fitting_weight(q, w, x, tallies::WITHDRAWN, g),
+        fitting_weight(q, w, x, tallies::RANK_DONE, g),
+        fitting_weight(q, w, x, tallies::RANK_WITHDRAWN, g),
         j,
     )
 }
@@ -196,7 +196,7 @@ fn seek_pair(ns: &[u16], a: u16, t: &mut [u8], i: usize, w: u8, j: u32) -> Sough
     requires { ⌜ getD (now ns) (3 * i) 0 ≡ 10 ⌝ }
     ensures { λ r. ⌜ PairChosen (now (ns .entry)) (now (t .entry)) a i (closing w) j (now (t .exit)) (r .rest) (r .moves) (r .able) ⌝ }
 {
-    if w == tallies::DONE {
+    if w == tallies::RANK_DONE {
         states::set_mode(t, i, LEFT_Q);
         let mut c = [0u32; 64];
         let v = counting::count_std(ns, t, a, &mut c, states::second_child(ns, i));
@@ -282,7 +282,7 @@ fn seek_running(ns: &[u16], a: u16, t: &mut [u8], i: usize, w: u8, g: Weight, j:
         return seek_marked(ns, a, t, i, LEFT_ONE, f, w, g, j);
     }
     let before = weight_before(ns, a, t, states::second_child(ns, i), w, g);
-    let k = seek(ns, a, t, f, tallies::DONE, before, j - own);
+    let k = seek(ns, a, t, f, tallies::RANK_DONE, before, j - own);
     seek_second(ns, a, t, i, w, g, k)
 }
 

@@ -104,7 +104,7 @@ fn turn_on(ns: &[u16], a: u16, c: &[u32; 64], t: &mut [u8], i: usize, k: u32) ->
         moves: 0,
         able: 0,
     };
-    let x = seek::seek(ns, a, t, f, tallies::DONE, each, k - n);
+    let x = seek::seek(ns, a, t, f, tallies::RANK_DONE, each, k - n);
     let rest = x.rest;
     Turn { node: s, at: rest }
 }
@@ -189,7 +189,7 @@ fn turn_out(
         moves: 1,
         able: 0,
     };
-    let x = seek::seek(ns, a, t, f, tallies::FAILED, each, k - n);
+    let x = seek::seek(ns, a, t, f, tallies::RANK_FAILED, each, k - n);
     counting::count_left(ns, t, a, d, f);
     x.rest
 }

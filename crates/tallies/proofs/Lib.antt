@@ -1,3 +1,3 @@
+pub mod Beside
 pub mod Closings
 pub mod Products
-pub mod Words

@@ -14,10 +14,10 @@ use Rattle.calculus.specs.Successors.{eqc, closings, only, some-of, each, any-a
 use Rattle.calculus.specs.Equations.{ends-seq, ends-hnd, ends-alt, ends-par, ends-blk, comps-pair, comps-cseq, comps-calt, comps-cpar, comps-held, steps-seq, steps-hnd, steps-alt, steps-par, steps-blk, csteps-pair, csteps-cseq, csteps-calt, csteps-cpar, csteps-held}
 use Rattle.tallies.specs.Capped.{cap}
 use Rattle.tallies.specs.CappedLaws.{cap-add, cap-mul, cap-mul-right, capped-sum, capped-product, capped-products}
-use Rattle.tallies.specs.Formulas.{viewed, skipV, throwV, yieldV, evV, altV, seqV, hndV, either-withdraws, either-fails, parV, tallied, some?, noneT, oneT, whenT, plusT, seqT, parT, worded, byW, blkV, pairW, cseqW, heldW, caltW, cparW, skippW, throwwW, yielddW, fittingT, partnersT, total}
+use Rattle.tallies.specs.Formulas.{viewed, skipV, throwV, yieldV, evV, altV, seqV, hndV, endsV, meetV, bothV, parV, tallied, some?, noneT, oneT, whenT, plusT, seqT, anyV, parT, overT, worded, byW, blkV, pairW, cseqW, heldW, caltW, cparW, skippW, throwwW, yielddW, fittingT, partnersT, bothT, total}
 use Rattle.tallies.specs.Counts.{sum-of, moves, able, view, tally, word, weight}
 use Rattle.tallies.specs.Grids.{afters, besides, partners}
-use Rattle.tallies.specs.SumsLaws.{turned, numbers, truths, sum-append, sum-plus, sum-products, sum-products₂, grid-nil, sum-right, sum-same, length-is, length-each, length-grid}
+use Rattle.tallies.specs.SumsLaws.{turned, numbers, truths, sum-append, sum-plus, sum-products, sum-products₂, sum-pairs, grid-nil, sum-right, sum-same, length-is, length-each, length-grid}
 use Rattle.tallies.specs.declared.View.{View}
 use Rattle.tallies.specs.declared.Tally.{Tally}
 use Rattle.tallies.specs.declared.Weight.{Weight}
@@ -28,13 +28,11 @@ pub both-done : (p q : Std) → ends (par p q) done ≡ (ends p done && ends q d
 unfolding some-of
 both-done p q = ends-par p q done ∙ or-false _ ∙ or-false _
 
-pub both-withdrawn : (p q : Std) → ends (par p q) withdrawn ≡ either-withdraws (ends p done) (ends p withdrawn) (ends q done) (ends q withdrawn)
-unfolding some-of
-both-withdrawn p q = ends-par p q withdrawn ∙ simp (or-false, and-or-distrib-left, or-comm)
-
-pub both-failed : (p q : Std) → ends (par p q) failed ≡ either-fails (ends p done) (ends p withdrawn) (ends p failed) (ends q done) (ends q withdrawn) (ends q failed)
-unfolding some-of
-both-failed p q = ends-par p q failed ∙ simp (or-false, and-or-distrib-left, and-or-distrib-right, or-comm, or-assoc)
+-- two sides end together by the views of them
+both-by : {p q : View} (u : Closing) {f g : Closing → Bool} → ((x : Closing) → f x ≡ endsV p x) → ((y : Closing) → g y ≡ endsV q y) →
+    some-of (λ x. some-of (λ y. eqc u (join x y) && (f x && g y)) closings) closings ≡ bothV p q u
+unfolding bothV meetV
+both-by u d e = ap₂ (λ f g. some-of (λ x. some-of (λ y. eqc u (join x y) && (f x && g y)) closings) closings) (fun-ext d) (fun-ext e)
 
 -- a part that goes on where b: make makes a view of the steps, the ending it goes on from and the two others
 goes-on : (make : ℕ → Bool → Bool → Bool → View) (b : Bool) (m n : ℕ) (y x₁ y₁ x₂ y₂ : Bool) →
@@ -113,9 +111,18 @@ module _ (a : ℕ) where
   unfolding view
   view-alt p q = λ i. viewed ((ap cap (moves-alt p q) ∙ sym (cap-add _ _)) i) (ends-alt p q done i) (ends-alt p q withdrawn i) (ends-alt p q failed i)
 
+  view-ends : (p : Std) (w : Closing) → ends p w ≡ endsV (view a p) w
+  unfolding view
+  view-ends p done = refl
+  view-ends p withdrawn = refl
+  view-ends p failed = refl
+
   pub view-par : (p q : Std) → view a (par p q) ≡ parV (view a p) (view a q)
   unfolding view parV
-  view-par p q = λ i. viewed ((ap cap (moves-par p q) ∙ sym (cap-add _ _)) i) (both-done p q i) (both-withdrawn p q i) (both-failed p q i)
+  view-par p q = λ i. viewed ((ap cap (moves-par p q) ∙ sym (cap-add _ _)) i) (both done i) (both withdrawn i) (both failed i)
+    where
+      both : (u : Closing) → ends (par p q) u ≡ bothV (view a p) (view a q) u
+      both u = ends-par p q u ∙ both-by u (view-ends p) (view-ends q)
 
   pub view-seq : (p q : Std) → view a (seq p q) ≡ seqV (view a p) (view a q)
   unfolding view able seqV
@@ -172,19 +179,6 @@ map-chosen h b g (v ∷ vs) = map-append h (only (b v) (g v)) _ ∙ ap₂ _++_ (
 pub comps-partners : (pp qq : Cmp) (u : Closing) → comps (cpar pp qq) u ≡ each closings (λ w. besides (comps pp w) (partners (comps qq) u w))
 unfolding partners
 comps-partners pp qq u = comps-cpar pp qq u ∙ ap (each closings) (fun-ext (λ w. ap (each (comps pp w)) (fun-ext (λ k. sym (map-chosen (par k) (λ v. eqc u (join w v)) (comps qq) closings)))))
-
-module _ (pp qq : Cmp) where
-  pub comps-done : comps (cpar pp qq) done ≡ besides (comps pp done) (comps qq done)
-  unfolding partners
-  comps-done = comps-partners pp qq done ∙ simp (append-nil, grid-nil)
-
-  pub comps-withdrawn : comps (cpar pp qq) withdrawn ≡ besides (comps pp done) (comps qq withdrawn) ++ besides (comps pp withdrawn) (comps qq done ++ comps qq withdrawn)
-  unfolding partners
-  comps-withdrawn = comps-partners pp qq withdrawn ∙ simp (append-nil, grid-nil)
-
-  pub comps-failed : comps (cpar pp qq) failed ≡ (besides (comps pp done) (comps qq failed) ++ besides (comps pp withdrawn) (comps qq failed)) ++ besides (comps pp failed) ((comps qq done ++ comps qq withdrawn) ++ comps qq failed)
-  unfolding partners
-  comps-failed = comps-partners pp qq failed ∙ simp (append-nil, append-assoc)
 
 module _ (a : ℕ) where
   pub tally-nil : tally a [] ≡ noneT
@@ -250,24 +244,36 @@ module _ (a : ℕ) where
       sum-products₂ numbers par (moves a) ks ls (moves a) (λ k. 1) (λ l. 1) (moves a) (λ k l. moves-par a k l ∙ ap₂ _+_ (sym (mul-one (moves a k))) (sym (one-mul (moves a l))))
       ∙ ap₂ (λ y z. sum-of (moves a) ks * y + z * sum-of (moves a) ls) (sym (length-is ls)) (sym (length-is ks))
 
+  any-ends : (l : List Std) (w : Closing) → some-of (λ k. ends k w) l ≡ endsV (anyV (tally a l)) w
+  unfolding tally
+  any-ends l done = some-able l
+  any-ends l withdrawn = refl
+  any-ends l failed = refl
+
+  some-besides : (u : Closing) (ks ls : List Std) → some-of (λ k. ends k u) (besides ks ls) ≡ bothV (anyV (tally a ks)) (anyV (tally a ls)) u
+  some-besides u ks ls =
+      sum-pairs truths par (λ k. ends k u) ks ls closings closings (λ x y. eqc u (join x y)) (λ x k. ends k x) (λ y l. ends l y) (λ p q. ends-par p q u)
+      ∙ both-by u (any-ends ks) (any-ends ls)
+
   pub tally-par : (ks ls : List Std) → tally a (besides ks ls) ≡ parT (tally a ks) (tally a ls)
   unfolding tally parT each
   tally-par = guarded (λ ks ls. tally a (besides ks ls)) (λ ks ls. noneT) (λ ks ls. noneT) _ (λ ls. tally-nil) (λ k ks. ap (tally a) (grid-nil par (k ∷ ks)) ∙ tally-nil) (λ x y xs ys.
       let ks = x ∷ xs in
       let ls = y ∷ ys in
-      let d : Std → Bool = λ x. ends x done in
-      let w : Std → Bool = λ x. ends x withdrawn in
-      let f : Std → Bool = λ x. ends x failed in
       λ i. tallied
       (capped-product _ _ _ (length-grid par ks ls) i)
       (capped-product _ _ _ (sum-products numbers par (able a) ks ls (able a) (able a) (able-par a)) i)
       (capped-products _ _ _ _ _ (moves-besides ks ls) i)
-      ((sum-products₂ truths par w ks ls w d (λ x. d x || w x) w both-withdrawn
-      ∙ ap (λ z. (some-of w ks && z) || (some-of d ks && some-of w ls)) (sum-plus truths d w ls)
-      ∙ ap₂ (λ y z. either-withdraws y (some-of w ks) z (some-of w ls)) (some-able ks) (some-able ls)) i)
-      ((sum-products₂ truths par f ks ls f (λ x. d x || w x) (λ x. d x || (w x || f x)) f both-failed
-      ∙ ap₂ (λ y z. (some-of f ks && y) || (z && some-of f ls)) (sum-plus truths d (λ x. w x || f x) ls ∙ ap (λ z. some-of d ls || z) (sum-plus truths w f ls)) (sum-plus truths d w ks)
-      ∙ ap₂ (λ y z. either-fails y (some-of w ks) (some-of f ks) z (some-of w ls) (some-of f ls)) (some-able ks) (some-able ls)) i))
+      (some-besides withdrawn ks ls i)
+      (some-besides failed ks ls i))
+
+  -- of three lists, one for each closing
+  tally-each : (l : Closing → List Std) → tally a (each closings l) ≡ overT (λ w. tally a (l w))
+  unfolding each
+  tally-each l =
+      ap (tally a) (ap (λ z. l done ++ (l withdrawn ++ z)) (append-nil (l failed)) ∙ sym (append-assoc (l done) (l withdrawn) (l failed)))
+      ∙ tally-append (l done ++ l withdrawn) (l failed)
+      ∙ ap (λ z. plusT z (tally a (l failed))) (tally-append (l done) (l withdrawn))
 
   -- Words -----------------------------------------------------------------------------------------------------------------
 
@@ -337,27 +343,19 @@ module _ (a : ℕ) where
       either : (w : Closing) → tally a (comps (calt pp qq) w) ≡ plusT (tally a (comps pp w)) (tally a (comps qq w))
       either w = ap (tally a) (comps-calt pp qq w) ∙ tally-append (comps pp w) (comps qq w)
 
-  module _ (pp qq : Cmp) where
-    tally-withdrawn : tally a (comps (cpar pp qq) withdrawn) ≡ plusT (parT (tally a (comps pp done)) (tally a (comps qq withdrawn))) (parT (tally a (comps pp withdrawn)) (plusT (tally a (comps qq done)) (tally a (comps qq withdrawn))))
-    tally-withdrawn = ap (tally a) (comps-withdrawn pp qq) ∙ simp (tally-append, tally-par)
-
-    tally-failed : tally a (comps (cpar pp qq) failed) ≡ plusT (plusT (parT (tally a (comps pp done)) (tally a (comps qq failed))) (parT (tally a (comps pp withdrawn)) (tally a (comps qq failed)))) (parT (tally a (comps pp failed)) (plusT (plusT (tally a (comps qq done)) (tally a (comps qq withdrawn))) (tally a (comps qq failed))))
-    tally-failed = ap (tally a) (comps-failed pp qq) ∙ simp (tally-append, tally-par)
-
-    pub word-cpar : word a (cpar pp qq) ≡ cparW (word a pp) (word a qq)
-    unfolding cparW word
-    word-cpar = word-by (cpar pp qq) (capped-sum _ _ _ (ap length (csteps-cpar pp qq a) ∙ simp (length-append, length-map))) (ap (tally a) (comps-done pp qq) ∙ tally-par (comps pp done) (comps qq done)) tally-withdrawn tally-failed
-
   pub word-partners : (qq : Cmp) (u w : Closing) → tally a (partners (comps qq) u w) ≡ partnersT (word a qq) u w
-  unfolding partners partnersT
-  word-partners qq u w =
-      let p : Closing → List Std = λ v. only (eqc u (join w v)) (comps qq v) in
-      ap (tally a) (ap (λ l. p done ++ (p withdrawn ++ l)) (append-nil (p failed)) ∙ sym (append-assoc (p done) (p withdrawn) (p failed)))
-      ∙ tally-append (p done ++ p withdrawn) (p failed)
-      ∙ ap₂ plusT (tally-append (p done) (p withdrawn) ∙ ap₂ plusT (fit done) (fit withdrawn)) (fit failed)
+  unfolding partners partnersT fittingT
+  word-partners qq u w = tally-each (λ v. only (eqc u (join w v)) (comps qq v)) ∙ ap overT (fun-ext (λ v. tally-only (eqc u (join w v)) (comps qq v) ∙ ap (whenT (eqc u (join w v))) (sym (by-word qq v))))
+
+  pub word-cpar : (pp qq : Cmp) → word a (cpar pp qq) ≡ cparW (word a pp) (word a qq)
+  unfolding cparW bothT word
+  word-cpar pp qq = word-by (cpar pp qq) (capped-sum _ _ _ (ap length (csteps-cpar pp qq a) ∙ simp (length-append, length-map))) (both done) (both withdrawn) (both failed)
     where
-      fit : (v : Closing) → tally a (only (eqc u (join w v)) (comps qq v)) ≡ fittingT (word a qq) u w v
-      fit v = tally-only (eqc u (join w v)) (comps qq v) ∙ ap (whenT (eqc u (join w v))) (sym (by-word qq v))
+      both : (u : Closing) → tally a (comps (cpar pp qq) u) ≡ bothT (word a pp) (word a qq) u
+      both u =
+          ap (tally a) (comps-partners pp qq u)
+          ∙ tally-each (λ w. besides (comps pp w) (partners (comps qq) u w))
+          ∙ ap overT (fun-ext (λ w. tally-par (comps pp w) (partners (comps qq) u w) ∙ ap₂ parT (sym (by-word pp w)) (word-partners qq u w)))
 
   -- Weights ---------------------------------------------------------------------------------------------------------------
 

@@ -1,15 +1,31 @@
 -- The formulas that the code of this crate computes: views, tallies, words and weights of a whole from those of its parts. What
 -- they mean for terms is in Counts, and that they are right in CountsLaws. Definitions only. Assumes nothing.
+--
+-- A name ends in the letter of what it makes: V a view, T a tally, W a word, G a weight; one that reads something out of views or of
+-- a word ends in theirs (endsV, meetV, bothV, byW). It begins with the calculus's own word for the whole (skip throw yield ev seq
+-- alt par hnd blk; pair cseq held calt cpar skipp throww yieldd), or with what is done to tallies or weights (none one when plus over
+-- fitting partners both; after inside beside within). Of two sides p and q that end by x and y, both end by u.
 use Prim.Native.Nat.{ℕ, _+_, _*_}
 use mathlib.Core.Bool.{Bool, true, false, not, _&&_, _||_, cond}
 use lib.Dec.{eqb}
 use Rattle.calculus.specs.Term.{Closing, done, withdrawn, failed, join}
-use Rattle.calculus.specs.Successors.{eqc}
+use Rattle.calculus.specs.Successors.{eqc, closings, some-of}
 use Rattle.tallies.specs.Capped.{cap}
 use Rattle.tallies.specs.declared.View.{View}
 use Rattle.tallies.specs.declared.Tally.{Tally}
 use Rattle.tallies.specs.declared.Word.{Word}
 use Rattle.tallies.specs.declared.Weight.{Weight}
+
+-- Closings --------------------------------------------------------------------------------------------------------------
+
+-- a closing by its rank
+abbrev pub closing : ℕ → Closing
+closing n = cond (eqb n 0) done (cond (eqb n 1) withdrawn failed)
+
+abbrev pub rank : Closing → ℕ
+rank done = 0
+rank withdrawn = 1
+rank failed = 2
 
 -- Views -----------------------------------------------------------------------------------------------------------------
 
@@ -38,15 +54,21 @@ seqV p q = cond (p .done) (viewed (cap (p .moves + q .moves)) (q .done) (p .with
 unfoldable pub hndV : View → View → View
 hndV p q = cond (p .fails) (viewed (cap (p .moves + q .moves)) (p .done || q .done) (p .withdraws || q .withdraws) (q .fails)) p
 
--- by Table 1 of 002: withdrawn with what has not failed, failed with whatever ends
-abbrev pub either-withdraws : Bool → Bool → Bool → Bool → Bool
-either-withdraws pd pw qd qw = (pw && (qd || qw)) || (pd && qw)
+abbrev pub endsV : View → Closing → Bool
+endsV v done = v .done
+endsV v withdrawn = v .withdraws
+endsV v failed = v .fails
 
-abbrev pub either-fails : Bool → Bool → Bool → Bool → Bool → Bool → Bool
-either-fails pd pw pf qd qw qf = (pf && (qd || (qw || qf))) || ((pd || pw) && qf)
+-- p can end by x and q by y, and both end by u then
+unfoldable pub meetV : View → View → Closing → Closing → Closing → Bool
+meetV p q u x y = eqc u (join x y) && (endsV p x && endsV q y)
+
+-- two sides can end by u together
+unfoldable pub bothV : View → View → Closing → Bool
+bothV p q u = some-of (λ x. some-of (meetV p q u x) closings) closings
 
 unfoldable pub parV : View → View → View
-parV p q = viewed (cap (p .moves + q .moves)) (p .done && q .done) (either-withdraws (p .done) (p .withdraws) (q .done) (q .withdraws)) (either-fails (p .done) (p .withdraws) (p .fails) (q .done) (q .withdraws) (q .fails))
+parV p q = viewed (cap (p .moves + q .moves)) (bothV p q done) (bothV p q withdrawn) (bothV p q failed)
 
 -- Tallies ---------------------------------------------------------------------------------------------------------------
 
@@ -67,7 +89,12 @@ whenT b t = cond b t noneT
 
 -- of two lists, one after the other
 unfoldable pub plusT : Tally → Tally → Tally
-plusT x y = cond (eqb (x .many) 0) y (cond (eqb (y .many) 0) x (tallied (cap (x .many + y .many)) (cap (x .able + y .able)) (cap (x .moves + y .moves)) (x .withdraws || y .withdraws) (x .fails || y .fails)))
+plusT x y = cond (eqb (x .many) 0) y (cond (eqb (y .many) 0) x (tallied
+    (cap (x .many + y .many))
+    (cap (x .able + y .able))
+    (cap (x .moves + y .moves))
+    (x .withdraws || y .withdraws)
+    (x .fails || y .fails)))
 
 -- of all l;k, l of x and k of y
 unfoldable pub seqT : Tally → Tally → Tally
@@ -78,14 +105,22 @@ seqT x y = cond (eqb (x .many) 0) noneT (cond (eqb (y .many) 0) noneT (tallied
     (x .withdraws || (some? (x .able) && y .withdraws))
     (x .fails || (some? (x .able) && y .fails))))
 
--- of all k beside l, k of x and l of y
+-- one term that can end as some of a tally can
+abbrev pub anyV : Tally → View
+anyV t = viewed 0 (some? (t .able)) (t .withdraws) (t .fails)
+
+-- of all k beside l, k of x and l of y; those that can end done multiply, since only done and done join to done
 unfoldable pub parT : Tally → Tally → Tally
 parT x y = cond (eqb (x .many) 0) noneT (cond (eqb (y .many) 0) noneT (tallied
     (cap (x .many * y .many))
     (cap (x .able * y .able))
     (cap (cap (x .moves * y .many) + cap (x .many * y .moves)))
-    (either-withdraws (some? (x .able)) (x .withdraws) (some? (y .able)) (y .withdraws))
-    (either-fails (some? (x .able)) (x .withdraws) (x .fails) (some? (y .able)) (y .withdraws) (y .fails))))
+    (bothV (anyV x) (anyV y) withdrawn)
+    (bothV (anyV x) (anyV y) failed)))
+
+-- of three lists, one for each closing, one after the other
+abbrev pub overT : (Closing → Tally) → Tally
+overT f = plusT (plusT (f done) (f withdrawn)) (f failed)
 
 -- Words -----------------------------------------------------------------------------------------------------------------
 
@@ -98,34 +133,48 @@ byW x withdrawn = x .withdrawn
 byW x failed = x .failed
 
 unfoldable pub blkV : Word → View
-blkV x = viewed (cap (x .moves + x .failed .moves)) (some? (x .done .many) || some? (x .failed .able)) (x .failed .withdraws) (x .failed .fails)
+blkV x = viewed
+    (cap (x .moves + x .failed .moves))
+    (some? (x .done .many) || some? (x .failed .able))
+    (x .failed .withdraws)
+    (x .failed .fails)
 
 -- P÷Q
 unfoldable pub pairW : View → View → Word
 pairW p q = worded (p .moves) (whenT (p .done) (oneT q)) (whenT (p .withdraws) (oneT skipV)) (whenT (p .fails) (oneT skipV))
 
--- PP;QQ before its first part has ended, and after (R is its view)
+-- PP;QQ before its first part has ended, and after it has become what is viewed as r
 unfoldable pub cseqW : Word → Word → Word
-unfolding plusT seqT
-cseqW x y = worded (cap (x .moves + cap (x .done .many * y .moves))) (seqT (y .done) (x .done)) (plusT (x .withdrawn) (seqT (y .withdrawn) (x .done))) (plusT (x .failed) (seqT (y .failed) (x .done)))
+cseqW x y = worded
+    (cap (x .moves + cap (x .done .many * y .moves)))
+    (seqT (y .done) (x .done))
+    (plusT (x .withdrawn) (seqT (y .withdrawn) (x .done)))
+    (plusT (x .failed) (seqT (y .failed) (x .done)))
 
 unfoldable pub heldW : Word → View → Word
-unfolding seqT
 heldW y r = worded (y .moves) (seqT (y .done) (oneT r)) (seqT (y .withdrawn) (oneT r)) (seqT (y .failed) (oneT r))
 
 unfoldable pub caltW : Word → Word → Word
-unfolding plusT
-caltW x y = worded (cap (x .moves + y .moves)) (plusT (x .done) (y .done)) (plusT (x .withdrawn) (y .withdrawn)) (plusT (x .failed) (y .failed))
+caltW x y = worded
+    (cap (x .moves + y .moves))
+    (plusT (x .done) (y .done))
+    (plusT (x .withdrawn) (y .withdrawn))
+    (plusT (x .failed) (y .failed))
 
--- by Table 1 of 002
+-- compensations of the second side by y, where the first ends by x and both by u
+unfoldable pub fittingT : Word → Closing → Closing → Closing → Tally
+fittingT q u x y = whenT (eqc u (join x y)) (byW q y)
+
+-- all that go with an ending x of the first side
+unfoldable pub partnersT : Word → Closing → Closing → Tally
+partnersT q u x = overT (fittingT q u x)
+
+-- of both sides
+unfoldable pub bothT : Word → Word → Closing → Tally
+bothT p q u = overT (λ x. parT (byW p x) (partnersT q u x))
+
 unfoldable pub cparW : Word → Word → Word
-unfolding plusT parT
-cparW x y =
-    let n = plusT (y .done) (y .withdrawn) in
-    worded (cap (x .moves + y .moves))
-    (parT (x .done) (y .done))
-    (plusT (parT (x .done) (y .withdrawn)) (parT (x .withdrawn) n))
-    (plusT (plusT (parT (x .done) (y .failed)) (parT (x .withdrawn) (y .failed))) (parT (x .failed) (plusT n (y .failed))))
+cparW x y = worded (cap (x .moves + y .moves)) (bothT x y done) (bothT x y withdrawn) (bothT x y failed)
 
 abbrev pub skippW : Word
 skippW = worded 0 (oneT skipV) noneT noneT
@@ -172,15 +221,3 @@ besideG t g = weighs (cap (cap (g .own * t .many) + cap (g .moves * t .moves))) 
 -- what q weighs beside p, where p has so many steps and can end done or not
 unfoldable pub withinG : Weight → ℕ → Bool → Weight
 withinG g n b = weighs (cap (g .own + cap (g .moves * n))) (g .moves) (cond b (g .able) 0)
-
--- compensations of the second side by y, where the first ends by x and both by u
-unfoldable pub fittingT : Word → Closing → Closing → Closing → Tally
-fittingT q u x y = whenT (eqc u (join x y)) (byW q y)
-
-unfoldable pub partnersT : Word → Closing → Closing → Tally
-unfolding fittingT plusT
-partnersT q u x = plusT (plusT (fittingT q u x done) (fittingT q u x withdrawn)) (fittingT q u x failed)
-
--- a closing as a small number
-abbrev pub closing : ℕ → Closing
-closing n = cond (eqb n 0) done (cond (eqb n 1) withdrawn failed)

@@ -7,8 +7,10 @@ pub mod Grids
 pub mod Sought
 -- Laws.
 pub mod CappedLaws
+pub mod RankLaws
 pub mod SumsLaws
 pub mod CountsLaws
 pub mod PlacesLaws
 pub mod SeekLaws
 pub mod StepLaws
+pub mod RuledOut

@@ -4,7 +4,7 @@ use Prim.Native.Nat.{ℕ, suc, _+_, _-_, _≤_, _<_}
 use native.Mathlib.Omega.{arith}
 use native.Mathlib.Nat.{suc-add}
 use mathlib.Core.Path.{_≡_, refl}
-use mathlib.Core.Bool.{Bool, true}
+use mathlib.Core.Bool.{Bool, true, false}
 use mathlib.Core.List.{List, [], _∷_, _++_, map}
 use lib.Dec.{T}
 use lib.ListN.{length, drop}
@@ -107,7 +107,13 @@ module _ {A : Type 0} (f g : A → ℕ) (e : (x : A) → cap (f x) ≡ cap (g x)
   sum-cap [] = refl
   sum-cap (x ∷ l) = omega (arith, e x, sum-cap l)
 
-module _ {A : Type 0} (f g : A → ℕ) (e : (x : A) → f x ≡ g x) where
-  pub finds-same : {l : List A} {j : ℕ} {x : A} {r : ℕ} → Finds f l j x r → Finds g l j x r
-  finds-same (Finds.here {x} {r} h) = Finds.here {x = x} {r = r} (omega (arith, e x))
-  finds-same (Finds.past {y} {j} h) = finds-is (omega (arith, e y)) (Finds.past (finds-same h))
+-- What lies below the size of a list that is there under a condition -------------------------------------------------------
+
+module _ {A : Type 0} (size : List A → ℕ) (none : size [] ≡ 0) (b : Bool) (l : List A) {k : ℕ} where
+  pub only-holds : k < cap (size (only b l)) → T b
+  unfolding only
+  only-holds = elim b [ true ↦ λ h. tt | false ↦ λ h. omega arith ]
+
+  pub only-room : k < cap (size (only b l)) → k < cap (size l)
+  unfolding only
+  only-room = elim b [ true ↦ λ h. h | false ↦ λ h. omega arith ]

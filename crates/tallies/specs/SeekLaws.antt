@@ -3,6 +3,7 @@
 -- a is the event of the next record. Theorems only. Assumes nothing.
 use Prim.Native.Nat.{ℕ, _+_, _*_, _-_, _≤_, _<_}
 use native.Mathlib.Omega.{arith}
+use native.Mathlib.Nat.{mul-comm}
 use mathlib.Core.Path.{_≡_, refl, sym, _∙_, ap, ap₂}
 use mathlib.Core.Logic.{_≢_}
 use mathlib.Core.Bool.{Bool, true, false, not, _&&_, cond}
@@ -14,13 +15,13 @@ use Rattle.calculus.specs.Successors.{eqc, closings, only, ends, comps, csteps}
 use Rattle.calculus.specs.Equations.{ends-skip, ends-seq, steps-skip, comps-pair, comps-cseq, comps-calt, comps-held}
 use Rattle.tallies.specs.Capped.{cap}
 use Rattle.tallies.specs.CappedLaws.{cap-cap, cap-add, cap-add-left, cap-add-right, cap-mul-left, cap-mul-right, cap-sum, cap-product}
-use Rattle.tallies.specs.Formulas.{whenT, byW, total, oneG, afterG, insideG, besideG, withinG, fittingT, partnersT, closing}
+use Rattle.tallies.specs.Formulas.{whenT, byW, weighs, total, oneG, afterG, insideG, besideG, withinG, fittingT, partnersT, closing}
 use Rattle.tallies.specs.Counts.{sum-of, moves, able, view, tally, word, weight}
 use Rattle.tallies.specs.Grids.{besides, partners}
-use Rattle.tallies.specs.SumsLaws.{numbers, sum-append, sum-map, sum-each, sum-by, length-is}
+use Rattle.tallies.specs.SumsLaws.{numbers, number-nil, sum-append, sum-map, sum-each, sum-by, length-is}
 use Rattle.tallies.specs.CountsLaws.{both-done, able-seq, able-par, moves-seq, moves-par, tally-only, by-word, comps-partners, word-partners, weight-total}
 use Rattle.tallies.specs.Places.{At, Finds}
-use Rattle.tallies.specs.PlacesLaws.{at-is, finds-is, finds-left, finds-after, finds-one, finds-rest, finds-rest-le, finds-only, finds-map, finds-each, finds-cap, sum-cap}
+use Rattle.tallies.specs.PlacesLaws.{at-is, finds-is, finds-left, finds-after, finds-one, finds-rest, finds-rest-le, finds-only, finds-map, finds-each, finds-cap, sum-cap, only-holds, only-room}
 use Rattle.tallies.specs.Sought.{Sought, Falls, by-closing}
 use Rattle.tallies.specs.declared.View.{View}
 use Rattle.tallies.specs.declared.Tally.{Tally}
@@ -46,19 +47,33 @@ able-times : (n : ℕ) (b : Bool) → cond b n 0 ≡ n * cond b 1 0
 able-times n true = omega arith
 able-times n false = omega arith
 
-module _ (a : ℕ) (g : Weight) where
-  -- what k weighs with all l;k is what they weigh in all
-  sum-after : (k : Std) (l : List Std) → sum-of (λ x. weight a g (seq x k)) l ≡ g .own * length l + g .moves * sum-of (moves a) l + g .moves * sum-of (able a) l * moves a k + g .able * sum-of (able a) l * able a k
+-- what k weighs with all of a list, where an element x and k are put together by `on`: k takes its steps as often as s says
+module _ (a : ℕ) (g : Weight) (on : Std → Std → Std) (s : Std → ℕ) (em : (x k : Std) → moves a (on x k) ≡ moves a x + s x * moves a k) (ea : (x k : Std) → able a (on x k) ≡ able a x * able a k) (k : Std) where
+  sum-with : (l : List Std) → sum-of (λ x. weight a g (on x k)) l ≡ g .own * length l + g .moves * sum-of (moves a) l + g .moves * sum-of s l * moves a k + g .able * sum-of (able a) l * able a k
   unfolding sum-of weight
-  sum-after k [] = omega arith
-  sum-after k (x ∷ l) = let e = sum-after k l in rw (moves-seq a x k, able-seq a x k) (omega arith)
+  sum-with [] = omega arith
+  sum-with (x ∷ l) = let e = sum-with l in rw (em x k, ea x k) (omega arith)
 
+  with-weight : (l : List Std) {n : ℕ} → n ≡ sum-of s l →
+      cap (weight a (weighs (cap (cap (g .own * cap (length l)) + cap (g .moves * cap (sum-of (moves a) l)))) (cap (g .moves * cap n)) (cap (g .able * cap (sum-of (able a) l)))) k)
+      ≡ cap (sum-of (λ x. weight a g (on x k)) l)
+  unfolding weight
+  with-weight l {n} e =
+      three-cap _ (g .own * length l + g .moves * sum-of (moves a) l) _ (g .moves * n * moves a k) _ (g .able * sum-of (able a) l * able a k)
+      (own-cap (g .own) (g .moves) (length l) (sum-of (moves a) l)) (part-cap (g .moves) n (moves a k)) (part-cap (g .able) (sum-of (able a) l) (able a k))
+      ∙ ap (λ z. cap (g .own * length l + g .moves * sum-of (moves a) l + g .moves * z * moves a k + g .able * sum-of (able a) l * able a k)) e
+      ∙ ap cap (sym (sum-with l))
+
+module _ (a : ℕ) (g : Weight) where
+  -- what k weighs with all l;k
   after-weight : (l : List Std) (k : Std) → cap (weight a (afterG (tally a l) g) k) ≡ cap (sum-of (weight a g) (map (λ x. seq x k) l))
-  unfolding weight tally afterG
-  after-weight l k =
-      three-cap _ (g .own * length l + g .moves * sum-of (moves a) l) _ (g .moves * sum-of (able a) l * moves a k) _ (g .able * sum-of (able a) l * able a k)
-      (own-cap (g .own) (g .moves) (length l) (sum-of (moves a) l)) (part-cap (g .moves) (sum-of (able a) l) (moves a k)) (part-cap (g .able) (sum-of (able a) l) (able a k))
-      ∙ ap cap (sym (sum-after k l) ∙ sym (sum-map numbers (weight a g) (λ x. seq x k) l))
+  unfolding tally afterG
+  after-weight l k = with-weight a g seq (able a) (moves-seq a) (able-seq a) k l refl ∙ ap cap (sym (sum-map numbers (weight a g) (λ x. seq x k) l))
+
+  -- what k weighs beside all of a list
+  beside-weight : (l : List Std) (k : Std) → cap (weight a (besideG (tally a l) g) k) ≡ cap (sum-of (λ x. weight a g (par k x)) l)
+  unfolding tally besideG
+  beside-weight l k = with-weight a g (λ x k. par k x) (λ x. 1) (λ x k. let e = moves-par a k x in omega arith) (λ x k. able-par a k x ∙ mul-comm (able a k) (able a x)) k l (length-is l)
 
   -- what l weighs in l;k
   inside-sum : (k x : Std) → g .own + g .moves * moves a x + (g .moves * moves a k + cond (ends k done) (g .able) 0) * able a x ≡ weight a g (seq x k)
@@ -70,19 +85,6 @@ module _ (a : ℕ) (g : Weight) where
   inside-weight k e d x = rw (e, d)
       (three-cap _ (g .own) _ (g .moves * moves a x) _ ((g .moves * moves a k + cond (ends k done) (g .able) 0) * able a x) refl refl (inner-cap (g .moves) (moves a k) (cond (ends k done) (g .able) 0) (able a x))
       ∙ ap cap (inside-sum k x))
-
-  -- what k weighs beside all of a list
-  sum-beside : (k : Std) (l : List Std) → sum-of (λ x. weight a g (par k x)) l ≡ g .own * length l + g .moves * sum-of (moves a) l + g .moves * length l * moves a k + g .able * sum-of (able a) l * able a k
-  unfolding sum-of weight
-  sum-beside k [] = omega arith
-  sum-beside k (x ∷ l) = let e = sum-beside k l in rw (moves-par a k x, able-par a k x) (omega arith)
-
-  beside-weight : (l : List Std) (k : Std) → cap (weight a (besideG (tally a l) g) k) ≡ cap (sum-of (λ x. weight a g (par k x)) l)
-  unfolding weight tally besideG
-  beside-weight l k =
-      three-cap _ (g .own * length l + g .moves * sum-of (moves a) l) _ (g .moves * length l * moves a k) _ (g .able * sum-of (able a) l * able a k)
-      (own-cap (g .own) (g .moves) (length l) (sum-of (moves a) l)) (part-cap (g .moves) (length l) (moves a k)) (part-cap (g .able) (sum-of (able a) l) (able a k))
-      ∙ ap cap (sym (sum-beside k l))
 
   -- what l weighs beside k
   within-sum : (k x : Std) → g .own + g .moves * moves a k + g .moves * moves a x + cond (ends k done) (g .able) 0 * able a x ≡ weight a g (par k x)
@@ -241,20 +243,14 @@ module _ (a : ℕ) (g : Weight) (qq : Cmp) (k : Std) (w : Closing) {j : ℕ} whe
 module _ (a : ℕ) (g : Weight) (pp qq : Cmp) (w : Closing) {c j : ℕ} (d : c ≡ cap (sum-of (weight a g) (only (not (eqc w done)) (comps pp w)))) (h : j < cap (sum-of (weight a g) (comps (cseq pp qq) w))) where
   -- PP closes by w
   module _ (lt : j < c) where
+    own-below : j < cap (sum-of (weight a g) (only (not (eqc w done)) (comps pp w)))
+    own-below = omega arith
+
     own-holds : T (not (eqc w done))
-    unfolding only sum-of
-    own-holds = by (not (eqc w done)) d
-      where
-        by : (b : Bool) → c ≡ cap (sum-of (weight a g) (only b (comps pp w))) → T b
-        by true z = tt
-        by false z = omega arith
+    own-holds = only-holds (sum-of (weight a g)) (number-nil _) (not (eqc w done)) (comps pp w) own-below
 
     pub seek-own-room : j < cap (sum-of (weight a g) (comps pp w))
-    unfolding only
-    seek-own-room = by (not (eqc w done)) own-holds d
-      where
-        by : (b : Bool) → T b → c ≡ cap (sum-of (weight a g) (only b (comps pp w))) → j < cap (sum-of (weight a g) (comps pp w))
-        by true t z = omega arith
+    seek-own-room = only-room (sum-of (weight a g)) (number-nil _) (not (eqc w done)) (comps pp w) own-below
 
     pub seek-own : {k : Std} {r n : ℕ} {b : Bool} → Sought a g (comps pp w) j k r n b → Sought a g (comps (cseq pp qq) w) j k r n b
     seek-own s = sought-first a g _ _ _ (comps-cseq pp qq w) (sought-in s (finds-only (not (eqc w done)) own-holds (s .found)))
@@ -361,21 +357,15 @@ module _ (a : ℕ) (g : Weight) (pp qq : Cmp) (u : Closing) {xw yw : Word} (ex :
             let k = finds-rest-le f in omega arith
 
         module _ {y : Closing} {i′ : ℕ} (f′ : Finds v closings r y i′) where
+          last-below : i′ < cap (sum-of (weight a g₂) (side qq u x y))
+          last-below = let z = second-total y in let m = finds-rest f′ in omega arith
+
           fits : T (eqc u (join x y))
-          unfolding only sum-of
-          fits = by (eqc u (join x y)) (second-total y)
-            where
-              by : (c : Bool) → v y ≡ cap (sum-of (weight a g₂) (only c (comps qq y))) → T c
-              by true z = tt
-              by false z = let y = finds-rest f′ in omega arith
+          fits = only-holds (sum-of (weight a g₂)) (number-nil _) (eqc u (join x y)) (comps qq y) last-below
 
           -- and then on one of QQ's compensations by that ending
           last-room : i′ < cap (sum-of (weight a g₂) (comps qq y))
-          unfolding only
-          last-room = by (eqc u (join x y)) fits (second-total y)
-            where
-              by : (c : Bool) → T c → v y ≡ cap (sum-of (weight a g₂) (only c (comps qq y))) → i′ < cap (sum-of (weight a g₂) (comps qq y))
-              by true o z = let y = finds-rest f′ in omega arith
+          last-room = only-room (sum-of (weight a g₂)) (number-nil _) (eqc u (join x y)) (comps qq y) last-below
 
           both-sought : {q : Std} {o n′ : ℕ} {b′ : Bool} → Sought a g₂ (comps qq y) i′ q o n′ b′ → Sought a g (comps (cpar pp qq) u) j (par p q) o (cap (n + n′)) (b && b′)
           unfolding partners

@@ -6,9 +6,8 @@ use native.Mathlib.Omega.{arith}
 use mathlib.Core.Path.{_≡_, refl, _∙_, ap}
 use mathlib.Core.Bool.{Bool, true, false}
 use mathlib.Core.List.{List, [], _∷_, _++_, map}
-use lib.Dec.{T}
 use lib.ListN.{length, length-append, length-map}
-use Rattle.calculus.specs.Term.{done, failed, Leaf, Std, Cmp, skip, throw, yield, ev, seq, alt, par, hnd, blk, pair, cseq, calt, cpar, held}
+use Rattle.calculus.specs.Term.{Closing, done, failed, Leaf, Std, Cmp, skip, throw, yield, ev, seq, alt, par, hnd, blk, pair, cseq, calt, cpar, held}
 use Rattle.calculus.specs.Successors.{only, each, ends, steps, comps, csteps}
 use Rattle.calculus.specs.Equations.{steps-skip, steps-throw, steps-yield, steps-ev, steps-seq, steps-hnd, steps-alt, steps-par, steps-blk, csteps-pair, csteps-cseq, csteps-calt, csteps-cpar, csteps-held}
 use Rattle.tallies.specs.Capped.{cap}
@@ -16,16 +15,16 @@ use Rattle.tallies.specs.Formulas.{movesG, holdG}
 use Rattle.tallies.specs.Counts.{sum-of, moves, weight}
 use Rattle.tallies.specs.SumsLaws.{length-each}
 use Rattle.tallies.specs.Places.{At, Finds}
-use Rattle.tallies.specs.PlacesLaws.{at-is, at-left, at-after, at-map, at-only, at-each, finds-rest, finds-rest-le, finds-same, finds-cap, sum-cap}
+use Rattle.tallies.specs.PlacesLaws.{at-is, at-left, at-after, at-map, at-only, at-each, finds-rest, finds-rest-le, finds-cap, sum-cap, only-holds, only-room}
 
 -- Two lists, one after the other ----------------------------------------------------------------------------------------
 
 -- w is l, of n elements, and then m
-record Joined {A : Type 0} (w l m : List A) (n : ℕ) : Type 0 where
+record Split {A : Type 0} (w l m : List A) (n : ℕ) : Type 0 where
   whole : w ≡ l ++ m
   many : length l ≡ n
 
-module _ {A : Type 0} {w l m : List A} {n : ℕ} (s : Joined w l m n) where
+module _ {A : Type 0} {w l m : List A} {n : ℕ} (s : Split w l m n) where
   at-first : {k : ℕ} {x : A} → At l k x → At w k x
   at-first p = rw (s .whole) (at-left m p)
 
@@ -39,14 +38,19 @@ module _ {A : Type 0} {w l m : List A} {n : ℕ} (s : Joined w l m n) where
         let z : length l ≡ c = omega (arith, s .many) in
         rw (s .whole) (at-after l (omega arith) (at-is (omega arith) p))
 
-module _ {A : Type 0} (b : Bool) (l : List A) {k : ℕ} where
-  only-holds : k < cap (length (only b l)) → T b
-  unfolding only
-  only-holds = elim b [ true ↦ λ h. tt | false ↦ λ h. omega arith ]
+-- the second list is made of lists, one for each of xs, and f weighs each by its length, up to the greatest number
+module _ {A B : Type 0} (f : A → ℕ) (lists : A → List B) (e : (x : A) → cap (f x) ≡ cap (length (lists x))) (xs : List A) {w l : List B} {n : ℕ} (s : Split w l (each xs lists) n) {c k : ℕ} (d : c ≡ cap n) (h : k < cap (length w)) (g : c ≤ k) where
+  each-room : k - c < cap (sum-of f xs)
+  each-room =
+      let z = length-each lists xs in
+      let y = sum-cap f (λ x. length (lists x)) e xs in
+      let x = room s d h g in omega arith
 
-  only-room : k < cap (length (only b l)) → k < cap (length l)
-  unfolding only
-  only-room = elim b [ true ↦ λ h. h | false ↦ λ h. omega arith ]
+  each-rest : {x : A} {r : ℕ} → Finds f xs (k - c) x r → r < cap (length (lists x))
+  each-rest {x} p = let z = e x in let y = finds-rest p in let u = finds-rest-le p in omega arith
+
+  at-each-second : {x : A} {r : ℕ} {y : B} → Finds f xs (k - c) x r → At (lists x) r y → At w k y
+  at-each-second p u = at-second s d h g (at-each lists (finds-cap f (λ x. length (lists x)) e (omega arith) p) u)
 
 -- Standard parts --------------------------------------------------------------------------------------------------------
 
@@ -58,135 +62,123 @@ at-ev l a {k} h =
     rw steps-ev (go (l .takes a) (rw steps-ev at h))
 
 -- the leaves without steps
+no-step : (p : Std) (a : ℕ) → steps p a ≡ [] → {k : ℕ} → k < cap (moves a p) → ⊥
+unfolding moves
+no-step p a e h = let z = ap length e in omega arith
+
 module _ (a : ℕ) {k : ℕ} where
   pub no-skip-step : k < cap (moves a skip) → ⊥
-  unfolding moves
-  no-skip-step h = let z = ap length (steps-skip a) in omega arith
+  no-skip-step = no-step skip a (steps-skip a)
 
   pub no-throw-step : k < cap (moves a throw) → ⊥
-  unfolding moves
-  no-throw-step h = let z = ap length (steps-throw a) in omega arith
+  no-throw-step = no-step throw a (steps-throw a)
 
   pub no-yield-step : k < cap (moves a yield) → ⊥
+  no-yield-step = no-step yield a (steps-yield a)
+
+-- P;Q and P▷Q: the steps of P and, where P can end by w, those of Q
+module _ (on : Std → Std → Std) (w : Closing) (a : ℕ) (p q : Std) (parts : steps (on p q) a ≡ map (λ r. on r q) (steps p a) ++ only (ends p w) (steps q a)) where
+  on-split : Split (steps (on p q) a) (map (λ r. on r q) (steps p a)) (only (ends p w) (steps q a)) (moves a p)
   unfolding moves
-  no-yield-step h = let z = ap length (steps-yield a) in omega arith
+  on-split = record { whole = parts; many = length-map (steps p a) (λ r. on r q) }
+
+  at-on-first : {k : ℕ} {p′ : Std} → At (steps p a) k p′ → At (steps (on p q) a) k (on p′ q)
+  at-on-first u = at-first on-split (at-map (λ r. on r q) u)
+
+  -- an index beyond the steps of P: P can end by w, and the rest lies among the steps of Q
+  module _ {c k : ℕ} (e : c ≡ cap (moves a p)) (h : k < cap (moves a (on p q))) (g : c ≤ k) where
+    on-rest : k - c < cap (length (only (ends p w) (steps q a)))
+    unfolding moves
+    on-rest = room on-split e h g
+
+    on-room : k - c < cap (moves a q)
+    unfolding moves
+    on-room = only-room length refl (ends p w) (steps q a) on-rest
+
+    at-on-second : {q′ : Std} → At (steps q a) (k - c) q′ → At (steps (on p q) a) k q′
+    unfolding moves
+    at-on-second u = at-second on-split e h g (at-only (ends p w) (only-holds length refl (ends p w) (steps q a) on-rest) u)
 
 module _ (a : ℕ) (p q : Std) where
-  seq-joined : Joined (steps (seq p q) a) (map (λ r. seq r q) (steps p a)) (only (ends p done) (steps q a)) (moves a p)
+  alt-split : Split (steps (alt p q) a) (steps p a) (steps q a) (moves a p)
   unfolding moves
-  seq-joined = record { whole = steps-seq p q a; many = length-map (steps p a) (λ r. seq r q) }
+  alt-split = record { whole = steps-alt p q a; many = refl }
 
-  hnd-joined : Joined (steps (hnd p q) a) (map (λ r. hnd r q) (steps p a)) (only (ends p failed) (steps q a)) (moves a p)
+  par-split : Split (steps (par p q) a) (map (λ r. par r q) (steps p a)) (map (λ r. par p r) (steps q a)) (moves a p)
   unfolding moves
-  hnd-joined = record { whole = steps-hnd p q a; many = length-map (steps p a) (λ r. hnd r q) }
-
-  alt-joined : Joined (steps (alt p q) a) (steps p a) (steps q a) (moves a p)
-  unfolding moves
-  alt-joined = record { whole = steps-alt p q a; many = refl }
-
-  par-joined : Joined (steps (par p q) a) (map (λ r. par r q) (steps p a)) (map (λ r. par p r) (steps q a)) (moves a p)
-  unfolding moves
-  par-joined = record { whole = steps-par p q a; many = length-map (steps p a) (λ r. par r q) }
+  par-split = record { whole = steps-par p q a; many = length-map (steps p a) (λ r. par r q) }
 
   pub at-seq-first : {k : ℕ} {p′ : Std} → At (steps p a) k p′ → At (steps (seq p q) a) k (seq p′ q)
-  at-seq-first u = at-first seq-joined (at-map (λ r. seq r q) u)
+  at-seq-first = at-on-first seq done a p q (steps-seq p q a)
 
   pub at-hnd-first : {k : ℕ} {p′ : Std} → At (steps p a) k p′ → At (steps (hnd p q) a) k (hnd p′ q)
-  at-hnd-first u = at-first hnd-joined (at-map (λ r. hnd r q) u)
+  at-hnd-first = at-on-first hnd failed a p q (steps-hnd p q a)
 
   pub at-alt-first : {k : ℕ} {p′ : Std} → At (steps p a) k p′ → At (steps (alt p q) a) k p′
-  at-alt-first u = at-first alt-joined u
+  at-alt-first u = at-first alt-split u
 
   pub at-par-first : {k : ℕ} {p′ : Std} → At (steps p a) k p′ → At (steps (par p q) a) k (par p′ q)
-  at-par-first u = at-first par-joined (at-map (λ r. par r q) u)
+  at-par-first u = at-first par-split (at-map (λ r. par r q) u)
 
-  -- an index beyond the first part's steps: the first part can end done, and the rest lies among the second's
   module _ {c k : ℕ} (e : c ≡ cap (moves a p)) (h : k < cap (moves a (seq p q))) (g : c ≤ k) where
-    seq-rest : k - c < cap (length (only (ends p done) (steps q a)))
-    unfolding moves
-    seq-rest = room seq-joined e h g
-
-    pub seq-goes-on : T (ends p done)
-    seq-goes-on = only-holds (ends p done) (steps q a) seq-rest
-
     pub seq-room : k - c < cap (moves a q)
-    unfolding moves
-    seq-room = only-room (ends p done) (steps q a) seq-rest
+    seq-room = on-room seq done a p q (steps-seq p q a) e h g
 
     pub at-seq-second : {q′ : Std} → At (steps q a) (k - c) q′ → At (steps (seq p q) a) k q′
-    unfolding moves
-    at-seq-second u = at-second seq-joined e h g (at-only (ends p done) seq-goes-on u)
+    at-seq-second = at-on-second seq done a p q (steps-seq p q a) e h g
 
-  -- the same of a handler, whose first part can fail
   module _ {c k : ℕ} (e : c ≡ cap (moves a p)) (h : k < cap (moves a (hnd p q))) (g : c ≤ k) where
-    hnd-rest : k - c < cap (length (only (ends p failed) (steps q a)))
-    unfolding moves
-    hnd-rest = room hnd-joined e h g
-
-    pub hnd-goes-on : T (ends p failed)
-    hnd-goes-on = only-holds (ends p failed) (steps q a) hnd-rest
-
     pub hnd-room : k - c < cap (moves a q)
-    unfolding moves
-    hnd-room = only-room (ends p failed) (steps q a) hnd-rest
+    hnd-room = on-room hnd failed a p q (steps-hnd p q a) e h g
 
     pub at-hnd-second : {q′ : Std} → At (steps q a) (k - c) q′ → At (steps (hnd p q) a) k q′
-    unfolding moves
-    at-hnd-second u = at-second hnd-joined e h g (at-only (ends p failed) hnd-goes-on u)
+    at-hnd-second = at-on-second hnd failed a p q (steps-hnd p q a) e h g
 
   module _ {c k : ℕ} (e : c ≡ cap (moves a p)) (h : k < cap (moves a (alt p q))) (g : c ≤ k) where
     pub alt-room : k - c < cap (moves a q)
     unfolding moves
-    alt-room = room alt-joined e h g
+    alt-room = room alt-split e h g
 
     pub at-alt-second : {q′ : Std} → At (steps q a) (k - c) q′ → At (steps (alt p q) a) k q′
     unfolding moves
-    at-alt-second u = at-second alt-joined e h g u
+    at-alt-second u = at-second alt-split e h g u
 
   module _ {c k : ℕ} (e : c ≡ cap (moves a p)) (h : k < cap (moves a (par p q))) (g : c ≤ k) where
     pub par-room : k - c < cap (moves a q)
     unfolding moves
-    par-room = rw (length-map (steps q a) (λ r. par p r)) at (room par-joined e h g)
+    par-room = rw (length-map (steps q a) (λ r. par p r)) at (room par-split e h g)
 
     pub at-par-second : {q′ : Std} → At (steps q a) (k - c) q′ → At (steps (par p q) a) k (par p q′)
     unfolding moves
-    at-par-second u = at-second par-joined e h g (at-map (λ r. par p r) u)
+    at-par-second u = at-second par-split e h g (at-map (λ r. par p r) u)
 
 -- Blocks ----------------------------------------------------------------------------------------------------------------
 
-module _ (a : ℕ) where
-  moves-weight : (k : Std) → weight a movesG k ≡ length (steps k a)
-  unfolding weight moves
-  moves-weight k = omega arith
-
-  hold-weight : (n : ℕ) (k : Std) → weight a (holdG n) k ≡ n
-  unfolding weight
-  hold-weight n k = omega arith
+moves-weight : (a : ℕ) (k : Std) → cap (weight a movesG k) ≡ cap (length (steps k a))
+unfolding weight moves
+moves-weight a k = omega arith
 
 module _ (a : ℕ) (pp : Cmp) where
-  blk-joined : Joined (steps (blk pp) a) (map blk (csteps pp a)) (each (comps pp failed) (λ k. steps k a)) (length (csteps pp a))
-  blk-joined = record { whole = steps-blk pp a; many = length-map (csteps pp a) blk }
+  blk-split : Split (steps (blk pp) a) (map blk (csteps pp a)) (each (comps pp failed) (λ k. steps k a)) (length (csteps pp a))
+  blk-split = record { whole = steps-blk pp a; many = length-map (csteps pp a) blk }
 
   pub at-blk-first : {k : ℕ} {pp′ : Cmp} → At (csteps pp a) k pp′ → At (steps (blk pp) a) k (blk pp′)
-  at-blk-first u = at-first blk-joined (at-map blk u)
+  at-blk-first u = at-first blk-split (at-map blk u)
 
   -- out of the block by a compensation
   module _ {c k : ℕ} (e : c ≡ cap (length (csteps pp a))) (h : k < cap (moves a (blk pp))) (g : c ≤ k) where
     pub blk-room : k - c < cap (sum-of (weight a movesG) (comps pp failed))
     unfolding moves
-    blk-room =
-        let z = length-each (λ k. steps k a) (comps pp failed) in
-        let y = sum-cap (weight a movesG) (λ k. length (steps k a)) (λ k. ap cap (moves-weight a k)) (comps pp failed) in
-        let x = room blk-joined e h g in omega arith
+    blk-room = each-room (weight a movesG) (λ r. steps r a) (moves-weight a) (comps pp failed) blk-split e h g
 
     -- what is left within the compensation lies among its steps
     pub blk-rest : {r : Std} {s : ℕ} → Finds (weight a movesG) (comps pp failed) (k - c) r s → s < cap (moves a r)
     unfolding moves
-    blk-rest {r} f = let z = moves-weight a r in let y = finds-rest f in let x = finds-rest-le f in omega arith
+    blk-rest = each-rest (weight a movesG) (λ r. steps r a) (moves-weight a) (comps pp failed) blk-split e h g
 
     pub at-blk-second : {r : Std} {s : ℕ} {r′ : Std} → Finds (weight a movesG) (comps pp failed) (k - c) r s → At (steps r a) s r′ → At (steps (blk pp) a) k r′
     unfolding moves
-    at-blk-second f u = at-second blk-joined e h g (at-each (λ k. steps k a) (finds-same _ _ (moves-weight a) f) u)
+    at-blk-second = at-each-second (weight a movesG) (λ r. steps r a) (moves-weight a) (comps pp failed) blk-split e h g
 
 -- Compensable parts -----------------------------------------------------------------------------------------------------
 
@@ -205,53 +197,50 @@ module _ (a : ℕ) where
   held-room qq r h = let z = ap length (csteps-held qq r a) ∙ length-map (csteps qq a) (λ y. held y r) in omega arith
 
 module _ (a : ℕ) (pp qq : Cmp) where
-  cseq-joined : Joined (csteps (cseq pp qq) a) (map (λ r. cseq r qq) (csteps pp a)) (each (comps pp done) (λ k. map (λ r. held r k) (csteps qq a))) (length (csteps pp a))
-  cseq-joined = record { whole = csteps-cseq pp qq a; many = length-map (csteps pp a) (λ r. cseq r qq) }
+  cseq-split : Split (csteps (cseq pp qq) a) (map (λ r. cseq r qq) (csteps pp a)) (each (comps pp done) (λ k. map (λ r. held r k) (csteps qq a))) (length (csteps pp a))
+  cseq-split = record { whole = csteps-cseq pp qq a; many = length-map (csteps pp a) (λ r. cseq r qq) }
 
-  calt-joined : Joined (csteps (calt pp qq) a) (csteps pp a) (csteps qq a) (length (csteps pp a))
-  calt-joined = record { whole = csteps-calt pp qq a; many = refl }
+  calt-split : Split (csteps (calt pp qq) a) (csteps pp a) (csteps qq a) (length (csteps pp a))
+  calt-split = record { whole = csteps-calt pp qq a; many = refl }
 
-  cpar-joined : Joined (csteps (cpar pp qq) a) (map (λ r. cpar r qq) (csteps pp a)) (map (λ r. cpar pp r) (csteps qq a)) (length (csteps pp a))
-  cpar-joined = record { whole = csteps-cpar pp qq a; many = length-map (csteps pp a) (λ r. cpar r qq) }
+  cpar-split : Split (csteps (cpar pp qq) a) (map (λ r. cpar r qq) (csteps pp a)) (map (λ r. cpar pp r) (csteps qq a)) (length (csteps pp a))
+  cpar-split = record { whole = csteps-cpar pp qq a; many = length-map (csteps pp a) (λ r. cpar r qq) }
 
   pub at-cseq-first : {k : ℕ} {pp′ : Cmp} → At (csteps pp a) k pp′ → At (csteps (cseq pp qq) a) k (cseq pp′ qq)
-  at-cseq-first u = at-first cseq-joined (at-map (λ r. cseq r qq) u)
+  at-cseq-first u = at-first cseq-split (at-map (λ r. cseq r qq) u)
 
   pub at-calt-first : {k : ℕ} {pp′ : Cmp} → At (csteps pp a) k pp′ → At (csteps (calt pp qq) a) k pp′
-  at-calt-first u = at-first calt-joined u
+  at-calt-first u = at-first calt-split u
 
   pub at-cpar-first : {k : ℕ} {pp′ : Cmp} → At (csteps pp a) k pp′ → At (csteps (cpar pp qq) a) k (cpar pp′ qq)
-  at-cpar-first u = at-first cpar-joined (at-map (λ r. cpar r qq) u)
+  at-cpar-first u = at-first cpar-split (at-map (λ r. cpar r qq) u)
 
   -- PP;QQ goes on: PP has become a compensation r, which is held while QQ takes a step
   module _ {c k n : ℕ} (e : c ≡ cap (length (csteps pp a))) (h : k < cap (length (csteps (cseq pp qq) a))) (g : c ≤ k) (d : n ≡ cap (length (csteps qq a))) where
     held-weight : (r : Std) → cap (weight a (holdG n) r) ≡ cap (length (map (λ y. held y r) (csteps qq a)))
-    held-weight r = let z = hold-weight a n r in let y = length-map (csteps qq a) (λ y. held y r) in omega arith
+    unfolding weight
+    held-weight r = let z = length-map (csteps qq a) (λ y. held y r) in omega arith
 
     pub cseq-room : k - c < cap (sum-of (weight a (holdG n)) (comps pp done))
-    cseq-room =
-        let z = length-each (λ r. map (λ y. held y r) (csteps qq a)) (comps pp done) in
-        let y = sum-cap (weight a (holdG n)) (λ r. length (map (λ y. held y r) (csteps qq a))) held-weight (comps pp done) in
-        let x = room cseq-joined e h g in omega arith
+    cseq-room = each-room (weight a (holdG n)) (λ r. map (λ y. held y r) (csteps qq a)) held-weight (comps pp done) cseq-split e h g
 
     -- what is left within r lies among QQ's steps
     pub cseq-rest : {r : Std} {s : ℕ} → Finds (weight a (holdG n)) (comps pp done) (k - c) r s → s < cap (length (csteps qq a))
-    cseq-rest {r} f = let z = hold-weight a n r in let y = finds-rest f in omega arith
+    cseq-rest {r} f = rw (length-map (csteps qq a) (λ y. held y r)) at (each-rest (weight a (holdG n)) (λ r. map (λ y. held y r) (csteps qq a)) held-weight (comps pp done) cseq-split e h g f)
 
     pub at-cseq-second : {r : Std} {s : ℕ} {qq′ : Cmp} → Finds (weight a (holdG n)) (comps pp done) (k - c) r s → At (csteps qq a) s qq′ → At (csteps (cseq pp qq) a) k (held qq′ r)
-    at-cseq-second {r} f u =
-        at-second cseq-joined e h g (at-each (λ r. map (λ y. held y r) (csteps qq a)) (finds-cap _ _ held-weight (omega arith) f) (at-map (λ y. held y r) u))
+    at-cseq-second {r} f u = at-each-second (weight a (holdG n)) (λ r. map (λ y. held y r) (csteps qq a)) held-weight (comps pp done) cseq-split e h g f (at-map (λ y. held y r) u)
 
   module _ {c k : ℕ} (e : c ≡ cap (length (csteps pp a))) (h : k < cap (length (csteps (calt pp qq) a))) (g : c ≤ k) where
     pub calt-room : k - c < cap (length (csteps qq a))
-    calt-room = room calt-joined e h g
+    calt-room = room calt-split e h g
 
     pub at-calt-second : {qq′ : Cmp} → At (csteps qq a) (k - c) qq′ → At (csteps (calt pp qq) a) k qq′
-    at-calt-second u = at-second calt-joined e h g u
+    at-calt-second u = at-second calt-split e h g u
 
   module _ {c k : ℕ} (e : c ≡ cap (length (csteps pp a))) (h : k < cap (length (csteps (cpar pp qq) a))) (g : c ≤ k) where
     pub cpar-room : k - c < cap (length (csteps qq a))
-    cpar-room = rw (length-map (csteps qq a) (λ r. cpar pp r)) at (room cpar-joined e h g)
+    cpar-room = rw (length-map (csteps qq a) (λ r. cpar pp r)) at (room cpar-split e h g)
 
     pub at-cpar-second : {qq′ : Cmp} → At (csteps qq a) (k - c) qq′ → At (csteps (cpar pp qq) a) k (cpar pp qq′)
-    at-cpar-second u = at-second cpar-joined e h g (at-map (λ r. cpar pp r) u)
+    at-cpar-second u = at-second cpar-split e h g (at-map (λ r. cpar pp r) u)

@@ -147,7 +147,7 @@ module _ (S : Summing) where
     sum-each f g (x ∷ l) = sum-append f (g x) (each l g) ∙ ap (plus (sum f (g x))) (sum-each f g l) ∙ sym (sum-cons _ x l)
 
 module _ (S : Summing) where
-  open Summing S using (R, times, sum)
+  open Summing S using (R, nil, plus, times, sum, sum-nil, sum-cons, left-nil)
 
   pub sum-left : {A : Type 0} (c : R) (f : A → R) (l : List A) → sum (λ x. times (f x) c) l ≡ times (sum f l) c
   sum-left = sum-right (turned S)
@@ -155,12 +155,26 @@ module _ (S : Summing) where
   all-products : {A B : Type 0} (k : List A) (l : List B) (u : A → R) (v : B → R) → sum (λ x. sum (λ y. times (u x) (v y)) l) k ≡ times (sum u k) (sum v l)
   all-products k l u v = sum-by S _ _ (λ x. sum-right S (u x) v l) k ∙ sum-left (sum v l) u k
 
+  sum-nils : {A : Type 0} (l : List A) → sum (λ x. nil) l ≡ nil
+  sum-nils l = sum-by S _ _ (λ x. sym (left-nil nil)) l ∙ sum-right S nil (λ x. nil) l ∙ left-nil _
+
+  -- two sums, in the other order
+  sum-swap : {A B : Type 0} (g : A → B → R) (k : List A) (l : List B) → sum (λ x. sum (g x) l) k ≡ sum (λ y. sum (λ x. g x y) k) l
+  sum-swap g [] l = sum-nil _ ∙ sym (sum-by S _ _ (λ y. sum-nil _) l ∙ sum-nils l)
+  sum-swap g (x ∷ k) l =
+      sum-cons _ x k
+      ∙ ap (plus (sum (g x) l)) (sum-swap g k l)
+      ∙ sym (sum-by S _ _ (λ y. sum-cons _ x k) l ∙ sum-plus S (g x) (λ y. sum (λ x. g x y) k) l)
+
+  sum-inward : {A B C : Type 0} (g : A → B → C → R) (k : List A) (l : List B) (m : List C) → sum (λ x. sum (λ y. sum (g x y) m) l) k ≡ sum (λ y. sum (λ z. sum (λ x. g x y z) k) m) l
+  sum-inward g k l m = sum-swap (λ x y. sum (g x y) m) k l ∙ sum-by S _ _ (λ y. sum-swap (λ x. g x y) k m) l
+
 pub grid-nil : {A B C : Type 0} (h : A → B → C) (k : List A) → grid h k [] ≡ []
 unfolding each
 grid-nil h [] = refl
 grid-nil h (x ∷ k) = grid-nil h k
 
--- a sum over all pairs whose terms are products, or two products each
+-- a sum over all pairs whose terms are products, two products each, or sums of products each
 module _ (S : Summing) {A B C : Type 0} (h : A → B → C) (f : C → S .R) (k : List A) (l : List B) where
   open Summing S using (R, plus, times, sum)
 
@@ -176,6 +190,18 @@ module _ (S : Summing) {A B C : Type 0} (h : A → B → C) (f : C → S .R) (k 
       ∙ sum-by S _ _ (λ x. sum-plus S (λ y. times (u x) (v y)) (λ y. times (u′ x) (v′ y)) l) k
       ∙ sum-plus S (λ x. sum (λ y. times (u x) (v y)) l) (λ x. sum (λ y. times (u′ x) (v′ y)) l) k
       ∙ ap₂ plus (all-products S k l u v) (all-products S k l u′ v′)
+
+  pub sum-pairs : {D E : Type 0} (ds : List D) (es : List E) (c : D → E → R) (u : D → A → R) (v : E → B → R) →
+      ((x : A) (y : B) → f (h x y) ≡ sum (λ d. sum (λ e. times (c d e) (times (u d x) (v e y))) es) ds) →
+      sum f (grid h k l) ≡ sum (λ d. sum (λ e. times (c d e) (times (sum (u d) k) (sum (v e) l))) es) ds
+  sum-pairs ds es c u v p =
+      sum-grid (λ x y. sum (λ d. sum (λ e. times (c d e) (times (u d x) (v e y))) es) ds) p
+      ∙ sum-by S _ _ (λ x. sum-inward S (λ y d e. times (c d e) (times (u d x) (v e y))) l ds es) k
+      ∙ sum-inward S (λ x d e. sum (λ y. times (c d e) (times (u d x) (v e y))) l) k ds es
+      ∙ sum-by S _ _ (λ d. sum-by S _ _ (λ e. scaled (c d e) (u d) (v e)) es) ds
+    where
+      scaled : (z : R) (u : A → R) (v : B → R) → sum (λ x. sum (λ y. times z (times (u x) (v y))) l) k ≡ times z (times (sum u k) (sum v l))
+      scaled z u v = sum-by S _ _ (λ x. sum-right S z (λ y. times (u x) (v y)) l) k ∙ sum-right S z (λ x. sum (λ y. times (u x) (v y)) l) k ∙ ap (times z) (all-products S k l u v)
 
 -- Lengths are sums ----------------------------------------------------------------------------------------------------------
 

@@ -4,21 +4,22 @@
 ghost use mathlib.Core.Path.{_≡_};
 ghost use Prim.Native.Nat.{_+_, _*_, _<_};
 ghost use Rattle.tallies.specs.Capped.{cap};
-ghost use Rattle.tallies.specs.Formulas.{skipV, throwV, yieldV, evV, seqV, hndV, altV, parV, noneT, oneT, whenT, plusT, seqT, parT, blkV, pairW, cseqW, heldW, caltW, cparW, skippW, throwwW, yielddW, byW, fittingT, partnersT, total, afterG, insideG, besideG, withinG, closing, either-withdraws, either-fails, viewed, tallied, worded, weighs};
+ghost use Rattle.tallies.specs.Formulas.{closing, rank, viewed, skipV, throwV, yieldV, evV, altV, seqV, hndV, endsV, meetV, bothV, parV, tallied, noneT, oneT, whenT, plusT, seqT, anyV, parT, worded, byW, blkV, pairW, cseqW, heldW, caltW, fittingT, partnersT, bothT, cparW, skippW, throwwW, yielddW, weighs, total, afterG, insideG, besideG, withinG};
 ghost use mathlib.Core.Bool.{cond};
 ghost use Rattle.calculus.specs.Term.{join};
+ghost use Rattle.calculus.specs.Successors.{eqc, closings, some-of};
 
-pub const MOST: u64 = 4294967295;
+const MOST: u64 = 4294967295;
 
-// Closings as small numbers, in the order of 01: done, withdrawn, failed.
-pub const DONE: u8 = 0;
+// Closings by their rank, in the order of 01.
+pub const RANK_DONE: u8 = 0;
 
-pub const WITHDRAWN: u8 = 1;
+pub const RANK_WITHDRAWN: u8 = 1;
 
-pub const FAILED: u8 = 2;
+pub const RANK_FAILED: u8 = 2;
 
 // JOIN[3 * x + y]: how two parallel sides end that end by x and y.
-pub const JOIN: [u8; 9] = [0, 1, 2, 1, 1, 2, 2, 2, 2];
+const JOIN: [u8; 9] = [0, 1, 2, 1, 1, 2, 2, 2, 2];
 
 // One term, and a record: how many steps by it, and by what the term can end.
 pub struct View {
@@ -70,7 +71,7 @@ pub fn sum(a: u32, b: u32) -> u32
     capped(wide(a) + wide(b))
 }
 
-pub fn product(a: u32, b: u32) -> u32
+fn product(a: u32, b: u32) -> u32
     ensures { λ r. ⌜ r ≡ cap (a * b) ⌝ }
 {
     capped(wide(a) * wide(b))
@@ -85,6 +86,31 @@ fn view_of(moves: u32, done: bool, withdraws: bool, fails: bool) -> View
         withdraws,
         fails,
     }
+}
+
+// Closings ----------------------------------------------------------------------------------------------------------
+
+// How two parallel sides end that end by x and y. Nothing else combines two closings.
+fn joined(x: u8, y: u8) -> u8
+    requires { ⌜ (x < 3) × (y < 3) ⌝ }
+    ensures { λ r. ⌜ r ≡ rank (join (closing x) (closing y)) ⌝ }
+{
+    let k = wide_index(3 * x + y);
+    JOIN[k]
+}
+
+fn wide_index(x: u8) -> usize
+    ensures { λ r. ⌜ r ≡ x ⌝ }
+{
+    x as usize
+}
+
+// Whether x and y join to u.
+fn joins(u: u8, x: u8, y: u8) -> bool
+    requires { ⌜ (u < 3) × ((x < 3) × (y < 3)) ⌝ }
+    ensures { λ r. ⌜ r ≡ eqc (closing u) (join (closing x) (closing y)) ⌝ }
+{
+    joined(x, y) == u
 }
 
 // Views -------------------------------------------------------------------------------------------------------------
@@ -158,16 +184,42 @@ pub fn handler_view(p: View, q: View) -> View
     }
 }
 
-fn one_withdraws(pd: bool, pw: bool, qd: bool, qw: bool) -> bool
-    ensures { λ r. ⌜ r ≡ either-withdraws pd pw qd qw ⌝ }
+fn ends_by(v: View, w: u8) -> bool
+    ensures { λ r. ⌜ r ≡ endsV v (closing w) ⌝ }
 {
-    (pw & (qd | qw)) | (pd & qw)
+    if w == RANK_DONE {
+        return v.done;
+    }
+    if w == RANK_WITHDRAWN {
+        return v.withdraws;
+    }
+    v.fails
 }
 
-fn one_fails(pd: bool, pw: bool, pf: bool, qd: bool, qw: bool, qf: bool) -> bool
-    ensures { λ r. ⌜ r ≡ either-fails pd pw pf qd qw qf ⌝ }
+// Whether p can end by x and q by y, and both end by u then.
+fn meets(p: View, q: View, u: u8, x: u8, y: u8) -> bool
+    requires { ⌜ (u < 3) × ((x < 3) × (y < 3)) ⌝ }
+    ensures { λ r. ⌜ r ≡ meetV p q (closing u) (closing x) (closing y) ⌝ }
 {
-    (pf & (qd | (qw | qf))) | ((pd | pw) & qf)
+    joins(u, x, y) & (ends_by(p, x) & ends_by(q, y))
+}
+
+// The same for some y.
+fn meets_some(p: View, q: View, u: u8, x: u8) -> bool
+    requires { ⌜ (u < 3) × (x < 3) ⌝ }
+    ensures { λ r. ⌜ r ≡ some-of (meetV p q (closing u) (closing x)) closings ⌝ }
+{
+    meets(p, q, u, x, RANK_DONE)
+        | (meets(p, q, u, x, RANK_WITHDRAWN) | meets(p, q, u, x, RANK_FAILED))
+}
+
+// Whether two sides can end by u together: the same for some x and y.
+fn both_end(p: View, q: View, u: u8) -> bool
+    requires { ⌜ u < 3 ⌝ }
+    ensures { λ r. ⌜ r ≡ bothV p q (closing u) ⌝ }
+{
+    meets_some(p, q, u, RANK_DONE)
+        | (meets_some(p, q, u, RANK_WITHDRAWN) | meets_some(p, q, u, RANK_FAILED))
 }
 
 pub fn parallel_view(p: View, q: View) -> View
@@ -175,9 +227,9 @@ pub fn parallel_view(p: View, q: View) -> View
 {
     view_of(
         sum(p.moves, q.moves),
-        p.done & q.done,
-        one_withdraws(p.done, p.withdraws, q.done, q.withdraws),
-        one_fails(p.done, p.withdraws, p.fails, q.done, q.withdraws, q.fails),
+        both_end(p, q, RANK_DONE),
+        both_end(p, q, RANK_WITHDRAWN),
+        both_end(p, q, RANK_FAILED),
     )
 }
 
@@ -195,13 +247,13 @@ fn tally_of(many: u32, able: u32, moves: u32, withdraws: bool, fails: bool) -> T
     }
 }
 
-pub fn no_tally() -> Tally
+fn no_tally() -> Tally
     ensures { λ r. ⌜ r ≡ noneT ⌝ }
 {
     tally_of(0, 0, 0, false, false)
 }
 
-pub fn one_tally(v: View) -> Tally
+fn one_tally(v: View) -> Tally
     ensures { λ r. ⌜ r ≡ oneT v ⌝ }
 {
     if v.done {
@@ -225,7 +277,7 @@ pub fn tally_when(b: bool, t: Tally) -> Tally
 }
 
 // Of two lists, one after the other.
-pub fn plus(x: Tally, y: Tally) -> Tally
+fn plus(x: Tally, y: Tally) -> Tally
     ensures { λ r. ⌜ r ≡ plusT x y ⌝ }
 {
     if x.many == 0 {
@@ -244,7 +296,7 @@ pub fn plus(x: Tally, y: Tally) -> Tally
 }
 
 // Of all l;k, l of x and k of y.
-pub fn sequence_tally(x: Tally, y: Tally) -> Tally
+fn sequence_tally(x: Tally, y: Tally) -> Tally
     ensures { λ r. ⌜ r ≡ seqT x y ⌝ }
 {
     if x.many == 0 {
@@ -263,8 +315,15 @@ pub fn sequence_tally(x: Tally, y: Tally) -> Tally
     )
 }
 
-// Of all k beside l, k of x and l of y.
-pub fn parallel_tally(x: Tally, y: Tally) -> Tally
+// One term that can end as some of a tally can.
+fn any_view(t: Tally) -> View
+    ensures { λ r. ⌜ r ≡ anyV t ⌝ }
+{
+    view_of(0, t.able != 0, t.withdraws, t.fails)
+}
+
+// Of all k beside l, k of x and l of y. Those that can end done multiply: only done and done join to done.
+fn parallel_tally(x: Tally, y: Tally) -> Tally
     ensures { λ r. ⌜ r ≡ parT x y ⌝ }
 {
     if x.many == 0 {
@@ -273,14 +332,14 @@ pub fn parallel_tally(x: Tally, y: Tally) -> Tally
     if y.many == 0 {
         return no_tally();
     }
-    let xd = x.able != 0;
-    let yd = y.able != 0;
+    let p = any_view(x);
+    let q = any_view(y);
     tally_of(
         product(x.many, y.many),
         product(x.able, y.able),
         sum(product(x.moves, y.many), product(x.many, y.moves)),
-        one_withdraws(xd, x.withdraws, yd, y.withdraws),
-        one_fails(xd, x.withdraws, x.fails, yd, y.withdraws, y.fails),
+        both_end(p, q, RANK_WITHDRAWN),
+        both_end(p, q, RANK_FAILED),
     )
 }
 
@@ -300,10 +359,10 @@ fn word_of(moves: u32, done: Tally, withdrawn: Tally, failed: Tally) -> Word
 pub fn tally_by(x: Word, w: u8) -> Tally
     ensures { λ r. ⌜ r ≡ byW x (closing w) ⌝ }
 {
-    if w == DONE {
+    if w == RANK_DONE {
         return x.done;
     }
-    if w == WITHDRAWN {
+    if w == RANK_WITHDRAWN {
         return x.withdrawn;
     }
     x.failed
@@ -373,20 +432,63 @@ pub fn choice_word(x: Word, y: Word) -> Word
     )
 }
 
+// Compensations of the second side by y, where the first ends by x and both by u.
+pub fn fitting(q: Word, u: u8, x: u8, y: u8) -> Tally
+    requires { ⌜ (u < 3) × ((x < 3) × (y < 3)) ⌝ }
+    ensures { λ r. ⌜ r ≡ fittingT q (closing u) (closing x) (closing y) ⌝ }
+{
+    tally_when(joins(u, x, y), tally_by(q, y))
+}
+
+// All compensations of the second side that go with an ending x of the first.
+pub fn partners(q: Word, u: u8, x: u8) -> Tally
+    requires { ⌜ (u < 3) × (x < 3) ⌝ }
+    ensures { λ r. ⌜ r ≡ partnersT q (closing u) (closing x) ⌝ }
+{
+    plus(
+        plus(
+            fitting(q, u, x, RANK_DONE),
+            fitting(q, u, x, RANK_WITHDRAWN),
+        ),
+        fitting(q, u, x, RANK_FAILED),
+    )
+}
+
+// Of all k beside what goes with it, k of t: where the first side ends by x and both by u. Most lists are empty, so this is told before
+// what goes with them is put together.
+fn beside_partners(t: Tally, q: Word, u: u8, x: u8) -> Tally
+    requires { ⌜ (u < 3) × (x < 3) ⌝ }
+    ensures { λ r. ⌜ r ≡ parT t (partnersT q (closing u) (closing x)) ⌝ }
+{
+    if t.many == 0 {
+        return no_tally();
+    }
+    parallel_tally(t, partners(q, u, x))
+}
+
+// Compensations of both sides, where both end by u.
+fn both_tally(p: Word, q: Word, u: u8) -> Tally
+    requires { ⌜ u < 3 ⌝ }
+    ensures { λ r. ⌜ r ≡ bothT p q (closing u) ⌝ }
+{
+    plus(
+        plus(
+            beside_partners(p.done, q, u, RANK_DONE),
+            beside_partners(p.withdrawn, q, u, RANK_WITHDRAWN),
+        ),
+        beside_partners(p.failed, q, u, RANK_FAILED),
+    )
+}
+
 pub fn parallel_word(x: Word, y: Word) -> Word
     ensures { λ r. ⌜ r ≡ cparW x y ⌝ }
 {
-    let n = plus(y.done, y.withdrawn);
-    let w = plus(
-        parallel_tally(x.done, y.withdrawn),
-        parallel_tally(x.withdrawn, n),
-    );
-    let e = plus(
-        parallel_tally(x.done, y.failed),
-        parallel_tally(x.withdrawn, y.failed),
-    );
-    let f = plus(e, parallel_tally(x.failed, plus(n, y.failed)));
-    word_of(sum(x.moves, y.moves), parallel_tally(x.done, y.done), w, f)
+    word_of(
+        sum(x.moves, y.moves),
+        both_tally(x, y, RANK_DONE),
+        both_tally(x, y, RANK_WITHDRAWN),
+        both_tally(x, y, RANK_FAILED),
+    )
 }
 
 pub fn skipp_word() -> Word
@@ -472,39 +574,5 @@ pub fn weight_within(g: Weight, moves: u32, able: bool) -> Weight
         sum(g.own, product(g.moves, moves)),
         g.moves,
         if_able(able, g.able),
-    )
-}
-
-// How two parallel sides end that end by x and y.
-pub fn joined(x: u8, y: u8) -> u8
-    requires { ⌜ (x < 3) × (y < 3) ⌝ }
-    ensures { λ r. ⌜ (closing r ≡ join (closing x) (closing y)) × (r < 3) ⌝ }
-{
-    let k = wide_index(3 * x + y);
-    JOIN[k]
-}
-
-fn wide_index(x: u8) -> usize
-    ensures { λ r. ⌜ r ≡ x ⌝ }
-{
-    x as usize
-}
-
-// Compensations of the second side by y, where the first ends by x and both by u.
-pub fn fitting(q: Word, u: u8, x: u8, y: u8) -> Tally
-    requires { ⌜ (u < 3) × ((x < 3) × (y < 3)) ⌝ }
-    ensures { λ r. ⌜ r ≡ fittingT q (closing u) (closing x) (closing y) ⌝ }
-{
-    tally_when(joined(x, y) == u, tally_by(q, y))
-}
-
-// All compensations of the second side that go with an ending x of the first.
-pub fn partners(q: Word, u: u8, x: u8) -> Tally
-    requires { ⌜ (u < 3) × (x < 3) ⌝ }
-    ensures { λ r. ⌜ r ≡ partnersT q (closing u) (closing x) ⌝ }
-{
-    plus(
-        plus(fitting(q, u, x, DONE), fitting(q, u, x, WITHDRAWN)),
-        fitting(q, u, x, FAILED),
     )
 }

@@ -5,7 +5,7 @@ use Rattle.tallies.proofs.block_view.Tie as tie
 
 returns : tie.Need-returns
 unfolding blkV
-returns c = cc
+returns c = simp (c .view-of .ensures, c .before .before .before .sum .ensures)
 
 pub block-view-spec : {M : Type 1} → statement M
 block-view-spec = tie.close (tie.spec (λ _ _. tt) (λ _ _. tt) returns)

@@ -1,20 +1,35 @@
 -- `tallies::parallel_tally` meets its contract: each return rewrites with the tests that led there. Assumes nothing.
 use Rattle.tallies.specs.Formulas.{parT}
+use Rattle.tallies.proofs.Beside.{beside}
+use borrow.Author.Needs.{needs}
 use borrow.Author.Tests.{eq-eqb, ne-eqb}
 use Rattle.tallies.proofs.parallel_tally.Statement.{statement}
 use Rattle.tallies.proofs.parallel_tally.Tie as tie
 
+both-end-requires : tie.Need-both-end-requires
+both-end-requires c κs = search needs
+
+both-end-requires-2 : tie.Need-both-end-requires-2
+both-end-requires-2 c κs = search needs
+
 returns : tie.Need-returns
 unfolding parT
-returns c = simp (eq-eqb _ _ (c .before .if1 .taken)) (cc)
+returns c = simp (eq-eqb _ _ (c .before .if1 .taken), c .no-tally .ensures)
 
 returns-2 : tie.Need-returns-2
 unfolding parT
-returns-2 c = simp (ne-eqb _ _ (c .before .before .before .if1 .left), eq-eqb _ _ (c .before .if2 .taken)) (cc)
+returns-2 c = simp (ne-eqb _ _ (c .before .before .before .if1 .left), eq-eqb _ _ (c .before .if2 .taken), c .no-tally2 .ensures)
 
 returns-3 : tie.Need-returns-3
-unfolding parT
-returns-3 c = simp (ne-eqb _ _ (c .before .before .before .before .before .before .before .before .before .before .before .before .if1 .left), ne-eqb _ _ (c .before .before .before .before .before .before .before .before .before .before .if2 .left)) (cc)
+returns-3 c =
+    let sums = c .before .before .before in
+    let products = sums .before in
+    let views = products .before .before .before .before in
+    let tests = views .before .before in
+    beside _ _ (ne-eqb _ _ (tests .before .before .if1 .left)) (ne-eqb _ _ (tests .if2 .left)) (views .before .any-view .ensures) (views .any-view2 .ensures)
+    (products .before .before .before .product .ensures) (products .before .before .product2 .ensures)
+    (products .before .product3 .ensures) (products .product4 .ensures) (sums .sum .ensures)
+    (c .before .before .both-end .ensures) (c .before .both-end2 .ensures) (c .tally-of .ensures)
 
 pub parallel-tally-spec : {M : Type 1} → statement M
-parallel-tally-spec = tie.close (tie.spec (λ _ _. tt) returns (λ _ _. tt) returns-2 (λ _ _. tt) (λ _ _. tt) (λ _ _. tt) (λ _ _. tt) (λ _ _. tt) (λ _ _. tt) (λ _ _. tt) (λ _ _. tt) returns-3)
+parallel-tally-spec = tie.close (tie.spec (λ _ _. tt) returns (λ _ _. tt) returns-2 (λ _ _. tt) (λ _ _. tt) (λ _ _. tt) (λ _ _. tt) (λ _ _. tt) (λ _ _. tt) (λ _ _. tt) both-end-requires both-end-requires-2 (λ _ _. tt) returns-3)

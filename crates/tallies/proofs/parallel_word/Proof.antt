@@ -1,19 +1,28 @@
--- `tallies::parallel_word` meets its contract: each call's answer is a part of the formula. Assumes nothing.
-use Rattle.tallies.proofs.Words.{parallel-word}
+-- `tallies::parallel_word` meets its contract: by what its callees ensure. Assumes nothing.
+use Rattle.tallies.specs.Formulas.{cparW}
+use borrow.Author.Needs.{needs}
 use Rattle.tallies.proofs.parallel_word.Statement.{statement}
 use Rattle.tallies.proofs.parallel_word.Tie as tie
 
+both-tally-requires : tie.Need-both-tally-requires
+both-tally-requires c κs = search needs
+
+both-tally-requires-2 : tie.Need-both-tally-requires-2
+both-tally-requires-2 c κs = search needs
+
+both-tally-requires-3 : tie.Need-both-tally-requires-3
+both-tally-requires-3 c κs = search needs
+
 returns : tie.Need-returns
+unfolding cparW
 returns c =
-    let f = c .before .before .before in
-    let e = f .before .before .before in
-    let w = e .before .before .before in
-    let n = w .before .before .before in
-    parallel-word (n .before .args .x) (n .before .args .y) (n .plus .ensures)
-    (w .before .before .parallel-tally .ensures) (w .before .parallel-tally2 .ensures) (w .plus2 .ensures)
-    (e .before .before .parallel-tally3 .ensures) (e .before .parallel-tally4 .ensures) (e .plus3 .ensures)
-    (f .before .before .plus4 .ensures) (f .before .parallel-tally5 .ensures) (f .plus5 .ensures)
-    (c .before .before .sum .ensures) (c .before .parallel-tally6 .ensures) (c .word-of .ensures)
+    simp (
+      c .word-of .ensures,
+      c .before .both-tally3 .ensures,
+      c .before .before .both-tally2 .ensures,
+      c .before .before .before .both-tally .ensures,
+      c .before .before .before .before .sum .ensures,
+    )
 
 pub parallel-word-spec : {M : Type 1} → statement M
-parallel-word-spec = tie.close (tie.spec (λ _ _. tt) (λ _ _. tt) (λ _ _. tt) (λ _ _. tt) (λ _ _. tt) (λ _ _. tt) (λ _ _. tt) (λ _ _. tt) (λ _ _. tt) (λ _ _. tt) (λ _ _. tt) (λ _ _. tt) (λ _ _. tt) returns)
+parallel-word-spec = tie.close (tie.spec (λ _ _. tt) both-tally-requires both-tally-requires-2 both-tally-requires-3 (λ _ _. tt) returns)

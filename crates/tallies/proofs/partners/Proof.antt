@@ -1,5 +1,5 @@
--- `tallies::partners` meets its contract: each call's answer is a part of the formula. Assumes nothing.
-use Rattle.tallies.proofs.Words.{partners}
+-- `tallies::partners` meets its contract: by what its callees ensure. Assumes nothing.
+use Rattle.tallies.specs.Formulas.{partnersT}
 use borrow.Author.Needs.{needs}
 use Rattle.tallies.proofs.partners.Statement.{statement}
 use Rattle.tallies.proofs.partners.Tie as tie
@@ -14,7 +14,15 @@ fitting-requires-3 : tie.Need-fitting-requires-3
 fitting-requires-3 c κs = search needs
 
 returns : tie.Need-returns
-returns c = search partners
+unfolding partnersT
+returns c =
+    simp (
+      c .plus2 .ensures,
+      c .before .fitting3 .ensures,
+      c .before .before .plus .ensures,
+      c .before .before .before .fitting2 .ensures,
+      c .before .before .before .before .fitting .ensures,
+    )
 
 pub partners-spec : {M : Type 1} → statement M
 partners-spec = tie.close (tie.spec fitting-requires fitting-requires-2 (λ _ _. tt) fitting-requires-3 (λ _ _. tt) returns)

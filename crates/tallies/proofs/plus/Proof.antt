@@ -14,7 +14,17 @@ returns-2 c = simp (ne-eqb _ _ (c .before .before .if1 .left), eq-eqb _ _ (c .if
 
 returns-3 : tie.Need-returns-3
 unfolding plusT
-returns-3 c = simp (ne-eqb _ _ (c .before .before .before .before .before .before .before .before .before .before .if1 .left), ne-eqb _ _ (c .before .before .before .before .before .before .before .before .if2 .left)) (cc)
+returns-3 c =
+    let sums = c .before .before .before .before .before in
+    let tests = sums .before .before .before in
+    simp (
+      ne-eqb _ _ (tests .before .before .if1 .left),
+      ne-eqb _ _ (tests .if2 .left),
+      c .tally-of .ensures,
+      sums .sum3 .ensures,
+      sums .before .sum2 .ensures,
+      sums .before .before .sum .ensures,
+    )
 
 pub plus-spec : {M : Type 1} → statement M
 plus-spec = tie.close (tie.spec returns returns-2 (λ _ _. tt) (λ _ _. tt) (λ _ _. tt) (λ _ _. tt) returns-3)

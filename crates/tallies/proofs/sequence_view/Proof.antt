@@ -5,7 +5,12 @@ use Rattle.tallies.proofs.sequence_view.Tie as tie
 
 returns : tie.Need-returns
 unfolding seqV
-returns c = simp (c .before .before .before .before .before .before .if1 .taken) (cc)
+returns c =
+    simp (
+      c .before .before .before .before .before .before .if1 .taken,
+      c .view-of .ensures,
+      c .before .before .before .before .before .sum .ensures,
+    )
 
 returns-2 : tie.Need-returns-2
 unfolding seqV

@@ -3,7 +3,13 @@ use Rattle.tallies.proofs.skipp_word.Statement.{statement}
 use Rattle.tallies.proofs.skipp_word.Tie as tie
 
 returns : tie.Need-returns
-returns c = cc
+returns c =
+    simp (
+      c .word-of .ensures,
+      c .before .no-tally2 .ensures,
+      c .before .before .no-tally .ensures,
+      c .before .before .before .skip-tally .ensures,
+    )
 
 pub skipp-word-spec : {M : Type 1} → statement M
 skipp-word-spec = tie.close (tie.spec (λ _ _. tt) (λ _ _. tt) (λ _ _. tt) (λ _ _. tt) returns)

@@ -5,7 +5,13 @@ use Rattle.tallies.proofs.weight_within.Tie as tie
 
 returns : tie.Need-returns
 unfolding withinG
-returns c = cc
+returns c =
+    simp (
+      c .weight-of .ensures,
+      c .before .if-able .ensures,
+      c .before .before .sum .ensures,
+      c .before .before .before .product .ensures,
+    )
 
 pub weight-within-spec : {M : Type 1} → statement M
 weight-within-spec = tie.close (tie.spec (λ _ _. tt) (λ _ _. tt) (λ _ _. tt) (λ _ _. tt) returns)
