@@ -130,5 +130,3 @@ module _ {text out out′ : List ℕ} {at r : ℕ} (p : Put text out at out′ r
 
       joined : take r out′ ++ (more ++ drop r′ out′) ≡ take at out ++ ((text ++ more) ++ drop r′ out)
       joined = rw (front, back) (append-assoc (take at out) text (more ++ drop r′ out) ∙ ap (λ (l : List ℕ). take at out ++ l) (sym (append-assoc text more (drop r′ out))))
-
----- The whole line ----

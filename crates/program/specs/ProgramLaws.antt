@@ -16,7 +16,7 @@ use Rattle.flowfile.specs.Items.{ReadAs}
 use Rattle.flowfile.specs.Reader.{readable-read, read-readable}
 use Rattle.judge.specs.declared.Answer.the-variants.{Refused}
 use Rattle.judge.specs.Judged.{judged}
-use Rattle.program.specs.Program.{answered, answer-of-file}
+use Rattle.program.specs.Program.{states-allowed, work-lent, answered, answer-of-file}
 
 -- numbers that stand first in a table are its beginning of their length
 over-front : (ns table table′ : List ℕ) (n : ℕ) → table′ ≡ over ns table → length ns ≡ n → (n ≤ length table′) × (take n table′ ≡ ns)
@@ -27,7 +27,7 @@ over-front ns table table′ n e l =
 pub record Held (s nodes′ records′ : List ℕ) (c : Counts) : Type 0 where
   pub nodes-inside : 3 * c .nodes ≤ length nodes′
   pub records-inside : c .records ≤ length records′
-  pub answer : judged (take (3 * c .nodes) nodes′) (take (c .records) records′) 32896 1000000 ≡ answer-of-file s
+  pub answer : judged (take (3 * c .nodes) nodes′) (take (c .records) records′) work-lent states-allowed ≡ answer-of-file s
 
 module _ {s nodes records nodes′ records′ : List ℕ} {r : Reading}
     (node-room : length nodes ≡ 192) (record-room : length records ≡ 256) (h : ReadAs s nodes records nodes′ records′ r) where
@@ -55,7 +55,7 @@ module _ {s nodes records nodes′ records′ : List ℕ} {r : Reading}
         nodes-inside = ns .0;
         records-inside = rs .0;
         answer =
-            (λ i. judged (ns .1 i) (rs .1 i) 32896 1000000)
+            (λ i. judged (ns .1 i) (rs .1 i) work-lent states-allowed)
             ∙ sym (ap (λ (p : Outcome). answered (p .answer) (p .nodes) (p .records)) (sym told-so ∙ o));
       }
     where

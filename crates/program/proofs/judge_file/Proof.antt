@@ -6,6 +6,7 @@ use lib.ListN.{take}
 use lib.Seq.{length-take-le}
 use borrow.Author.Needs.{needs}
 use denote.Ref.{now}
+use Rattle.program.specs.Program.{states-allowed, work-lent}
 use Rattle.program.specs.ProgramLaws.{Held, file-refused, file-read}
 use Rattle.judge.specs.Judged.{judged}
 use Rattle.program.proofs.judge_file.Statement.{statement}
@@ -64,7 +65,7 @@ returns : tie.Need-returns
 returns c =
     let r = c .before .before .before .before .before .before .before .before .before .before .read in
     c .judge-tables .ensures
-    ∙ ap₂ (λ (n k : ℕ). judged (take (3 * n) (r .last .1 .0)) (take k (r .last .1 .1 .0)) 32896 1000000) (c .before .before .before .before .wide .ensures) (c .before .before .before .wide2 .ensures)
+    ∙ ap₂ (λ (n k : ℕ). judged (take (3 * n) (r .last .1 .0)) (take k (r .last .1 .1 .0)) work-lent states-allowed) (c .before .before .before .before .wide .ensures) (c .before .before .before .wide2 .ensures)
     ∙ held (c .before .before .before) .answer
 
 returns-2 : tie.Need-returns-2
