@@ -37,16 +37,16 @@ answer-of-file file = answered (reading file 192 256 .answer) (reading file 192 
 
 ---- The line ----
 
-abbrev pub word-of : judge.Word → VerdictWord
-word-of judge.Word.accepted = word.Accepted
-word-of judge.Word.rejected = word.Rejected
-word-of judge.Word.undecided = word.Undecided
-word-of judge.Word.refused = word.Refused
+abbrev verdict-word : judge.Word → VerdictWord
+verdict-word judge.Word.accepted = word.Accepted
+verdict-word judge.Word.rejected = word.Rejected
+verdict-word judge.Word.undecided = word.Undecided
+verdict-word judge.Word.refused = word.Refused
 
 -- "the verdict word, refusal number or 0, place, count"
 unfoldable pub line-for : Answer → Line
 unfolding told
-line-for a = record { word = word-of (told a .word); number = told a .number; place = told a .place; count = told a .count }
+line-for a = record { word = verdict-word (told a .word); number = told a .number; place = told a .place; count = told a .count }
 
 -- what the program prints for a file
 unfoldable pub printed : List ℕ → List ℕ
