@@ -48,15 +48,18 @@ module _ (f : File) (within : Within f) (fine : None (content-grounds f)) where
   abbrev rs : List ℕ
   rs = f .records
 
+  -- 19 and 20, which the judge does not know
+  abbrev names : List Ground
+  names = leaves-grounds (length (f .names)) ns ++ events-grounds (length (f .names)) rs
+
   -- 4 to 9, and what follows
-  numbers-pass : None (nodes-grounds ns) × None (values-grounds rs ++ (closing-grounds ns rs ++ (leaves-grounds (length (f .names)) ns ++ events-grounds (length (f .names)) rs)))
+  numbers-pass : None (nodes-grounds ns) × None (values-grounds rs ++ (closing-grounds ns rs ++ names))
   unfolding grounds-of
-  numbers-pass = none-append (nodes-grounds ns) (values-grounds rs ++ (closing-grounds ns rs ++ (leaves-grounds (length (f .names)) ns ++ events-grounds (length (f .names)) rs))) fine
+  numbers-pass = none-append (nodes-grounds ns) (values-grounds rs ++ (closing-grounds ns rs ++ names)) fine
 
   -- 12 and 13
   records-pass : None (values-grounds rs ++ closing-grounds ns rs)
   records-pass =
-      let names : List Ground = leaves-grounds (length (f .names)) ns ++ events-grounds (length (f .names)) rs in
       none-append (values-grounds rs ++ closing-grounds ns rs) names
       (subst None (sym (append-assoc (values-grounds rs) (closing-grounds ns rs) names)) (numbers-pass .1)) .0
 
@@ -226,9 +229,12 @@ module _ (s : List ℕ) (f : File) (readable : Readable s 192 256 f) where
       moves (λ (t : Told). t .word ≡ Word.accepted → t ≡ verdict Word.accepted (length (f .records)) entered)
       (demand.accepted-is (f .nodes) (f .records) work-lent states-allowed not-refused)
 
-  -- "rejected: place = the longest beginning of the records, in records, that some run follows; count"
-  pub file-rejected-is : answer .word ≡ Word.rejected
-      → Follows flow batch (answer .place) × ((n : ℕ) → Follows flow batch n → n ≤ answer .place) × (answer .count ≡ entered)
+  -- "the longest beginning of the records, in records, that some run follows"
+  abbrev Longest : ℕ → Type 0
+  Longest place = Follows flow batch place × ((n : ℕ) → Follows flow batch n → n ≤ place)
+
+  -- "rejected: place = the longest beginning ..; count"
+  pub file-rejected-is : answer .word ≡ Word.rejected → Longest (answer .place) × (answer .count ≡ entered)
   file-rejected-is =
-      moves (λ (t : Told). t .word ≡ Word.rejected → Follows flow batch (t .place) × ((n : ℕ) → Follows flow batch n → n ≤ t .place) × (t .count ≡ entered))
-      (λ e. let q = demand.rejected-is (f .nodes) (f .records) work-lent states-allowed not-refused e in (q .follows, q .longest, q .counted))
+      moves (λ (t : Told). t .word ≡ Word.rejected → Longest (t .place) × (t .count ≡ entered))
+      (λ e. let q = demand.rejected-is (f .nodes) (f .records) work-lent states-allowed not-refused e in ((q .follows, q .longest), q .counted))
