@@ -8,8 +8,8 @@ use mathlib.Core.Path.{_≡_}
 use lib.Dec.{ltb}
 use lib.ListN.{length, take, drop}
 use Rattle.io.specs.Digits.{digits}
-use Rattle.line.specs.declared.Word.{Word}
-use Rattle.line.specs.declared.Word.the-variants.{Accepted, Rejected, Undecided, Refused}
+use Rattle.line.specs.declared.VerdictWord.{VerdictWord}
+use Rattle.line.specs.declared.VerdictWord.the-variants.{Accepted, Rejected, Undecided, Refused}
 use Rattle.line.specs.declared.Line.{Line}
 
 ---- Numbers ----
@@ -33,7 +33,7 @@ spaced n = 32 ∷ decimal n
 ---- The line ----
 
 -- the verdict words, in ASCII
-unfoldable pub spelled : Word → List ℕ
+unfoldable pub spelled : VerdictWord → List ℕ
 spelled Accepted = 97 ∷ 99 ∷ 99 ∷ 101 ∷ 112 ∷ 116 ∷ 101 ∷ 100 ∷ []
 spelled Rejected = 114 ∷ 101 ∷ 106 ∷ 101 ∷ 99 ∷ 116 ∷ 101 ∷ 100 ∷ []
 spelled Undecided = 117 ∷ 110 ∷ 100 ∷ 101 ∷ 99 ∷ 105 ∷ 100 ∷ 101 ∷ 100 ∷ []
@@ -54,3 +54,7 @@ line-of l = text-of l ++ (10 ∷ [])
 pub record Put (text out : List ℕ) (at : ℕ) (out′ : List ℕ) (r : ℕ) : Type 0 where
   pub end : r ≡ at + length text
   pub written : out′ ≡ take at out ++ (text ++ drop r out)
+
+-- the contract of `write_line`: the line stands at the start of the room
+abbrev pub LineWritten : Line → List ℕ → List ℕ → ℕ → Type 0
+LineWritten line out out′ r = Put (line-of line) out 0 out′ r

@@ -71,7 +71,7 @@ pub fewest-most : (n k : ℕ) → n < 4294967296 → Fewest 10 1 n k → k ≤ 1
 unfolding size
 fewest-most n k h f = omega (arith, fewest-size n k f, places-most n n 9 (omega arith))
 
-pub spaced-length : (n : ℕ) → length (spaced n) ≡ suc (size n)
+spaced-length : (n : ℕ) → length (spaced n) ≡ suc (size n)
 unfolding spaced decimal
 spaced-length n = ap suc (digits-length 10 (size n) n)
 
@@ -130,5 +130,3 @@ module _ {text out out′ : List ℕ} {at r : ℕ} (p : Put text out at out′ r
 
       joined : take r out′ ++ (more ++ drop r′ out′) ≡ take at out ++ ((text ++ more) ++ drop r′ out)
       joined = rw (front, back) (append-assoc (take at out) text (more ++ drop r′ out) ∙ ap (λ (l : List ℕ). take at out ++ l) (sym (append-assoc text more (drop r′ out))))
-
----- The whole line ----

@@ -3,10 +3,10 @@
 ghost use Prim.Native.Nat.{_+_, _≤_};
 ghost use lib.ListN.{length};
 ghost use Rattle.io.specs.Counts.{Counts};
-ghost use Rattle.line.specs.Line.{spelled, spaced, text-of, line-of, Put};
+ghost use Rattle.line.specs.Line.{spelled, spaced, text-of, Put, LineWritten};
 
 // The verdict words.
-pub enum Word {
+pub enum VerdictWord {
     Accepted,
     Rejected,
     Undecided,
@@ -15,7 +15,7 @@ pub enum Word {
 
 // What a line tells.
 pub struct Line {
-    pub word: Word,
+    pub word: VerdictWord,
     pub number: u16,
     pub place: u32,
     pub count: u32,
@@ -29,16 +29,16 @@ pub fn put(text: &[u8], out: &mut [u8], at: usize) -> usize
     at + bytes::copy(text, &mut out[at..])
 }
 
-fn put_word(word: Word, out: &mut [u8]) -> usize
+fn put_word(word: VerdictWord, out: &mut [u8]) -> usize
     requires { ⌜ 9 ≤ length (now out) ⌝ }
     ensures { λ r. ⌜ Put (spelled word) (now (out .entry)) 0 (now (out .exit)) r ⌝ }
     ensures { λ r. ⌜ r ≤ 9 ⌝ }
 {
     match word {
-        Word::Accepted => put(b"accepted", out, 0),
-        Word::Rejected => put(b"rejected", out, 0),
-        Word::Undecided => put(b"undecided", out, 0),
-        Word::Refused => put(b"refused", out, 0),
+        VerdictWord::Accepted => put(b"accepted", out, 0),
+        VerdictWord::Rejected => put(b"rejected", out, 0),
+        VerdictWord::Undecided => put(b"undecided", out, 0),
+        VerdictWord::Refused => put(b"refused", out, 0),
     }
 }
 
@@ -69,7 +69,7 @@ pub fn write_text(line: Line, out: &mut [u8]) -> usize
 
 // Writes the line at the start of the room, leaves the rest, and answers its length.
 pub fn write_line(line: Line, out: &mut [u8; 64]) -> usize
-    ensures { λ r. ⌜ Put (line-of line) (now (out .entry)) 0 (now (out .exit)) r ⌝ }
+    ensures { λ r. ⌜ LineWritten line (now (out .entry)) (now (out .exit)) r ⌝ }
     ensures { λ r. ⌜ Counts r (now (out .exit)) ⌝ }
 {
     let end = write_text(line, out);

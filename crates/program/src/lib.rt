@@ -3,12 +3,11 @@
 use flowfile::Reading;
 use judge::Answer;
 use line::Line;
-use line::Word;
+use line::VerdictWord;
 ghost use mathlib.Core.Path.{_≡_};
 ghost use Rattle.io.specs.Counts.{Counts};
 ghost use Rattle.judge.specs.Judged.{judged};
-ghost use Rattle.line.specs.Line.{Put};
-ghost use Rattle.program.specs.Program.{answer-of-file, line-for, printed};
+ghost use Rattle.program.specs.Program.{states-allowed, work-lent, FileAnswered, AnswerTold, FilePrinted};
 
 // "allows 1,000,000 states"
 const ALLOWANCE: u32 = 1000000;
@@ -21,7 +20,7 @@ fn wide(x: u16) -> usize
 
 // The tables judged with work bytes for the largest flow.
 fn judge_tables(nodes: &[u16], records: &[u16]) -> Answer
-    ensures { λ r. ⌜ r ≡ judged (now (nodes .entry)) (now (records .entry)) 32896 1000000 ⌝ }
+    ensures { λ r. ⌜ r ≡ judged (now (nodes .entry)) (now (records .entry)) work-lent states-allowed ⌝ }
 {
     let mut work = [0u8; 32896];
     judge::judge(nodes, records, &mut work, ALLOWANCE)
@@ -29,7 +28,7 @@ fn judge_tables(nodes: &[u16], records: &[u16]) -> Answer
 
 // Reads the file, and judges what it holds.
 pub fn judge_file(file: &[u8]) -> Answer
-    ensures { λ r. ⌜ r ≡ answer-of-file (now (file .entry)) ⌝ }
+    ensures { λ r. ⌜ FileAnswered (now (file .entry)) r ⌝ }
 {
     let mut nodes = [0u16; 192];
     let mut records = [0u16; 256];
@@ -45,29 +44,29 @@ pub fn judge_file(file: &[u8]) -> Answer
 
 // What the line tells of an answer.
 pub fn line_for(answer: Answer) -> Line
-    ensures { λ r. ⌜ r ≡ line-for answer ⌝ }
+    ensures { λ r. ⌜ AnswerTold answer r ⌝ }
 {
     match answer {
         Answer::Accepted(v) => Line {
-            word: Word::Accepted,
+            word: VerdictWord::Accepted,
             number: 0,
             place: v.place,
             count: v.count,
         },
         Answer::Rejected(v) => Line {
-            word: Word::Rejected,
+            word: VerdictWord::Rejected,
             number: 0,
             place: v.place,
             count: v.count,
         },
         Answer::Undecided(v) => Line {
-            word: Word::Undecided,
+            word: VerdictWord::Undecided,
             number: 0,
             place: v.place,
             count: v.count,
         },
         Answer::Refused(r) => Line {
-            word: Word::Refused,
+            word: VerdictWord::Refused,
             number: r.number,
             place: r.place,
             count: 0,
@@ -77,7 +76,7 @@ pub fn line_for(answer: Answer) -> Line
 
 // Writes the line for a file at the start of the room, leaves the rest, and answers the line's length.
 pub fn write_file_line(file: &[u8], out: &mut [u8; 64]) -> usize
-    ensures { λ r. ⌜ Put (printed (now (file .entry))) (now (out .entry)) 0 (now (out .exit)) r ⌝ }
+    ensures { λ r. ⌜ FilePrinted (now (file .entry)) (now (out .entry)) (now (out .exit)) r ⌝ }
     ensures { λ r. ⌜ Counts r (now (out .exit)) ⌝ }
 {
     line::write_line(line_for(judge_file(file)), out)

@@ -6,6 +6,7 @@ use lib.ListN.{take}
 use lib.Seq.{length-take-le}
 use borrow.Author.Needs.{needs}
 use denote.Ref.{now}
+use Rattle.program.specs.Program.{states-allowed, work-lent}
 use Rattle.program.specs.ProgramLaws.{Held, file-refused, file-read}
 use Rattle.judge.specs.Judged.{judged}
 use Rattle.program.proofs.judge_file.Statement.{statement}
@@ -19,7 +20,7 @@ use Rattle.flowfile.proofs.read.Reads as read-reads
 -- the tables hold what the reader read
 held : (c : lts.After-wide2 (read-reads.Asked, read-reads.Learnt, wide-reads.Asked, wide-reads.Learnt, judge-tables-reads.Asked, judge-tables-reads.Learnt) reads.Pre reads.Post)
     → Held (now (c .before .before .before .before .before .before .before .before .before .before .before .args .file)) (c .before .before .before .before .before .before .before .read .last .1 .0) (c .before .before .before .before .before .before .before .read .last .1 .1 .0) (c .before .before .before .counts .given .0 .0)
-held c = file-read refl refl (c .before .before .before .before .before .before .before .read .ensures) (λ i. omega (arith, c .before .before .before .before .before .before .before .before .before .before .shared-slice-known .given i)) (c .before .before .before .counts .given .1)
+held c = file-read refl refl (c .before .before .before .before .before .before .before .read .ensures) (c .before .before .before .counts .given .1)
 
 slice-aggregate-read : tie.Need-slice-aggregate-read
 slice-aggregate-read c = search needs
@@ -64,7 +65,7 @@ returns : tie.Need-returns
 returns c =
     let r = c .before .before .before .before .before .before .before .before .before .before .read in
     c .judge-tables .ensures
-    ∙ ap₂ (λ (n k : ℕ). judged (take (3 * n) (r .last .1 .0)) (take k (r .last .1 .1 .0)) 32896 1000000) (c .before .before .before .before .wide .ensures) (c .before .before .before .wide2 .ensures)
+    ∙ ap₂ (λ (n k : ℕ). judged (take (3 * n) (r .last .1 .0)) (take k (r .last .1 .1 .0)) work-lent states-allowed) (c .before .before .before .before .wide .ensures) (c .before .before .before .wide2 .ensures)
     ∙ held (c .before .before .before) .answer
 
 returns-2 : tie.Need-returns-2

@@ -1,9 +1,9 @@
--- `replay::judge_lists` meets its contract: the work bytes are filled, judged on and found clean, always. Assumes nothing.
+-- `replay::judge_case::judge_lists` meets its contract: the work bytes are filled, judged on and found clean, always. Assumes nothing.
 use lib.ListN.{length}
 use borrow.Author.Needs.{needs}
 use Rattle.replay.specs.PromisedLaws.{case-clean}
-use Rattle.replay.proofs.judge_lists.Statement.{statement}
-use Rattle.replay.proofs.judge_lists.Tie as tie
+use Rattle.replay.proofs.judge_case.judge_lists.Statement.{statement}
+use Rattle.replay.proofs.judge_case.judge_lists.Tie as tie
 
 fill-requires : tie.Need-fill-requires
 fill-requires c κs = search needs

@@ -1,12 +1,12 @@
--- `replay::wanted` meets its contract. Assumes nothing.
+-- `replay::promised::wanted` meets its contract. Assumes nothing.
 use Prim.Native.Nat.{_+_, _*_, _/_, _≤_}
 use native.Mathlib.Nat.{mul-le-mul}
 use native.Mathlib.Omega.{arith}
 use mathlib.Core.Path.{refl}
 use borrow.Author.Needs.{needs}
 use Rattle.replay.specs.Promised.{work-wanted}
-use Rattle.replay.proofs.wanted.Statement.{statement}
-use Rattle.replay.proofs.wanted.Tie as tie
+use Rattle.replay.proofs.promised.wanted.Statement.{statement}
+use Rattle.replay.proofs.promised.wanted.Tie as tie
 
 mul-result : tie.Need-mul-result
 mul-result c = search needs

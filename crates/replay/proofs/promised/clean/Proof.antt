@@ -1,12 +1,12 @@
--- `replay::clean` meets its contract: the length, and then the two parts. Assumes nothing.
+-- `replay::promised::clean` meets its contract: the length, and then the two parts. Assumes nothing.
 use native.Mathlib.Omega.{arith}
 use mathlib.Core.Path.{sym}
 use lib.Seq.{length-take-le}
 use borrow.Author.Needs.{needs}
 use denote.Ref.{now}
 use Rattle.replay.specs.PromisedLaws.{unclean-short, unclean-front, clean-front}
-use Rattle.replay.proofs.clean.Statement.{statement}
-use Rattle.replay.proofs.clean.Tie as tie
+use Rattle.replay.proofs.promised.clean.Statement.{statement}
+use Rattle.replay.proofs.promised.clean.Tie as tie
 
 returns : tie.Need-returns
 returns c = unclean-short _ _ (c .if1 .taken)

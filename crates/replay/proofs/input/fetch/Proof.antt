@@ -1,9 +1,9 @@
--- `replay::fetch` is safe and ends. Assumes nothing.
+-- `replay::input::fetch` is safe and ends. Assumes nothing.
 use mathlib.Core.Path.{sym}
 use lib.Seq.{length-take-le}
 use borrow.Author.Needs.{needs}
-use Rattle.replay.proofs.fetch.Statement.{statement}
-use Rattle.replay.proofs.fetch.Tie as tie
+use Rattle.replay.proofs.input.fetch.Statement.{statement}
+use Rattle.replay.proofs.input.fetch.Tie as tie
 
 slice-relend-prefix-read-full : tie.Need-slice-relend-prefix-read-full
 slice-relend-prefix-read-full c = search needs

@@ -1,10 +1,10 @@
--- `replay::zeros_after` meets its contract, case by case. Assumes nothing.
+-- `replay::promised::zeros_after` meets its contract, case by case. Assumes nothing.
 use mathlib.Core.Path.{sym, ap, _∙_}
 use borrow.Author.Needs.{needs}
 use Rattle.judge.specs.declared.Answer.{Answer}
 use Rattle.replay.specs.Promised.{zeros-after}
-use Rattle.replay.proofs.zeros_after.Statement.{statement}
-use Rattle.replay.proofs.zeros_after.Tie as tie
+use Rattle.replay.proofs.promised.zeros_after.Statement.{statement}
+use Rattle.replay.proofs.promised.zeros_after.Tie as tie
 
 enum-told : tie.Need-enum-told
 enum-told c = search needs

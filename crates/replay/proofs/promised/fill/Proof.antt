@@ -1,4 +1,4 @@
--- `replay::fill` meets its contract: so many bytes from the front are filled, and the rest is as it was. Assumes nothing.
+-- `replay::promised::fill` meets its contract: so many bytes from the front are filled, and the rest is as it was. Assumes nothing.
 use Prim.Native.Nat.{ℕ, _≤_, _-_}
 use native.Mathlib.Omega.{arith}
 use mathlib.Core.List.{List, _++_, append-nil}
@@ -6,8 +6,8 @@ use mathlib.Core.Path.{_≡_, refl, ap, _∙_}
 use lib.ListN.{length, drop, set, replicate, length-set}
 use lib.Seq.{drop-length}
 use borrow.Author.Fill.{fill-more}
-use Rattle.replay.proofs.fill.Statement.{statement}
-use Rattle.replay.proofs.fill.Tie as tie
+use Rattle.replay.proofs.promised.fill.Statement.{statement}
+use Rattle.replay.proofs.promised.fill.Tie as tie
 
 abbrev Inv-loop : tie.InvT-loop
 Inv-loop work₀ i₀ work i = (i ≤ length work₀) × (work ≡ replicate i 165 ++ drop i work₀) × (length work ≡ length work₀)

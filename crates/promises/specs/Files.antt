@@ -1,0 +1,240 @@
+-- The file as a whole, over what the program answers to its bytes (`answer-of-file`), told in 01's words. A file that is read is never
+-- refused by the judge: the reader's checks are the judge's, and the program lends work bytes enough. So the program refuses exactly
+-- what the reader refuses; and demand 2 for files, of the flow that the file's nodes mean and the records that it holds.
+-- Theorems only. Assumes nothing.
+use Prim.Native.Nat.{ℕ, _+_, _*_, _%_, _<_, _≤_}
+use native.Mathlib.Nat.{mul-le-mul}
+use native.Mathlib.Omega.{arith}
+use mathlib.Core.Bool.{Bool, false, not}
+use mathlib.Core.List.{List, _++_, append-assoc}
+use mathlib.Core.Logic.{_↔_}
+use mathlib.Core.Path.{_≡_, refl, sym, ap, _∙_, subst}
+use borrow.Author.Tests.{eq-eqb, ne-eqb, le-ltb}
+use lib.Dec.{T}
+use lib.ListN.{length}
+use Rattle.calculus.specs.Records.{Record, State, Complete, InTraces, Follows}
+use Rattle.calculus.specs.Search.{visit}
+use Rattle.flow.specs.declared.Refusal.{Refusal}
+use Rattle.flow.specs.declared.Check.the-variants.{Fine}
+use Rattle.flow.specs.Records.{records}
+use Rattle.flow.specs.Refusals.{Ground, count, no-nodes, not-whole, too-many-nodes, no-records, too-many-records, nodes-grounds, table-grounds, values-grounds, closing-grounds, records-grounds, table-check, records-check}
+use Rattle.flow.specs.FirstRefusal.{None, more, fine-exactly, none-append}
+use Rattle.flow.specs.Draws.{flow-of}
+use Rattle.flowfile.specs.declared.Reading.{Reading}
+use Rattle.flowfile.specs.declared.Reading.the-variants as read
+use Rattle.flowfile.specs.Format.{File}
+use Rattle.flowfile.specs.Limits.{Within, Bytes}
+use Rattle.flowfile.specs.Reading.{leaves-grounds, events-grounds, grounds-of, content-grounds, Outcome, reading}
+use Rattle.flowfile.specs.Items.{refusal-of}
+use Rattle.flowfile.specs.Faults.{Refuses}
+use Rattle.flowfile.specs.ReaderLaws.{read-not-refused}
+use Rattle.flowfile.specs.Reader.{Readable, readable-read, read-readable}
+use Rattle.flowfile.specs.Refused.{refused-when}
+use Rattle.judge.specs.Judged.{Word, Told, told, verdict, refusal, room-wanted, judge-check, judged}
+use Rattle.judge.specs.Refused.{passes-exactly}
+use Rattle.judge.specs.Verdicts.{records-decide}
+use Rattle.judge.specs.Demands as demand
+use Rattle.program.specs.Program.{states-allowed, work-lent, answered, answer-of-file}
+
+---- What the reader lets pass, the judge does ----
+
+fails : {b : Bool} → b ≡ false → T (not b)
+fails e = subst (λ (x : Bool). T (not x)) (sym e) tt
+
+module _ (f : File) (within : Within f) (fine : None (content-grounds f)) where
+  abbrev ns : List ℕ
+  ns = f .nodes
+
+  abbrev rs : List ℕ
+  rs = f .records
+
+  -- 19 and 20, which the judge does not know
+  abbrev names : List Ground
+  names = leaves-grounds (length (f .names)) ns ++ events-grounds (length (f .names)) rs
+
+  -- 4 to 9, and what follows
+  numbers-pass : None (nodes-grounds ns) × None (values-grounds rs ++ (closing-grounds ns rs ++ names))
+  unfolding grounds-of
+  numbers-pass = none-append (nodes-grounds ns) (values-grounds rs ++ (closing-grounds ns rs ++ names)) fine
+
+  -- 12 and 13
+  records-pass : None (values-grounds rs ++ closing-grounds ns rs)
+  records-pass =
+      none-append (values-grounds rs ++ closing-grounds ns rs) names
+      (subst None (sym (append-assoc (values-grounds rs) (closing-grounds ns rs) names)) (numbers-pass .1)) .0
+
+  -- 1, 2 and 3, 10 and 11: what the two counts of the file say
+  not-none : no-nodes ns ≡ false
+  unfolding no-nodes
+  not-none = ne-eqb (length ns) 0 (λ e. omega (arith, within .whole-nodes, within .some-nodes))
+
+  whole : not-whole ns ≡ false
+  unfolding not-whole
+  whole = ap not (eq-eqb (length ns % 3) 0 (omega (arith, within .whole-nodes)))
+
+  not-many : too-many-nodes ns ≡ false
+  unfolding too-many-nodes
+  not-many = le-ltb 64 (count ns) (omega (arith, within .whole-nodes, within .few-nodes))
+
+  not-empty : no-records rs ≡ false
+  unfolding no-records
+  not-empty = ne-eqb (length rs) 0 (λ e. omega (arith, within .some-records))
+
+  not-long : too-many-records rs ≡ false
+  unfolding too-many-records
+  not-long = le-ltb 256 (length rs) (within .few-records)
+
+  table-fine : table-check ns ≡ Fine
+  unfolding table-check table-grounds
+  table-fine = fine-exactly (table-grounds ns) .1 (more (fails not-none) (more (fails whole) (more (fails not-many) (numbers-pass .0))))
+
+  records-fine : records-check ns rs ≡ Fine
+  unfolding records-check records-grounds
+  records-fine = fine-exactly (records-grounds ns rs) .1 (more (fails not-empty) (more (fails not-long) records-pass))
+
+  -- 14: the largest flow wants 2 × 64 × (256 + 1)
+  enough : room-wanted ns rs ≤ work-lent
+  unfolding room-wanted
+  enough =
+      let n : 2 * count ns ≤ 128 = omega (arith, within .whole-nodes, within .few-nodes) in
+      let k : length rs + 1 ≤ 257 = omega (arith, within .few-records) in
+      mul-le-mul n k
+
+  pub contents-judged : judge-check ns rs work-lent ≡ Fine
+  contents-judged = records-decide ns rs work-lent table-fine enough ∙ records-fine
+
+---- A file that is read ----
+
+module _ (s : List ℕ) (f : File) (readable : Readable s 192 256 f) where
+  -- it is judged by its nodes and records
+  pub file-judged : answer-of-file s ≡ judged (f .nodes) (f .records) work-lent states-allowed
+  unfolding answer-of-file answered
+  file-judged = ap (λ (o : Outcome). answered (o .answer) (o .nodes) (o .records)) (readable-read s 192 256 f readable)
+
+  judged-so : told (judged (f .nodes) (f .records) work-lent states-allowed) .word ≡ Word.refused → ⊥
+  judged-so =
+      demand.judged-when (f .nodes) (f .records) work-lent states-allowed .1
+      (passes-exactly (f .nodes) (f .records) work-lent .0 (contents-judged f (readable .within) (readable .fine)))
+
+  -- what holds of the judge's answer holds of the program's
+  moved : (P : Told → Type 0) → P (told (judged (f .nodes) (f .records) work-lent states-allowed)) → P (told (answer-of-file s))
+  moved P = subst P (sym (ap told file-judged))
+
+  -- and never refused
+  pub file-passes : told (answer-of-file s) .word ≡ Word.refused → ⊥
+  file-passes = moved (λ (t : Told). t .word ≡ Word.refused → ⊥) judged-so
+
+---- Demand 1 for files ----
+-- 01: "It refuses bad input itself, by the numbers and in the order of document 01."
+
+module _ (s : List ℕ) (bytes : Bytes s) where
+  refused-told : (r : Refusal) → reading s 192 256 .answer ≡ read.Refused r → told (answer-of-file s) ≡ refusal (r .number) (r .place)
+  unfolding answer-of-file answered told
+  refused-told r e = ap (λ (a : Reading). told (answered a (reading s 192 256 .nodes) (reading s 192 256 .records))) e
+
+  -- the program refuses exactly what the reader refuses, with its number and place
+  pub file-refused-exactly : (number place : ℕ)
+      → (told (answer-of-file s) ≡ refusal number place) ↔ (reading s 192 256 .answer ≡ read.Refused (refusal-of number place))
+  file-refused-exactly number place = by (reading s 192 256 .answer) refl
+    where
+      by : (a : Reading) → reading s 192 256 .answer ≡ a
+          → (told (answer-of-file s) ≡ refusal number place) ↔ (reading s 192 256 .answer ≡ read.Refused (refusal-of number place))
+      by (read.Read c) e =
+          let w = read-readable s bytes 192 256 c e in
+          (λ t. absurd (file-passes s (w .0) (w .1) (ap (λ (x : Told). x .word) t)), λ q. read-not-refused (sym e ∙ q))
+      by (read.Refused r) e = (
+        λ t. e ∙ ap (λ (x : Told). read.Refused (refusal-of (x .number) (x .place))) (sym (refused-told r e) ∙ t),
+        λ q. refused-told (refusal-of number place) q,
+      )
+
+  -- in the words of the format: a refusal is given exactly when one of its ways holds
+  pub file-refused-when : (number place : ℕ) → (told (answer-of-file s) ≡ refusal number place) ↔ Refuses s 192 256 number place
+  file-refused-when number place =
+      let a = file-refused-exactly number place in
+      let b = refused-when s bytes 192 256 (refusal-of number place) in
+      (λ t. b .0 (a .0 t), λ x. a .1 (b .1 x))
+
+  -- and every other file is one of the format that is read
+  pub file-judged-when : (told (answer-of-file s) .word ≡ Word.refused → ⊥) ↔ ((f : File) × Readable s 192 256 f)
+  file-judged-when = (λ n. by (reading s 192 256 .answer) refl n, λ x. file-passes s (x .0) (x .1))
+    where
+      by : (a : Reading) → reading s 192 256 .answer ≡ a → (told (answer-of-file s) .word ≡ Word.refused → ⊥) → (f : File) × Readable s 192 256 f
+      by (read.Read c) e n = let w = read-readable s bytes 192 256 c e in (w .0, w .1)
+      by (read.Refused r) e n = absurd (n (ap (λ (x : Told). x .word) (refused-told r e)))
+
+---- Demand 2 for files ----
+-- "A batch that isn't refused is undecided exactly if the search that document 01 defines enters more states than the caller
+-- allowed. If not undecided, it is accepted exactly if its records are a complete run of the flow under the published transition
+-- rules, and equally if they are one of its traces under the published trace semantics. Else it is rejected."
+
+module _ (s : List ℕ) (f : File) (readable : Readable s 192 256 f) where
+  abbrev answer : Told
+  answer = told (answer-of-file s)
+
+  -- what the file holds
+  abbrev flow : State
+  flow = flow-of (f .nodes)
+
+  abbrev batch : List Record
+  batch = records (f .records)
+
+  abbrev entered : ℕ
+  entered = (visit batch flow) .entered
+
+  abbrev judge-answer : Told
+  judge-answer = told (judged (f .nodes) (f .records) work-lent states-allowed)
+
+  not-refused : judge-answer .word ≡ Word.refused → ⊥
+  not-refused = judged-so s f readable
+
+  moves : (P : Told → Type 0) → P judge-answer → P answer
+  moves = moved s f readable
+
+  -- "allows 1,000,000 states"
+  pub file-undecided-exactly : (answer .word ≡ Word.undecided) ↔ (states-allowed < entered)
+  file-undecided-exactly =
+      moves (λ (t : Told). (t .word ≡ Word.undecided) ↔ (states-allowed < entered))
+      (demand.undecided-exactly (f .nodes) (f .records) work-lent states-allowed not-refused)
+
+  pub file-undecided-is : answer .word ≡ Word.undecided → answer ≡ verdict Word.undecided 0 states-allowed
+  file-undecided-is =
+      moves (λ (t : Told). t .word ≡ Word.undecided → t ≡ verdict Word.undecided 0 states-allowed)
+      (demand.undecided-is (f .nodes) (f .records) work-lent states-allowed not-refused)
+
+  module _ (few : entered ≤ states-allowed) where
+    decided : judge-answer .word ≡ Word.undecided → ⊥
+    decided e = omega (arith, demand.undecided-exactly (f .nodes) (f .records) work-lent states-allowed not-refused .0 e)
+
+    -- "accepted exactly if its records are a complete run"
+    pub file-accepted-exactly : (answer .word ≡ Word.accepted) ↔ Complete flow batch
+    file-accepted-exactly =
+        moves (λ (t : Told). (t .word ≡ Word.accepted) ↔ Complete flow batch)
+        (demand.accepted-exactly (f .nodes) (f .records) work-lent states-allowed not-refused decided)
+
+    -- "and equally if they are one of its traces"
+    pub file-accepted-traces : (answer .word ≡ Word.accepted) ↔ InTraces flow batch
+    file-accepted-traces =
+        moves (λ (t : Told). (t .word ≡ Word.accepted) ↔ InTraces flow batch)
+        (demand.accepted-traces (f .nodes) (f .records) work-lent states-allowed not-refused decided)
+
+    -- "Else it is rejected."
+    pub file-else-rejected : (Complete flow batch → ⊥) → answer .word ≡ Word.rejected
+    file-else-rejected n =
+        moves (λ (t : Told). t .word ≡ Word.rejected)
+        (demand.else-rejected (f .nodes) (f .records) work-lent states-allowed not-refused decided n)
+
+  -- "accepted: place = number of records; count"
+  pub file-accepted-is : answer .word ≡ Word.accepted → answer ≡ verdict Word.accepted (length (f .records)) entered
+  file-accepted-is =
+      moves (λ (t : Told). t .word ≡ Word.accepted → t ≡ verdict Word.accepted (length (f .records)) entered)
+      (demand.accepted-is (f .nodes) (f .records) work-lent states-allowed not-refused)
+
+  -- "the longest beginning of the records, in records, that some run follows"
+  abbrev Longest : ℕ → Type 0
+  Longest place = Follows flow batch place × ((n : ℕ) → Follows flow batch n → n ≤ place)
+
+  -- "rejected: place = the longest beginning ..; count"
+  pub file-rejected-is : answer .word ≡ Word.rejected → Longest (answer .place) × (answer .count ≡ entered)
+  file-rejected-is =
+      moves (λ (t : Told). t .word ≡ Word.rejected → Longest (t .place) × (t .count ≡ entered))
+      (λ e. let q = demand.rejected-is (f .nodes) (f .records) work-lent states-allowed not-refused e in ((q .follows, q .longest), q .counted))

@@ -1,0 +1,51 @@
+-- One outcome for every input. 01, "How tight the contracts are": "For each public function and every input, refused ones too, the
+-- contract leaves one possible outcome: the result and each lent byte. That uniqueness is itself a proved fact."
+-- An outcome is the answer with all that was lent to be written, as it is after the call. Here: the general lemma, and the entry points
+-- of `line` and `program`. `judge` and the reader have theirs beside their promises: `judge-unique` (Demands), `read-once` (Reader).
+-- Theorems only. Assumes nothing.
+use Prim.Native.Nat.{ℕ, _+_}
+use mathlib.Core.List.{List, _++_}
+use mathlib.Core.Path.{_≡_, sym, ap, _∙_}
+use lib.ListN.{length, take, drop}
+use Rattle.judge.specs.declared.Answer.{Answer}
+use Rattle.line.specs.declared.Line.{Line}
+use Rattle.line.specs.Line.{line-of, Put, LineWritten}
+use Rattle.program.specs.Program.{answer-of-file, line-for, printed, FileAnswered, AnswerTold, FilePrinted}
+
+-- a contract on outcomes leaves one
+abbrev pub LeavesOne : {A : Type 0} → (A → Type 0) → Type 0
+LeavesOne {A} C = (r r′ : A) → C r → C r′ → r ≡ r′
+
+-- so does every contract that is an equation: it says of an outcome that it is a certain one
+pub equation-once : {A : Type 0} (C : A → Type 0) (a : A) → ((r : A) → C r → r ≡ a) → LeavesOne C
+equation-once C a is r r′ c c′ = is r c ∙ sym (is r′ c′)
+
+---- What only answers ----
+
+pub judge-file-once : (file : List ℕ) → LeavesOne (FileAnswered file)
+judge-file-once file = equation-once (FileAnswered file) (answer-of-file file) (λ r e. e)
+
+pub line-for-once : (a : Answer) → LeavesOne (AnswerTold a)
+line-for-once a = equation-once (AnswerTold a) (line-for a) (λ r e. e)
+
+---- What writes ----
+
+-- the offset behind the text, and every byte of the room
+abbrev pub Puts : (text out : List ℕ) → ℕ → ℕ × List ℕ → Type 0
+Puts text out at o = Put text out at (o .1) (o .0)
+
+pub put-once : (text out : List ℕ) (at : ℕ) → LeavesOne (Puts text out at)
+put-once text out at =
+    equation-once (Puts text out at) (at + length text, take at out ++ (text ++ drop (at + length text) out)) is
+  where
+    is : (o : ℕ × List ℕ) → Puts text out at o → o ≡ (at + length text, take at out ++ (text ++ drop (at + length text) out))
+    is o p =
+        let w : o .1 ≡ take at out ++ (text ++ drop (at + length text) out) =
+        p .written ∙ ap (λ (r : ℕ). take at out ++ (text ++ drop r out)) (p .end) in
+        λ i. (p .end i, w i)
+
+pub write-line-once : (line : Line) (out : List ℕ) → LeavesOne (λ (o : ℕ × List ℕ). LineWritten line out (o .1) (o .0))
+write-line-once line out = put-once (line-of line) out 0
+
+pub write-file-line-once : (file out : List ℕ) → LeavesOne (λ (o : ℕ × List ℕ). FilePrinted file out (o .1) (o .0))
+write-file-line-once file out = put-once (printed file) out 0

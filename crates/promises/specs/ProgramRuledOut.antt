@@ -1,0 +1,122 @@
+-- Wrong answers that the contracts of the program's entry points rule out: two inputs or more for each, on which a wrong one answers or
+-- writes something else. All from the definitions by computation; the room holds 64 bytes of 7. That the program allows neither one
+-- state more nor one less, and lends no byte too few, is in Files: `file-undecided-exactly`, `file-passes`. Theorems only. Assumes nothing.
+use Prim.Native.Nat.{ℕ}
+use native.Mathlib.Omega.{arith}
+use mathlib.Core.Bool.{xor}
+use mathlib.Core.List.{List, [], _∷_, _++_}
+use mathlib.Core.Path.{_≡_, refl, ap, _∙_}
+use lib.ListN.{length, drop, replicate}
+use Rattle.calculus.specs.Search as search
+use Rattle.flow.specs.Nodes.{fold}
+use Rattle.flow.specs.Records.{record-of, is-event-number, is-closing-number}
+use Rattle.flow.specs.Refusals.{no-nodes, not-whole, too-many-nodes, unknown-kind, wrong-field, not-lower, is-child, taken, wrong-sort, child-taken, nobodys-child, no-records, too-many-records, no-record, closings-wanted, closed, wrong-closings, after-closings, or-else-check, answer, first, each, node-grounds, child-grounds, nodes-grounds, table-grounds, value-grounds, values-grounds, closing-grounds, records-grounds}
+use Rattle.flow.specs.Draws.{part, drawn, flow-of}
+use Rattle.flowfile.specs.Format.{encode}
+use Rattle.flowfile.specs.Plan.{_>>=_, run}
+use Rattle.flowfile.specs.Reading.{number, name, entry, same, same-entry, met, new-entry, entries, name-count, names, some-count, numbers, layout, Outcome, refused, checked, laid, reading}
+use Rattle.flowfile.specs.Items.{refusal-of}
+use Rattle.flowfile.specs.Worked.{worked, worked-read}
+use Rattle.judge.specs.declared.Answer.{Answer}
+use Rattle.judge.specs.declared.Answer.the-variants.{Accepted, Rejected, Refused}
+use Rattle.judge.specs.Judged.{Word, told, verdict, refusal, room-wanted, too-short, room-grounds, judge-grounds, judge-check, answer-of, unless-refused, judged}
+use Rattle.line.specs.declared.VerdictWord.{VerdictWord}
+use Rattle.line.specs.declared.VerdictWord.the-variants as word
+use Rattle.line.specs.declared.Line.{Line}
+use Rattle.line.specs.Line.{places, size, decimal, spaced, spelled, text-of, line-of, Put, LineWritten}
+use Rattle.program.specs.Program.{states-allowed, work-lent, answered, answer-of-file, line-for, printed, FileAnswered, AnswerTold, FilePrinted}
+
+---- The answer to a file ----
+-- a program that only refuses, or has one verdict, fails at the worked file; one that judges whatever it gets at a file of no bytes
+
+worked-judged : judged (worked .nodes) (worked .records) work-lent states-allowed ≡ Accepted (record { place = 3; count = 4 })
+unfolding judged unless-refused answer-of judge-check judge-grounds room-grounds too-short room-wanted search.judge flow-of drawn part fold first answer or-else-check each no-nodes not-whole too-many-nodes unknown-kind wrong-field not-lower is-child taken wrong-sort child-taken nobodys-child no-records too-many-records no-record closings-wanted closed wrong-closings after-closings node-grounds child-grounds nodes-grounds table-grounds value-grounds values-grounds closing-grounds records-grounds record-of is-event-number is-closing-number xor
+worked-judged = refl
+
+worked-is : answer-of-file (encode worked) ≡ Accepted (record { place = 3; count = 4 })
+unfolding answer-of-file answered
+worked-is = ap (λ (o : Outcome). answered (o .answer) (o .nodes) (o .records)) worked-read ∙ worked-judged
+
+empty-read : reading [] 192 256 ≡ refused (refusal-of 15 0)
+unfolding run _>>=_ number name entry same same-entry met new-entry entries name-count names some-count numbers layout checked laid reading
+empty-read = refl
+
+empty-is : answer-of-file [] ≡ Refused (refusal-of 15 0)
+unfolding answer-of-file answered
+empty-is = ap (λ (o : Outcome). answered (o .answer) (o .nodes) (o .records)) empty-read
+
+pub worked-answered : (r : Answer) → FileAnswered (encode worked) r → told r ≡ verdict Word.accepted 3 4
+unfolding told
+worked-answered r e = ap told (e ∙ worked-is)
+
+pub empty-answered : (r : Answer) → FileAnswered [] r → told r ≡ refusal 15 0
+unfolding told
+empty-answered r e = ap told (e ∙ empty-is)
+
+---- What a line tells ----
+-- a rejection told by another word, or with place and count exchanged; a refusal without its number, or with a count
+
+abbrev line : VerdictWord → ℕ → ℕ → ℕ → Line
+line w number place count = record { word = w; number = number; place = place; count = count }
+
+pub rejection-told : (r : Line) → AnswerTold (Rejected (record { place = 2; count = 3 })) r → r ≡ line word.Rejected 0 2 3
+unfolding line-for told
+rejection-told r e = e
+
+pub refusal-told : (r : Line) → AnswerTold (Refused (record { number = 15; place = 8 })) r → r ≡ line word.Refused 15 8 0
+unfolding line-for told
+refusal-told r e = e
+
+---- What is written ----
+
+abbrev room : List ℕ
+room = replicate 64 7
+
+-- "accepted 0 3 4", and a line feed
+abbrev accepted-text : List ℕ
+accepted-text = 97 ∷ 99 ∷ 99 ∷ 101 ∷ 112 ∷ 116 ∷ 101 ∷ 100 ∷ 32 ∷ 48 ∷ 32 ∷ 51 ∷ 32 ∷ 52 ∷ 10 ∷ []
+
+-- "refused 15 0 0", and a line feed
+abbrev refused-text : List ℕ
+refused-text = 114 ∷ 101 ∷ 102 ∷ 117 ∷ 115 ∷ 101 ∷ 100 ∷ 32 ∷ 49 ∷ 53 ∷ 32 ∷ 48 ∷ 32 ∷ 48 ∷ 10 ∷ []
+
+accepted-line : line-of (line word.Accepted 0 3 4) ≡ accepted-text
+unfolding line-of text-of spelled spaced decimal size places
+accepted-line = refl
+
+refused-line : line-of (line word.Refused 15 0 0) ≡ refused-text
+unfolding line-of text-of spelled spaced decimal size places
+refused-line = refl
+
+-- the text at the start of the room, what was behind it, and the text's length
+abbrev Shows : List ℕ → List ℕ → ℕ → Type 0
+Shows text out′ r = (r ≡ length text) × (out′ ≡ text ++ drop (length text) room)
+
+shown : {text text′ out′ : List ℕ} {r : ℕ} → text ≡ text′ → Put text room 0 out′ r → Shows text′ out′ r
+shown {text′ = text′} {r = r} e p =
+    let l : r ≡ length text′ = omega (arith, p .end, ap length e) in
+    (l, p .written ∙ (λ i. e i ++ drop (l i) room))
+
+-- a line without its line feed, with two spaces, with a number twice or one digit short, or with another length
+pub accepted-written : (out′ : List ℕ) (r : ℕ) → LineWritten (line word.Accepted 0 3 4) room out′ r → Shows accepted-text out′ r
+accepted-written out′ r = shown accepted-line
+
+pub refused-written : (out′ : List ℕ) (r : ℕ) → LineWritten (line word.Refused 15 0 0) room out′ r → Shows refused-text out′ r
+refused-written out′ r = shown refused-line
+
+---- What is printed for a file ----
+-- the line of an empty file whatever the file, or of the worked one; half of the length; a byte behind the line touched
+
+worked-prints : printed (encode worked) ≡ accepted-text
+unfolding printed line-for told
+worked-prints = ap (λ (a : Answer). line-of (line-for a)) worked-is ∙ accepted-line
+
+empty-prints : printed [] ≡ refused-text
+unfolding printed line-for told
+empty-prints = ap (λ (a : Answer). line-of (line-for a)) empty-is ∙ refused-line
+
+pub worked-printed : (out′ : List ℕ) (r : ℕ) → FilePrinted (encode worked) room out′ r → Shows accepted-text out′ r
+worked-printed out′ r = shown worked-prints
+
+pub empty-printed : (out′ : List ℕ) (r : ℕ) → FilePrinted [] room out′ r → Shows refused-text out′ r
+empty-printed out′ r = shown empty-prints

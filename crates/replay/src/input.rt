@@ -1,0 +1,25 @@
+// What a case is read from: bytes from standard input, and numbers of them, the low byte first.
+use libc::STDIN_FILENO;
+use libc::STDOUT_FILENO;
+ghost use mathlib.Core.Path.{_≡_};
+ghost use Prim.Native.Nat.{_+_, _*_, _≤_};
+ghost use lib.ListN.{length};
+
+// Four bytes as a number, the low one first.
+pub fn four(a: u8, b: u8, c: u8, d: u8) -> u32
+    ensures { λ r. ⌜ r ≡ a + 256 * b + 65536 * (c + 256 * d) ⌝ }
+{
+    flowfile::word(a, b) as u32 + 65536 * (flowfile::word(c, d) as u32)
+}
+
+// Reads so many bytes, and answers whether they were there.
+pub fn fetch(room: &mut [u8], n: usize) -> bool
+    requires { ⌜ n ≤ length (now room) ⌝ }
+{
+    io::read_full(STDIN_FILENO, &mut room[..n]) == n
+}
+
+pub fn bad_case() -> bool {
+    io::write_all(STDOUT_FILENO, b"bad case\n");
+    false
+}
