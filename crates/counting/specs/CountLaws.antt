@@ -32,7 +32,7 @@ use Rattle.states.specs.StateLaws.{std-part, run-part, std-stored, run-stored}
 use Rattle.states.specs.Roles.{Seen, moves-of}
 use Rattle.states.specs.Contracts.{Spot, Sets, Scene, scene, part-at, stored-at, Counted}
 use Rattle.states.specs.Rests.{Rests, CRests, stand-rests, course-rests, Lower, CLower, stand-lower, course-lower}
-use Rattle.counting.specs.Wholes.{basicV, bothV, basicW, bothW}
+use Rattle.counting.specs.Wholes.{simpleV, operatorV, simpleW, operatorW}
 use Rattle.counting.specs.WholeLaws.{view-basic, view-both, word-basic, word-both}
 use Rattle.counting.specs.Noting.{tree, own-at, none-noted, one-noted, two-noted}
 
@@ -65,17 +65,17 @@ module _ {ns t : List ℕ} {i : ℕ} (spot : Spot ns t i) (a : ℕ) where
     event-counted {n} e {c} {c′} {u} {v} eu w =
         none-noted s₀ spot (Plain z) true tt (w .0 ∙ eu ∙ sym (ap (view a) (is-part z e) ∙ view-ev a (leaf n))) (is-right z e c′) (answered (Plain z) u v w)
 
-    pub basic-counted : {b : Simple} → stand z (node ns i) (modes t i) ≡ standing.Basic b → {c c′ : List ℕ} {u v : View} → u ≡ basicV b → (v ≡ u) × Sets c i (u .moves) c′ → Counted s₀ (Plain z) i c c′ v
+    pub basic-counted : {b : Simple} → stand z (node ns i) (modes t i) ≡ standing.Basic b → {c c′ : List ℕ} {u v : View} → u ≡ simpleV b → (v ≡ u) × Sets c i (u .moves) c′ → Counted s₀ (Plain z) i c c′ v
     unfolding std-of std-right
     basic-counted {b} e {c} {c′} {u} {v} eu w =
         none-noted s₀ spot (Plain z) true tt (w .0 ∙ eu ∙ sym (ap (view a) (is-part z e) ∙ view-basic a b)) (is-right z e c′) (answered (Plain z) u v w)
 
     pub both-counted : {o : Operator} {x : Two} → stand z (node ns i) (modes t i) ≡ standing.Both o x → {c c₁ c₂ c₃ : List ℕ} {p q u v : View}
-        → Counted s₀ (Plain z) (x .first) c c₁ p → Counted s₀ (Plain z) (x .second) c₁ c₂ q → u ≡ bothV o p q → (v ≡ u) × Sets c₂ i (u .moves) c₃ → Counted s₀ (Plain z) i c c₃ v
+        → Counted s₀ (Plain z) (x .first) c c₁ p → Counted s₀ (Plain z) (x .second) c₁ c₂ q → u ≡ operatorV o p q → (v ≡ u) × Sets c₂ i (u .moves) c₃ → Counted s₀ (Plain z) i c c₃ v
     unfolding std-of std-right
     both-counted {o} {x} e {c₃ = c₃} {u = u} {v} f g eu w =
         two-noted s₀ spot (Plain z) (Plain z) (Plain z) (rests z e) f g (right-both c₃ x) (λ h h′. and-in (stored-at s₀ c₃ (x .first) .std z) (stored-at s₀ c₃ (x .second) .std z) h h′)
-        (w .0 ∙ eu ∙ (λ y. bothV o (f .seen y) (g .seen y)) ∙ sym (ap (view a) (is-part z e) ∙ view-both a o _ _)) (is-right z e c₃) (answered (Plain z) u v w)
+        (w .0 ∙ eu ∙ (λ y. operatorV o (f .seen y) (g .seen y)) ∙ sym (ap (view a) (is-part z e) ∙ view-both a o _ _)) (is-right z e c₃) (answered (Plain z) u v w)
 
     pub handler-counted : {x : Two} → stand z (node ns i) (modes t i) ≡ standing.Handler x → {c c₁ c₂ c₃ : List ℕ} {p q u v : View}
         → Counted s₀ (Plain z) (x .first) c c₁ p → Counted s₀ (Plain z) (x .second) c₁ c₂ q → u ≡ hndV p q → (v ≡ u) × Sets c₂ i (u .moves) c₃ → Counted s₀ (Plain z) i c c₃ v
@@ -116,7 +116,7 @@ module _ {ns t : List ℕ} {i : ℕ} (spot : Spot ns t i) (a : ℕ) where
     run-rests : CRests ns i x
     run-rests = subst (CRests ns i) e (course-rests ns i (tree s₀ spot) (modes t i))
 
-  pub paired-counted : {b : Simple} → course-of (node ns i) (modes t i) ≡ course.Basic b → {c c′ : List ℕ} {u v : Word} → u ≡ basicW b → (v ≡ u) × Sets c i (u .moves) c′ → Counted s₀ Running i c c′ v
+  pub paired-counted : {b : Simple} → course-of (node ns i) (modes t i) ≡ course.Basic b → {c c′ : List ℕ} {u v : Word} → u ≡ simpleW b → (v ≡ u) × Sets c i (u .moves) c′ → Counted s₀ Running i c c′ v
   unfolding run-of run-right
   paired-counted {b} e {c} {c′} {u} {v} eu w =
       none-noted s₀ spot Running true tt (w .0 ∙ eu ∙ sym (ap (word a) (is-run e) ∙ word-basic a b)) (is-run-right e c′) (answered Running u v w)
@@ -144,11 +144,11 @@ module _ {ns t : List ℕ} {i : ℕ} (spot : Spot ns t i) (a : ℕ) where
         (w .0 ∙ eu ∙ same ∙ ap (λ y. pairW y q′) (f .seen) ∙ sym pair-sees) (is-run-right e c₂) (answered Running u v w)
 
   pub runs-both-counted : {o : Operator} {x : Two} → course-of (node ns i) (modes t i) ≡ course.Both o x → {c c₁ c₂ c₃ : List ℕ} {p q u v : Word}
-      → Counted s₀ Running (x .first) c c₁ p → Counted s₀ Running (x .second) c₁ c₂ q → u ≡ bothW o p q → (v ≡ u) × Sets c₂ i (u .moves) c₃ → Counted s₀ Running i c c₃ v
+      → Counted s₀ Running (x .first) c c₁ p → Counted s₀ Running (x .second) c₁ c₂ q → u ≡ operatorW o p q → (v ≡ u) × Sets c₂ i (u .moves) c₃ → Counted s₀ Running i c c₃ v
   unfolding run-of run-right
   runs-both-counted {o} {x} e {c₃ = c₃} {u = u} {v} f g eu w =
       two-noted s₀ spot Running Running Running (run-rests e) f g (stored-at s₀ c₃ (x .first) .run && stored-at s₀ c₃ (x .second) .run) (λ h h′. and-in (stored-at s₀ c₃ (x .first) .run) (stored-at s₀ c₃ (x .second) .run) h h′)
-      (w .0 ∙ eu ∙ (λ y. bothW o (f .seen y) (g .seen y)) ∙ sym (ap (word a) (is-run e) ∙ word-both a o _ _)) (is-run-right e c₃) (answered Running u v w)
+      (w .0 ∙ eu ∙ (λ y. operatorW o (f .seen y) (g .seen y)) ∙ sym (ap (word a) (is-run e) ∙ word-both a o _ _)) (is-run-right e c₃) (answered Running u v w)
 
   pub held-counted : {x : Two} → course-of (node ns i) (modes t i) ≡ course.Held x → {c c₁ c₂ c₃ : List ℕ} {p : View} {q u v : Word}
       → Counted s₀ (Plain Undoing) (x .first) c c₁ p → Counted s₀ Running (x .second) c₁ c₂ q → u ≡ heldW q p → (v ≡ u) × Sets c₂ i (u .moves) c₃ → Counted s₀ Running i c c₃ v

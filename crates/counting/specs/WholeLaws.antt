@@ -9,29 +9,29 @@ use Rattle.flow.specs.declared.Operator.the-variants.{Sequence, Choice, Paralle
 use Rattle.flow.specs.Draws.{basic, paired, standard, compensable}
 use Rattle.tallies.specs.Counts.{view, word}
 use Rattle.tallies.specs.CountsLaws.{view-skip, view-throw, view-yield, view-seq, view-alt, view-par, word-skipp, word-throww, word-yieldd, word-cseq, word-calt, word-cpar}
-use Rattle.counting.specs.Wholes.{basicV, bothV, basicW, bothW}
+use Rattle.counting.specs.Wholes.{simpleV, operatorV, simpleW, operatorW}
 
 module _ (a : ℕ) where
-  pub view-basic : (b : Simple) → view a (basic b) ≡ basicV b
-  unfolding basicV
+  pub view-basic : (b : Simple) → view a (basic b) ≡ simpleV b
+  unfolding simpleV
   view-basic Skip = view-skip a
   view-basic Throw = view-throw a
   view-basic Yield = view-yield a
 
-  pub view-both : (o : Operator) (p q : Std) → view a (standard o p q) ≡ bothV o (view a p) (view a q)
-  unfolding bothV
+  pub view-both : (o : Operator) (p q : Std) → view a (standard o p q) ≡ operatorV o (view a p) (view a q)
+  unfolding operatorV
   view-both Sequence p q = view-seq a p q
   view-both Choice p q = view-alt a p q
   view-both Parallel p q = view-par a p q
 
-  pub word-basic : (b : Simple) → word a (paired b) ≡ basicW b
-  unfolding basicW
+  pub word-basic : (b : Simple) → word a (paired b) ≡ simpleW b
+  unfolding simpleW
   word-basic Skip = word-skipp a
   word-basic Throw = word-throww a
   word-basic Yield = word-yieldd a
 
-  pub word-both : (o : Operator) (pp qq : Cmp) → word a (compensable o pp qq) ≡ bothW o (word a pp) (word a qq)
-  unfolding bothW
+  pub word-both : (o : Operator) (pp qq : Cmp) → word a (compensable o pp qq) ≡ operatorW o (word a pp) (word a qq)
+  unfolding operatorW
   word-both Sequence pp qq = word-cseq a pp qq
   word-both Choice pp qq = word-calt a pp qq
   word-both Parallel pp qq = word-cpar a pp qq

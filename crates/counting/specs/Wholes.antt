@@ -7,22 +7,22 @@ use Rattle.tallies.specs.declared.View.{View}
 use Rattle.tallies.specs.declared.Word.{Word}
 use Rattle.tallies.specs.Formulas.{skipV, throwV, yieldV, seqV, altV, parV, skippW, throwwW, yielddW, cseqW, caltW, cparW}
 
-unfoldable pub basicV : Simple → View
-basicV Skip = skipV
-basicV Throw = throwV
-basicV Yield = yieldV
+unfoldable pub simpleV : Simple → View
+simpleV Skip = skipV
+simpleV Throw = throwV
+simpleV Yield = yieldV
 
-unfoldable pub bothV : Operator → View → View → View
-bothV Sequence p q = seqV p q
-bothV Choice p q = altV p q
-bothV Parallel p q = parV p q
+unfoldable pub operatorV : Operator → View → View → View
+operatorV Sequence p q = seqV p q
+operatorV Choice p q = altV p q
+operatorV Parallel p q = parV p q
 
-unfoldable pub basicW : Simple → Word
-basicW Skip = skippW
-basicW Throw = throwwW
-basicW Yield = yielddW
+unfoldable pub simpleW : Simple → Word
+simpleW Skip = skippW
+simpleW Throw = throwwW
+simpleW Yield = yielddW
 
-unfoldable pub bothW : Operator → Word → Word → Word
-bothW Sequence p q = cseqW p q
-bothW Choice p q = caltW p q
-bothW Parallel p q = cparW p q
+unfoldable pub operatorW : Operator → Word → Word → Word
+operatorW Sequence p q = cseqW p q
+operatorW Choice p q = caltW p q
+operatorW Parallel p q = cparW p q

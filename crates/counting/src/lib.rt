@@ -13,7 +13,7 @@ ghost use Prim.Native.Nat.{_<_};
 ghost use lib.ListN.{length};
 ghost use Rattle.states.specs.declared.Role.the-variants.{Plain, Running};
 ghost use Rattle.states.specs.Contracts.{Spot, Sets, scene, Counted};
-ghost use Rattle.counting.specs.Wholes.{basicV, bothV, basicW, bothW};
+ghost use Rattle.counting.specs.Wholes.{simpleV, operatorV, simpleW, operatorW};
 
 // A count is written, through a slice, which knows its length.
 fn put(c: &mut [u32], i: usize, n: u32)
@@ -43,7 +43,7 @@ fn note_word(c: &mut [u32; 64], i: usize, v: Word) -> Word
 }
 
 fn basic_view(simple: Simple) -> View
-    ensures { λ r. ⌜ r ≡ basicV simple ⌝ }
+    ensures { λ r. ⌜ r ≡ simpleV simple ⌝ }
 {
     match simple {
         Simple::Skip => tallies::skip_view(),
@@ -53,7 +53,7 @@ fn basic_view(simple: Simple) -> View
 }
 
 fn both_view(operator: Operator, p: View, q: View) -> View
-    ensures { λ r. ⌜ r ≡ bothV operator p q ⌝ }
+    ensures { λ r. ⌜ r ≡ operatorV operator p q ⌝ }
 {
     match operator {
         Operator::Sequence => tallies::sequence_view(p, q),
@@ -63,7 +63,7 @@ fn both_view(operator: Operator, p: View, q: View) -> View
 }
 
 fn basic_word(simple: Simple) -> Word
-    ensures { λ r. ⌜ r ≡ basicW simple ⌝ }
+    ensures { λ r. ⌜ r ≡ simpleW simple ⌝ }
 {
     match simple {
         Simple::Skip => tallies::skipp_word(),
@@ -73,7 +73,7 @@ fn basic_word(simple: Simple) -> Word
 }
 
 fn both_word(operator: Operator, p: Word, q: Word) -> Word
-    ensures { λ r. ⌜ r ≡ bothW operator p q ⌝ }
+    ensures { λ r. ⌜ r ≡ operatorW operator p q ⌝ }
 {
     match operator {
         Operator::Sequence => tallies::sequence_word(p, q),

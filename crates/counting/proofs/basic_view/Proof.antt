@@ -1,6 +1,6 @@
 -- `counting::basic_view` meets its contract: each arm by the word that it matches. Assumes nothing.
 use mathlib.Core.Path.{_∙_}
-use Rattle.counting.specs.Wholes.{basicV}
+use Rattle.counting.specs.Wholes.{simpleV}
 use borrow.Author.Needs.{needs}
 use Rattle.counting.proofs.basic_view.Statement.{statement}
 use Rattle.counting.proofs.basic_view.Tie as tie
@@ -24,15 +24,15 @@ yield-view-requires : tie.Need-yield-view-requires
 yield-view-requires c κs = search needs
 
 returns : tie.Need-returns
-unfolding basicV
+unfolding simpleV
 returns c = c .skip-view .ensures ∙ (rw (c .before .enum-told .given .1))
 
 returns-2 : tie.Need-returns-2
-unfolding basicV
+unfolding simpleV
 returns-2 c = c .throw-view .ensures ∙ (rw (c .before .enum-told2 .given .1))
 
 returns-3 : tie.Need-returns-3
-unfolding basicV
+unfolding simpleV
 returns-3 c = c .yield-view .ensures ∙ (rw (c .before .enum-told3 .given .1))
 
 pub basic-view-spec : {M : Type 1} → statement M

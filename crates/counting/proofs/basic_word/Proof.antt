@@ -1,6 +1,6 @@
 -- `counting::basic_word` meets its contract: each arm by the word that it matches. Assumes nothing.
 use mathlib.Core.Path.{_∙_}
-use Rattle.counting.specs.Wholes.{basicW}
+use Rattle.counting.specs.Wholes.{simpleW}
 use borrow.Author.Needs.{needs}
 use Rattle.counting.proofs.basic_word.Statement.{statement}
 use Rattle.counting.proofs.basic_word.Tie as tie
@@ -24,15 +24,15 @@ yieldd-word-requires : tie.Need-yieldd-word-requires
 yieldd-word-requires c κs = search needs
 
 returns : tie.Need-returns
-unfolding basicW
+unfolding simpleW
 returns c = c .skipp-word .ensures ∙ (rw (c .before .enum-told .given .1))
 
 returns-2 : tie.Need-returns-2
-unfolding basicW
+unfolding simpleW
 returns-2 c = c .throww-word .ensures ∙ (rw (c .before .enum-told2 .given .1))
 
 returns-3 : tie.Need-returns-3
-unfolding basicW
+unfolding simpleW
 returns-3 c = c .yieldd-word .ensures ∙ (rw (c .before .enum-told3 .given .1))
 
 pub basic-word-spec : {M : Type 1} → statement M

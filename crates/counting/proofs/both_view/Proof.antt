@@ -1,6 +1,6 @@
 -- `counting::both_view` meets its contract: each arm by the word that it matches. Assumes nothing.
 use mathlib.Core.Path.{_∙_}
-use Rattle.counting.specs.Wholes.{bothV}
+use Rattle.counting.specs.Wholes.{operatorV}
 use borrow.Author.Needs.{needs}
 use Rattle.counting.proofs.both_view.Statement.{statement}
 use Rattle.counting.proofs.both_view.Tie as tie
@@ -24,15 +24,15 @@ parallel-view-requires : tie.Need-parallel-view-requires
 parallel-view-requires c κs = search needs
 
 returns : tie.Need-returns
-unfolding bothV
+unfolding operatorV
 returns c = c .sequence-view .ensures ∙ (rw (c .before .enum-told .given .1))
 
 returns-2 : tie.Need-returns-2
-unfolding bothV
+unfolding operatorV
 returns-2 c = c .choice-view .ensures ∙ (rw (c .before .enum-told2 .given .1))
 
 returns-3 : tie.Need-returns-3
-unfolding bothV
+unfolding operatorV
 returns-3 c = c .parallel-view .ensures ∙ (rw (c .before .enum-told3 .given .1))
 
 pub both-view-spec : {M : Type 1} → statement M

@@ -1,6 +1,6 @@
 -- `counting::both_word` meets its contract: each arm by the word that it matches. Assumes nothing.
 use mathlib.Core.Path.{_∙_}
-use Rattle.counting.specs.Wholes.{bothW}
+use Rattle.counting.specs.Wholes.{operatorW}
 use borrow.Author.Needs.{needs}
 use Rattle.counting.proofs.both_word.Statement.{statement}
 use Rattle.counting.proofs.both_word.Tie as tie
@@ -24,15 +24,15 @@ parallel-word-requires : tie.Need-parallel-word-requires
 parallel-word-requires c κs = search needs
 
 returns : tie.Need-returns
-unfolding bothW
+unfolding operatorW
 returns c = c .sequence-word .ensures ∙ (rw (c .before .enum-told .given .1))
 
 returns-2 : tie.Need-returns-2
-unfolding bothW
+unfolding operatorW
 returns-2 c = c .choice-word .ensures ∙ (rw (c .before .enum-told2 .given .1))
 
 returns-3 : tie.Need-returns-3
-unfolding bothW
+unfolding operatorW
 returns-3 c = c .parallel-word .ensures ∙ (rw (c .before .enum-told3 .given .1))
 
 pub both-word-spec : {M : Type 1} → statement M
