@@ -1,235 +1,164 @@
--- One lemma for each way in which a function of the counting pass returns. Each takes what the code has learnt, in the code's
--- order, and concludes Counted of the node in its role. Assumes nothing.
-use Prim.Native.Nat.{ℕ, _*_, _≤_}
+-- What the counting pass has at the end of each of its ways: a node is counted, by what it stands as or how it runs, from what its
+-- live parts were counted to be. Assumes nothing.
+use Prim.Native.Nat.{ℕ}
 use mathlib.Core.Path.{_≡_, refl, sym, _∙_, ap, subst}
-use mathlib.Core.Bool.{true, false, _&&_, and-true}
+use mathlib.Core.Bool.{Bool, true, false, _&&_}
 use mathlib.Core.List.{List}
-use mathlib.Core.Logic.{_≢_}
-use native.Mathlib.Omega.{arith}
-use lib.Dec.{eqb}
-use lib.ListN.{getD}
-use borrow.Author.Tests.{eq-eqb, ne-eqb}
-use Rattle.calculus.specs.Term.{leaf}
+use lib.Dec.{T, eqb}
 use Rattle.calculus.specs.Members.{and-in}
-use Rattle.flow.specs.Kinds.{Blk, Pair, CSeq, kindOf, kind, one-of, two-of, shape}
-use Rattle.flow.specs.Nodes.{Kid}
-use Rattle.tallies.specs.Formulas.{skipV, blkV, pairW, cseqW, heldW}
-use Rattle.tallies.specs.Counts.{moves, view, word}
-use Rattle.tallies.specs.CountsLaws.{view-skip, view-blk, word-pair, word-cseq, word-held}
+use Rattle.calculus.specs.Term.{leaf}
+use Rattle.flow.specs.declared.Simple.{Simple}
+use Rattle.flow.specs.declared.Operator.{Operator}
+use Rattle.flow.specs.declared.Two.{Two}
+use Rattle.flow.specs.Kinds.{node}
 use Rattle.tallies.specs.declared.View.{View}
 use Rattle.tallies.specs.declared.Word.{Word}
-use Rattle.states.specs.State.{Part, build, part, modes, counts}
-use Rattle.states.specs.Stored.{Right, wrong, right, own, stored}
-use Rattle.states.specs.StateLaws.{part-is, part-of}
-use Rattle.states.specs.KindFacts.{one-kid}
-use Rattle.states.specs.Roles.{Role, plain, running, undoing, get, Seen, look, moves-of, ok}
-use Rattle.states.specs.Contracts.{Spot, Both, Sets, Counted}
-use Rattle.states.specs.ChildLaws.{kept-kid, kid-one, kid-two, both-of}
-use Rattle.counting.specs.Sides.{leafV, leafW}
-use Rattle.counting.specs.KindLaws.{choose, choose-ap, OfTwo, side, both-seen, two-kids, both-term, both-looks, two-parts, std-leaf, left-leaf, run-leaf}
-use Rattle.counting.specs.Noting.{tree, child-noted, first-still, both-kept, noted, two-both, two-first, two-second}
+use Rattle.tallies.specs.Formulas.{skipV, evV, hndV, blkV, pairW, heldW}
+use Rattle.tallies.specs.Counts.{view, word}
+use Rattle.tallies.specs.CountsLaws.{view-ev, view-hnd, view-blk, word-pair, word-held}
+use Rattle.states.specs.declared.Sense.{Sense}
+use Rattle.states.specs.declared.Sense.the-variants.{Drawn, Undoing}
+use Rattle.states.specs.declared.Role.{Role}
+use Rattle.states.specs.declared.Role.the-variants.{Plain, Running}
+use Rattle.states.specs.declared.Sub.{Sub}
+use Rattle.states.specs.declared.Standing.{Standing}
+use Rattle.states.specs.declared.Standing.the-variants as standing
+use Rattle.states.specs.declared.Course.{Course}
+use Rattle.states.specs.declared.Course.the-variants as course
+use Rattle.states.specs.Standings.{stand, course-of}
+use Rattle.states.specs.State.{modes, counts, std-of, run-of, part}
+use Rattle.states.specs.Stored.{std-right, run-right, stored}
+use Rattle.states.specs.StateLaws.{std-part, run-part, std-stored, run-stored}
+use Rattle.states.specs.Roles.{Seen, moves-of}
+use Rattle.states.specs.Contracts.{Spot, Sets, Scene, scene, part-at, stored-at, Counted}
+use Rattle.states.specs.Rests.{Rests, CRests, stand-rests, course-rests, Lower, CLower, stand-lower, course-lower}
+use Rattle.counting.specs.Wholes.{basicV, bothV, basicW, bothW}
+use Rattle.counting.specs.WholeLaws.{view-basic, view-both, word-basic, word-both}
+use Rattle.counting.specs.Noting.{tree, own-at, none-noted, one-noted, two-noted}
 
 -- what is noted is what is answered
 answered : (r : Role) {c c′ : List ℕ} {i : ℕ} (w v : Seen r) → (v ≡ w) × Sets c i (moves-of r w) c′ → Sets c i (moves-of r v) c′
 answered r {c} {c′} {i} w v n = subst (λ z. Sets c i (moves-of r z) c′) (sym (n .0)) (n .1)
 
 module _ {ns t : List ℕ} {i : ℕ} (spot : Spot ns t i) (a : ℕ) where
-  abbrev k₀ : ℕ
-  k₀ = getD ns (3 * i) 0
+  abbrev s₀ : Scene
+  s₀ = scene ns t a
 
-  abbrev m₀ : ℕ
-  m₀ = modes t i
+  -- As a standard part ------------------------------------------------------------------------------------------------------
 
-  abbrev p₁ : Part
-  p₁ = part ns (modes t) (one-of ns i)
+  module _ (z : Sense) {x : Standing} (e : stand z (node ns i) (modes t i) ≡ x) where
+    is-part : part-at s₀ i .std z ≡ std-of x z (part ns (modes t))
+    is-part = std-part ns (tree s₀ spot) (modes t) i z ∙ ap (λ y. std-of y z (part ns (modes t))) e
 
-  abbrev p₂ : Part
-  p₂ = part ns (modes t) (two-of ns i)
+    is-right : (c : List ℕ) → stored-at s₀ c i .std z ≡ (own-at s₀ c i .std z && std-right x z (stored ns a (modes t) (counts c)))
+    is-right c = std-stored ns (tree s₀ spot) a (modes t) (counts c) i z ∙ ap (λ y. own-at s₀ c i .std z && std-right y z (stored ns a (modes t) (counts c))) e
 
-  abbrev own₀ : List ℕ → Right
-  own₀ c = own ns a (modes t) (counts c) i
+    rests : Rests ns i x
+    rests = subst (Rests ns i) e (stand-rests ns i (tree s₀ spot) z (modes t i))
 
-  abbrev under₁ : List ℕ → Right
-  under₁ c = stored ns a (modes t) (counts c) (one-of ns i)
+  module _ (z : Sense) where
+    abbrev right-both : List ℕ → Two → Bool
+    right-both c x = stored-at s₀ c (x .first) .std z && stored-at s₀ c (x .second) .std z
 
-  abbrev under₂ : List ℕ → Right
-  under₂ c = stored ns a (modes t) (counts c) (two-of ns i)
+    pub event-counted : {n : ℕ} → stand z (node ns i) (modes t i) ≡ standing.Event n → {c c′ : List ℕ} {u v : View} → u ≡ evV (eqb a n) → (v ≡ u) × Sets c i (u .moves) c′ → Counted s₀ (Plain z) i c c′ v
+    unfolding std-of std-right
+    event-counted {n} e {c} {c′} {u} {v} eu w =
+        none-noted s₀ spot (Plain z) true tt (w .0 ∙ eu ∙ sym (ap (view a) (is-part z e) ∙ view-ev a (leaf n))) (is-right z e c′) (answered (Plain z) u v w)
 
-  module _ (r : Role) (h : OfTwo r k₀) where
-    sees : look r a (get r (part ns (modes t) i)) ≡ choose (side r k₀ m₀) (both-seen r k₀ (look r a (get r p₁)) (look r a (get r p₂))) (look r a (get r p₁)) (look r a (get r p₂))
-    sees =
-        ap (λ z. look r a (get r z)) (part-is ns (tree spot) (modes t) i)
-        ∙ ap (look r a) (two-parts m₀ (one-of ns i) p₁ p₂ wrong wrong wrong r k₀ h .0)
-        ∙ choose-ap (look r a) (side r k₀ m₀) (both-term p₁ p₂ r k₀) (get r p₁) (get r p₂)
-        ∙ ap (λ z. choose (side r k₀ m₀) z (look r a (get r p₁)) (look r a (get r p₂))) (both-looks p₁ p₂ a r k₀)
+    pub basic-counted : {b : Simple} → stand z (node ns i) (modes t i) ≡ standing.Basic b → {c c′ : List ℕ} {u v : View} → u ≡ basicV b → (v ≡ u) × Sets c i (u .moves) c′ → Counted s₀ (Plain z) i c c′ v
+    unfolding std-of std-right
+    basic-counted {b} e {c} {c′} {u} {v} eu w =
+        none-noted s₀ spot (Plain z) true tt (w .0 ∙ eu ∙ sym (ap (view a) (is-part z e) ∙ view-basic a b)) (is-right z e c′) (answered (Plain z) u v w)
 
-    rights : (c : List ℕ) → ok r (right (kind ns i) m₀ (own₀ c) (under₁ c) (under₂ c)) ≡ (ok r (own₀ c) && choose (side r k₀ m₀) (ok r (under₁ c) && ok r (under₂ c)) (ok r (under₁ c)) (ok r (under₂ c)))
-    rights c = two-parts m₀ (one-of ns i) p₁ p₂ (own₀ c) (under₁ c) (under₂ c) r k₀ h .1
+    pub both-counted : {o : Operator} {x : Two} → stand z (node ns i) (modes t i) ≡ standing.Both o x → {c c₁ c₂ c₃ : List ℕ} {p q u v : View}
+        → Counted s₀ (Plain z) (x .first) c c₁ p → Counted s₀ (Plain z) (x .second) c₁ c₂ q → u ≡ bothV o p q → (v ≡ u) × Sets c₂ i (u .moves) c₃ → Counted s₀ (Plain z) i c c₃ v
+    unfolding std-of std-right
+    both-counted {o} {x} e {c₃ = c₃} {u = u} {v} f g eu w =
+        two-noted s₀ spot (Plain z) (Plain z) (Plain z) (rests z e) f g (right-both c₃ x) (λ h h′. and-in (stored-at s₀ c₃ (x .first) .std z) (stored-at s₀ c₃ (x .second) .std z) h h′)
+        (w .0 ∙ eu ∙ (λ y. bothV o (f .seen y) (g .seen y)) ∙ sym (ap (view a) (is-part z e) ∙ view-both a o _ _)) (is-right z e c₃) (answered (Plain z) u v w)
 
--- of two parts, by the side that is live
+    pub handler-counted : {x : Two} → stand z (node ns i) (modes t i) ≡ standing.Handler x → {c c₁ c₂ c₃ : List ℕ} {p q u v : View}
+        → Counted s₀ (Plain z) (x .first) c c₁ p → Counted s₀ (Plain z) (x .second) c₁ c₂ q → u ≡ hndV p q → (v ≡ u) × Sets c₂ i (u .moves) c₃ → Counted s₀ (Plain z) i c c₃ v
+    unfolding std-of std-right
+    handler-counted {x} e {c₃ = c₃} {u = u} {v} f g eu w =
+        two-noted s₀ spot (Plain z) (Plain z) (Plain z) (rests z e) f g (right-both c₃ x) (λ h h′. and-in (stored-at s₀ c₃ (x .first) .std z) (stored-at s₀ c₃ (x .second) .std z) h h′)
+        (w .0 ∙ eu ∙ (λ y. hndV (f .seen y) (g .seen y)) ∙ sym (ap (view a) (is-part z e) ∙ view-hnd a _ _)) (is-right z e c₃) (answered (Plain z) u v w)
 
-module _ (r : Role) {ns t : List ℕ} {i : ℕ} (spot : Spot ns t i) {k m s f g : ℕ} (kd : (k ≡ getD ns (3 * i) 0) × OfTwo r k) (em : m ≡ modes t i) (es : s ≡ side r k m) (ef : f ≡ one-of ns i) (eg : g ≡ two-of ns i) where
-  here : OfTwo r (getD ns (3 * i) 0)
-  here = subst (OfTwo r) (kd .0) (kd .1)
+    pub block-counted : {x : ℕ} → stand z (node ns i) (modes t i) ≡ standing.Block x → {c c₁ c₂ : List ℕ} {p : Word} {u v : View}
+        → Counted s₀ Running x c c₁ p → u ≡ blkV p → (v ≡ u) × Sets c₁ i (u .moves) c₂ → Counted s₀ (Plain z) i c c₂ v
+    unfolding std-of std-right
+    block-counted e {c₂ = c₂} {u = u} {v} f eu w =
+        one-noted s₀ spot (Plain z) Running (rests z e) f
+        (w .0 ∙ eu ∙ ap blkV (f .seen) ∙ sym (ap (view a) (is-part z e) ∙ view-blk a _)) (is-right z e c₂) (answered (Plain z) u v w)
 
-  two : Both ns i
-  two = let h = two-kids r (kd .1) in both-of (kd .0) (h .0) (h .1 .0) (h .1 .1)
+    pub as-counted : {x : Sub} → stand z (node ns i) (modes t i) ≡ standing.As x → {c c₁ c₂ : List ℕ} {u v : View}
+        → Counted s₀ (Plain (x .sense)) (x .node) c c₁ u → (v ≡ u) × Sets c₁ i (u .moves) c₂ → Counted s₀ (Plain z) i c c₂ v
+    unfolding std-of std-right
+    as-counted {x} e {c₂ = c₂} {u = u} {v} f w =
+        one-noted s₀ spot (Plain z) (Plain (x .sense)) (rests z e) f (w .0 ∙ f .seen ∙ sym (ap (view a) (is-part z e))) (is-right z e c₂) (answered (Plain z) u v w)
 
-  at-side : s ≡ side r (getD ns (3 * i) 0) (modes t i)
-  at-side = es ∙ (λ x. side r (kd .0 x) (em x))
+    -- what is live is lower
+    pub std-below : {r x : Standing} → r ≡ stand z (node ns i) (modes t i) → r ≡ x → Lower i x
+    std-below e d = subst (Lower i) (sym e ∙ d) (stand-lower ns i (tree s₀ spot) z (modes t i))
 
-  abbrev seen-both : ℕ → Seen r
-  seen-both a = both-seen r (k₀ spot a) (look r a (get r (p₁ spot a))) (look r a (get r (p₂ spot a)))
+  pub run-below : {r x : Course} → r ≡ course-of (node ns i) (modes t i) → r ≡ x → CLower i x
+  run-below e d = subst (CLower i) (sym e ∙ d) (course-lower ns i (tree s₀ spot) (modes t i))
 
-  pub parts-both : s ≡ 0 → {a : ℕ} {c c₁ c₂ c₃ : List ℕ} {p q w v : Seen r} → Counted ns a r t f c c₁ p → Counted ns a r t g c₁ c₂ q → w ≡ both-seen r k p q → (v ≡ w) × Sets c₂ i (moves-of r w) c₃ → Counted ns a r t i c c₃ v
-  parts-both e {a} {c} {c₁} {c₂} {c₃} {p} {q} {w} {v} hp hq ew n =
-      let f′ = subst (λ z. Counted ns a r t z c c₁ p) ef hp in
-      let g′ = subst (λ z. Counted ns a r t z c₁ c₂ q) eg hq in
-      two-both spot a r two (side r (k₀ spot a) (m₀ spot a)) (seen-both a) (sees spot a r here) (rights spot a r here) (sym at-side ∙ e)
-      f′ g′ (n .0 ∙ ew ∙ (λ x. both-seen r (kd .0 x) (f′ .seen x) (g′ .seen x))) (answered r w v n)
+  -- As a part that runs -----------------------------------------------------------------------------------------------------
 
-  pub parts-first : s ≡ 1 → {a : ℕ} {c c₁ c₂ : List ℕ} {w v : Seen r} → Counted ns a r t f c c₁ w → (v ≡ w) × Sets c₁ i (moves-of r w) c₂ → Counted ns a r t i c c₂ v
-  parts-first e {a} {c} {c₁} {c₂} {w} {v} h n =
-      let f′ = subst (λ z. Counted ns a r t z c c₁ w) ef h in
-      subst (λ z. Counted ns a r t i c c₂ z) (sym (n .0))
-      (two-first spot a r two (side r (k₀ spot a) (m₀ spot a)) (seen-both a) (sees spot a r here) (rights spot a r here) (sym at-side ∙ e) f′ (n .1))
+  module _ {x : Course} (e : course-of (node ns i) (modes t i) ≡ x) where
+    is-run : part-at s₀ i .run ≡ run-of x (part ns (modes t))
+    is-run = run-part ns (tree s₀ spot) (modes t) i ∙ ap (λ y. run-of y (part ns (modes t))) e
 
-  pub parts-second : s ≢ 0 → s ≢ 1 → {a : ℕ} {c c₁ c₂ : List ℕ} {w v : Seen r} → Counted ns a r t g c c₁ w → (v ≡ w) × Sets c₁ i (moves-of r w) c₂ → Counted ns a r t i c c₂ v
-  parts-second e e′ {a} {c} {c₁} {c₂} {w} {v} h n =
-      let g′ = subst (λ z. Counted ns a r t z c c₁ w) eg h in
-      subst (λ z. Counted ns a r t i c c₂ z) (sym (n .0))
-      (two-second spot a r two (side r (k₀ spot a) (m₀ spot a)) (seen-both a) (sees spot a r here) (rights spot a r here) (λ z. e (at-side ∙ z)) (λ z. e′ (at-side ∙ z)) g′ (n .1))
+    is-run-right : (c : List ℕ) → stored-at s₀ c i .run ≡ (own-at s₀ c i .run && run-right x (stored ns a (modes t) (counts c)))
+    is-run-right c = run-stored ns (tree s₀ spot) a (modes t) (counts c) i ∙ ap (λ y. own-at s₀ c i .run && run-right y (stored ns a (modes t) (counts c))) e
 
--- of one kind
+    run-rests : CRests ns i x
+    run-rests = subst (CRests ns i) e (course-rests ns i (tree s₀ spot) (modes t i))
 
--- a block, by its mode
-module _ {ns t : List ℕ} {i : ℕ} (spot : Spot ns t i) {m f : ℕ} (kd : getD ns (3 * i) 0 ≡ 9) (ef : f ≡ one-of ns i) (em : m ≡ modes t i) where
-  blk-kind : kind ns i ≡ Blk
-  blk-kind = ap kindOf kd
+  pub paired-counted : {b : Simple} → course-of (node ns i) (modes t i) ≡ course.Basic b → {c c′ : List ℕ} {u v : Word} → u ≡ basicW b → (v ≡ u) × Sets c i (u .moves) c′ → Counted s₀ Running i c c′ v
+  unfolding run-of run-right
+  paired-counted {b} e {c} {c′} {u} {v} eu w =
+      none-noted s₀ spot Running true tt (w .0 ∙ eu ∙ sym (ap (word a) (is-run e) ∙ word-basic a b)) (is-run-right e c′) (answered Running u v w)
 
-  blk-kid : Kid (shape ns) i (one-of ns i)
-  blk-kid = one-kid ns (tree spot) i (omega arith) (omega arith)
+  module _ {x : Two} (e : course-of (node ns i) (modes t i) ≡ course.Pair x) where
+    pair-sees : word a (part-at s₀ i .run) ≡ pairW (view a (part ns (modes t) (x .first) .std Drawn)) (view a (part ns (modes t) (x .second) .std Drawn))
+    unfolding run-of
+    pair-sees = ap (word a) (is-run e) ∙ word-pair a _ _
 
-  pub block-inside : m ≡ 0 → {a : ℕ} {c c₁ c₂ : List ℕ} {w : Word} {u v : View} → Counted ns a running t f c c₁ w → u ≡ blkV w → (v ≡ u) × Sets c₁ i (u .moves) c₂ → Counted ns a plain t i c c₂ v
-  unfolding build right
-  block-inside e {a} {c} {c₁} {c₂} {w} {u} {v} h eu n =
-      let z = eq-eqb (modes t i) 0 (sym em ∙ e) in
-      let f′ = subst (λ z. Counted ns a running t z c c₁ w) ef h in
-      let see : view a (part ns (modes t) i .std) ≡ blkV w = ap (λ x. view a (x .std)) (part-of ns (tree spot) (modes t) i blk-kind) ∙ rw z (view-blk a (p₁ spot a .run)) ∙ ap blkV (sym (f′ .seen)) in
-      noted spot a plain (under₁ spot a c₂ .run) (n .0 ∙ eu ∙ sym see)
-      (ap (λ x. right x (modes t i) (own₀ spot a c₂) (under₁ spot a c₂) (under₂ spot a c₂) .std) blk-kind ∙ rw z)
-      (child-noted spot a running blk-kid (n .1) (f′ .right)) (kept-kid ns (tree spot) blk-kid (f′ .kept)) (answered plain u v n)
+    pub pair-counted : {c c₁ c₂ c₃ : List ℕ} {p q : View} {u v : Word} → Counted s₀ (Plain Drawn) (x .first) c c₁ p → Counted s₀ (Plain Drawn) (x .second) c₁ c₂ q
+        → u ≡ pairW p q → (v ≡ u) × Sets c₂ i (u .moves) c₃ → Counted s₀ Running i c c₃ v
+    unfolding run-right
+    pair-counted {c₃ = c₃} {u = u} {v} f g eu w =
+        two-noted s₀ spot Running (Plain Drawn) (Plain Drawn) (run-rests e) f g (stored-at s₀ c₃ (x .first) .std Drawn) (λ h h′. h)
+        (w .0 ∙ eu ∙ (λ y. pairW (f .seen y) (g .seen y)) ∙ sym pair-sees) (is-run-right e c₃) (answered Running u v w)
 
-  pub block-left : m ≢ 0 → {a : ℕ} {c c₁ c₂ : List ℕ} {u v : View} → Counted ns a undoing t f c c₁ u → (v ≡ u) × Sets c₁ i (u .moves) c₂ → Counted ns a plain t i c c₂ v
-  unfolding build right
-  block-left e {a} {c} {c₁} {c₂} {u} {v} h n =
-      let z = ne-eqb (modes t i) 0 (λ q. e (em ∙ q)) in
-      let f′ = subst (λ z. Counted ns a undoing t z c c₁ u) ef h in
-      let see : view a (part ns (modes t) i .std) ≡ u = ap (λ x. view a (x .std)) (part-of ns (tree spot) (modes t) i blk-kind) ∙ rw z (sym (f′ .seen)) in
-      noted spot a plain (under₁ spot a c₂ .left) (n .0 ∙ sym see)
-      (ap (λ x. right x (modes t i) (own₀ spot a c₂) (under₁ spot a c₂) (under₂ spot a c₂) .std) blk-kind ∙ rw z)
-      (child-noted spot a undoing blk-kid (n .1) (f′ .right)) (kept-kid ns (tree spot) blk-kid (f′ .kept)) (answered plain u v n)
+    -- the first part cannot end done, and the second makes no difference
+    pub pair-stops : {c c₁ c₂ : List ℕ} {p q : View} {u v : Word} → Counted s₀ (Plain Drawn) (x .first) c c₁ p → p .done ≡ false → q ≡ skipV
+        → u ≡ pairW p q → (v ≡ u) × Sets c₁ i (u .moves) c₂ → Counted s₀ Running i c c₂ v
+    unfolding run-right pairW
+    pair-stops {c₂ = c₂} {p = p} {q} {u} {v} f d eq eu w =
+        let q′ = view a (part ns (modes t) (x .second) .std Drawn) in
+        let same : pairW p q ≡ pairW p q′ = simp d in
+        one-noted s₀ spot Running (Plain Drawn) (run-rests e .one) f
+        (w .0 ∙ eu ∙ same ∙ ap (λ y. pairW y q′) (f .seen) ∙ sym pair-sees) (is-run-right e c₂) (answered Running u v w)
 
--- P÷Q, running and left
-module _ {ns t : List ℕ} {i : ℕ} (spot : Spot ns t i) (kd : getD ns (3 * i) 0 ≡ 10) where
-  pair-kind : kind ns i ≡ Pair
-  pair-kind = ap kindOf kd
+  pub runs-both-counted : {o : Operator} {x : Two} → course-of (node ns i) (modes t i) ≡ course.Both o x → {c c₁ c₂ c₃ : List ℕ} {p q u v : Word}
+      → Counted s₀ Running (x .first) c c₁ p → Counted s₀ Running (x .second) c₁ c₂ q → u ≡ bothW o p q → (v ≡ u) × Sets c₂ i (u .moves) c₃ → Counted s₀ Running i c c₃ v
+  unfolding run-of run-right
+  runs-both-counted {o} {x} e {c₃ = c₃} {u = u} {v} f g eu w =
+      two-noted s₀ spot Running Running Running (run-rests e) f g (stored-at s₀ c₃ (x .first) .run && stored-at s₀ c₃ (x .second) .run) (λ h h′. and-in (stored-at s₀ c₃ (x .first) .run) (stored-at s₀ c₃ (x .second) .run) h h′)
+      (w .0 ∙ eu ∙ (λ y. bothW o (f .seen y) (g .seen y)) ∙ sym (ap (word a) (is-run e) ∙ word-both a o _ _)) (is-run-right e c₃) (answered Running u v w)
 
-  pair-two : Both ns i
-  pair-two = both-of (sym kd) (omega arith) (omega arith) (λ e. omega arith)
+  pub held-counted : {x : Two} → course-of (node ns i) (modes t i) ≡ course.Held x → {c c₁ c₂ c₃ : List ℕ} {p : View} {q u v : Word}
+      → Counted s₀ (Plain Undoing) (x .first) c c₁ p → Counted s₀ Running (x .second) c₁ c₂ q → u ≡ heldW q p → (v ≡ u) × Sets c₂ i (u .moves) c₃ → Counted s₀ Running i c c₃ v
+  unfolding run-of run-right
+  held-counted {x} e {c₃ = c₃} {u = u} {v} f g eu w =
+      two-noted s₀ spot Running (Plain Undoing) Running (run-rests e) f g (stored-at s₀ c₃ (x .second) .run) (λ h h′. h′)
+      (w .0 ∙ eu ∙ (λ y. heldW (g .seen y) (f .seen y)) ∙ sym (ap (word a) (is-run e) ∙ word-held a _ _)) (is-run-right e c₃) (answered Running u v w)
 
-  pair-sees : (a : ℕ) → word a (part ns (modes t) i .run) ≡ pairW (view a (p₁ spot a .std)) (view a (p₂ spot a .std))
-  unfolding build
-  pair-sees a = ap (λ x. word a (x .run)) (part-of ns (tree spot) (modes t) i pair-kind) ∙ word-pair a (p₁ spot a .std) (p₂ spot a .std)
-
-  pair-rights : (a : ℕ) (c : List ℕ) → right (kind ns i) (modes t i) (own₀ spot a c) (under₁ spot a c) (under₂ spot a c) .run ≡ (own₀ spot a c .run && under₁ spot a c .std)
-  unfolding right
-  pair-rights a c = ap (λ x. right x (modes t i) (own₀ spot a c) (under₁ spot a c) (under₂ spot a c) .run) pair-kind
-
-  pub pair-done : {f g : ℕ} → f ≡ one-of ns i → {a : ℕ} {c c₁ c₂ c₃ : List ℕ} {p q : View} {w v : Word} → Counted ns a plain t f c c₁ p → g ≡ two-of ns i → Counted ns a plain t g c₁ c₂ q → w ≡ pairW p q → (v ≡ w) × Sets c₂ i (w .moves) c₃ → Counted ns a running t i c c₃ v
-  pair-done ef {a} {c} {c₁} {c₂} {c₃} {p} {q} {w} {v} h eg h′ ew n =
-      let f′ = subst (λ z. Counted ns a plain t z c c₁ p) ef h in
-      let g′ = subst (λ z. Counted ns a plain t z c₁ c₂ q) eg h′ in
-      noted spot a running (under₁ spot a c₃ .std) (cc (pair-sees a, f′ .seen, g′ .seen)) (pair-rights a c₃)
-      (first-still spot a plain pair-two c₁ (g′ .kept) (n .1) (f′ .right))
-      (both-kept spot pair-two (f′ .kept) (g′ .kept)) (answered running w v n)
-
-  pub pair-on : {f : ℕ} → f ≡ one-of ns i → {a : ℕ} {c c₁ c₂ : List ℕ} {p u : View} {w v : Word} → Counted ns a plain t f c c₁ p → p .done ≡ false → u ≡ skipV → w ≡ pairW p u → (v ≡ w) × Sets c₁ i (w .moves) c₂ → Counted ns a running t i c c₂ v
-  unfolding pairW
-  pair-on ef {a} {c} {c₁} {c₂} {p} {u} {w} {v} h d eu ew n =
-      let f′ = subst (λ z. Counted ns a plain t z c c₁ p) ef h in
-      let q = view a (p₂ spot a .std) in
-      let e : pairW p u ≡ pairW p q = simp d in
-      noted spot a running (under₁ spot a c₂ .std) (n .0 ∙ ew ∙ e ∙ ap (λ z. pairW z q) (f′ .seen) ∙ sym (pair-sees a)) (pair-rights a c₂)
-      (child-noted spot a plain (kid-one ns (tree spot) pair-two) (n .1) (f′ .right)) (kept-kid ns (tree spot) (kid-one ns (tree spot) pair-two) (f′ .kept)) (answered running w v n)
-
-  module _ {m : ℕ} (em : m ≡ modes t i) where
-    pub pair-left : {g : ℕ} → m ≡ 1 → g ≡ two-of ns i → {a : ℕ} {c c₁ c₂ : List ℕ} {u v : View} → Counted ns a plain t g c c₁ u → (v ≡ u) × Sets c₁ i (u .moves) c₂ → Counted ns a undoing t i c c₂ v
-    unfolding build right
-    pair-left e eg {a} {c} {c₁} {c₂} {u} {v} h n =
-        let z = eq-eqb (modes t i) 1 (sym em ∙ e) in
-        let g′ = subst (λ z. Counted ns a plain t z c c₁ u) eg h in
-        let kid = kid-two ns (tree spot) pair-two in
-        let see : view a (part ns (modes t) i .left) ≡ u = ap (λ x. view a (x .left)) (part-of ns (tree spot) (modes t) i pair-kind) ∙ rw z (sym (g′ .seen)) in
-        noted spot a undoing (under₂ spot a c₂ .std) (n .0 ∙ sym see)
-        (ap (λ x. right x (modes t i) (own₀ spot a c₂) (under₁ spot a c₂) (under₂ spot a c₂) .left) pair-kind ∙ rw z)
-        (child-noted spot a plain kid (n .1) (g′ .right)) (kept-kid ns (tree spot) kid (g′ .kept)) (answered undoing u v n)
-
-    pub pair-none : (a : ℕ) → m ≢ 1 → {c c′ : List ℕ} {u v : View} → u ≡ skipV → (v ≡ u) × Sets c i (u .moves) c′ → Counted ns a undoing t i c c′ v
-    unfolding build right
-    pair-none a e {c} {c′} {u} {v} eu n =
-        let z = ne-eqb (modes t i) 1 (λ q. e (em ∙ q)) in
-        let see : view a (part ns (modes t) i .left) ≡ skipV = ap (λ x. view a (x .left)) (part-of ns (tree spot) (modes t) i pair-kind) ∙ rw z (view-skip a) in
-        noted spot a undoing true (n .0 ∙ eu ∙ sym see)
-        (ap (λ x. right x (modes t i) (own₀ spot a c′) (under₁ spot a c′) (under₂ spot a c′) .left) pair-kind ∙ rw z) tt (λ j n. refl) (answered undoing u v n)
-
--- PP;QQ, before its first part has ended and after
-module _ {ns t : List ℕ} {i : ℕ} (spot : Spot ns t i) (kd : getD ns (3 * i) 0 ≡ 11) {m f g : ℕ} (ef : f ≡ one-of ns i) (eg : g ≡ two-of ns i) (em : m ≡ modes t i) where
-  cseq-kind : kind ns i ≡ CSeq
-  cseq-kind = ap kindOf kd
-
-  cseq-two : Both ns i
-  cseq-two = both-of (sym kd) (omega arith) (omega arith) (λ e. omega arith)
-
-  pub sequence-first : m ≡ 0 → {a : ℕ} {c c₁ c₂ c₃ : List ℕ} {p q w v : Word} → Counted ns a running t f c c₁ p → Counted ns a running t g c₁ c₂ q → w ≡ cseqW p q → (v ≡ w) × Sets c₂ i (w .moves) c₃ → Counted ns a running t i c c₃ v
-  unfolding build right
-  sequence-first e {a} {c} {c₁} {c₂} {c₃} {p} {q} {w} {v} h h′ ew n =
-      let z = eq-eqb (modes t i) 0 (sym em ∙ e) in
-      let f′ = subst (λ z. Counted ns a running t z c c₁ p) ef h in
-      let g′ = subst (λ z. Counted ns a running t z c₁ c₂ q) eg h′ in
-      let see : word a (part ns (modes t) i .run) ≡ cseqW (word a (p₁ spot a .run)) (word a (p₂ spot a .run)) = ap (λ x. word a (x .run)) (part-of ns (tree spot) (modes t) i cseq-kind) ∙ rw z (word-cseq a (p₁ spot a .run) (p₂ spot a .run)) in
-      noted spot a running (under₁ spot a c₃ .run && under₂ spot a c₃ .run) (cc (see, f′ .seen, g′ .seen))
-      (ap (λ x. right x (modes t i) (own₀ spot a c₃) (under₁ spot a c₃) (under₂ spot a c₃) .run) cseq-kind ∙ rw z)
-      (and-in (under₁ spot a c₃ .run) (under₂ spot a c₃ .run)
-      (first-still spot a running cseq-two c₁ (g′ .kept) (n .1) (f′ .right))
-      (child-noted spot a running (kid-two ns (tree spot) cseq-two) (n .1) (g′ .right)))
-      (both-kept spot cseq-two (f′ .kept) (g′ .kept)) (answered running w v n)
-
-  pub sequence-held : m ≢ 0 → {a : ℕ} {c c₁ c₂ c₃ : List ℕ} {k : View} {q w v : Word} → Counted ns a undoing t f c c₁ k → Counted ns a running t g c₁ c₂ q → w ≡ heldW q k → (v ≡ w) × Sets c₂ i (w .moves) c₃ → Counted ns a running t i c c₃ v
-  unfolding build right
-  sequence-held e {a} {c} {c₁} {c₂} {c₃} {k} {q} {w} {v} h h′ ew n =
-      let z = ne-eqb (modes t i) 0 (λ q. e (em ∙ q)) in
-      let f′ = subst (λ z. Counted ns a undoing t z c c₁ k) ef h in
-      let g′ = subst (λ z. Counted ns a running t z c₁ c₂ q) eg h′ in
-      let see : word a (part ns (modes t) i .run) ≡ heldW (word a (p₂ spot a .run)) (view a (p₁ spot a .left)) = ap (λ x. word a (x .run)) (part-of ns (tree spot) (modes t) i cseq-kind) ∙ rw z (word-held a (p₂ spot a .run) (p₁ spot a .left)) in
-      noted spot a running (under₂ spot a c₃ .run) (cc (see, f′ .seen, g′ .seen))
-      (ap (λ x. right x (modes t i) (own₀ spot a c₃) (under₁ spot a c₃) (under₂ spot a c₃) .run) cseq-kind ∙ rw z)
-      (child-noted spot a running (kid-two ns (tree spot) cseq-two) (n .1) (g′ .right))
-      (both-kept spot cseq-two (f′ .kept) (g′ .kept)) (answered running w v n)
-
--- without live children
-module _ {ns t : List ℕ} {i : ℕ} (spot : Spot ns t i) {k : ℕ} (ek : k ≡ getD ns (3 * i) 0) where
-  pub std-none : (a : ℕ) → (5 ≤ k → k ≤ 9 → ⊥) → {m e : ℕ} → m ≡ modes t i → e ≡ one-of ns i → {c c′ : List ℕ} {u v : View} → u ≡ leafV k m (eqb a e) → (v ≡ u) × Sets c i (u .moves) c′ → Counted ns a plain t i c c′ v
-  std-none a l em ee {c} {c′} {u} {v} eu n =
-      let leaf = std-leaf (modes t i) (one-of ns i) (p₁ spot a) (p₂ spot a) (own₀ spot a c′) (under₁ spot a c′) (under₂ spot a c′) a (k₀ spot a) (λ x y. l (omega arith) (omega arith)) in
-      noted spot a plain true (cc (ap (λ x. view a (x .std)) (part-is ns (tree spot) (modes t) i), leaf .0)) (leaf .1 ∙ sym (and-true _)) tt (λ j n. refl) (answered plain u v n)
-
-  pub left-none : (a : ℕ) → (10 ≤ k → k ≤ 13 → ⊥) → {c c′ : List ℕ} {u v : View} → u ≡ skipV → (v ≡ u) × Sets c i (u .moves) c′ → Counted ns a undoing t i c c′ v
-  left-none a l {c} {c′} {u} {v} eu n =
-      let leaf = left-leaf (modes t i) (one-of ns i) (p₁ spot a) (p₂ spot a) (own₀ spot a c′) (under₁ spot a c′) (under₂ spot a c′) a (k₀ spot a) (λ x y. l (omega arith) (omega arith)) in
-      noted spot a undoing true (cc (ap (λ x. view a (x .left)) (part-is ns (tree spot) (modes t) i), leaf .0)) (leaf .1 ∙ sym (and-true _)) tt (λ j n. refl) (answered undoing u v n)
-
-  pub run-none : (a : ℕ) → (10 ≤ k → k ≤ 13 → ⊥) → {c c′ : List ℕ} {u v : Word} → u ≡ leafW k → (v ≡ u) × Sets c i (u .moves) c′ → Counted ns a running t i c c′ v
-  run-none a l {c} {c′} {u} {v} eu n =
-      let leaf = run-leaf (modes t i) (one-of ns i) (p₁ spot a) (p₂ spot a) (own₀ spot a c′) (under₁ spot a c′) (under₂ spot a c′) a (k₀ spot a) (λ x y. l (omega arith) (omega arith)) in
-      noted spot a running true (cc (ap (λ x. word a (x .run)) (part-is ns (tree spot) (modes t) i), leaf .0)) (leaf .1 ∙ sym (and-true _)) tt (λ j n. refl) (answered running u v n)
+  pub runs-as-counted : {x : ℕ} → course-of (node ns i) (modes t i) ≡ course.As x → {c c₁ c₂ : List ℕ} {u v : Word}
+      → Counted s₀ Running x c c₁ u → (v ≡ u) × Sets c₁ i (u .moves) c₂ → Counted s₀ Running i c c₂ v
+  unfolding run-of run-right
+  runs-as-counted e {c₂ = c₂} {u = u} {v} f w =
+      one-noted s₀ spot Running Running (run-rests e) f (w .0 ∙ f .seen ∙ sym (ap (word a) (is-run e))) (is-run-right e c₂) (answered Running u v w)

@@ -1,6 +1,6 @@
 -- Definitions.
-pub mod Sides
+pub mod Wholes
 -- Theorems.
-pub mod KindLaws
+pub mod WholeLaws
 pub mod Noting
 pub mod CountLaws

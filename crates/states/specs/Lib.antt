@@ -8,3 +8,4 @@ pub mod Contracts
 pub mod Rests
 pub mod StateLaws
 pub mod ChildLaws
+pub mod DrawnLaws

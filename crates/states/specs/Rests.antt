@@ -1,5 +1,5 @@
--- What is live under a node are children of it: of two that are live both are, and nothing is under both. Assumes nothing.
-use Prim.Native.Nat.{ℕ}
+-- What is live under a node are children of it, and lower: of two that are live both are, and nothing is under both. Assumes nothing.
+use Prim.Native.Nat.{ℕ, _<_}
 use mathlib.Core.Path.{_≡_, refl}
 use mathlib.Core.Bool.{Bool, true, false, cond}
 use mathlib.Core.List.{List}
@@ -153,3 +153,45 @@ module _ (ns : List ℕ) (i : ℕ) where
 
     pub course-rests : (m : ℕ) → CRests (course-of (node ns i) m)
     course-rests m = course-rests-at (node ns i) refl m
+
+-- and so they are lower
+module _ (i : ℕ) where
+  abbrev pub Lower : Standing → Type 0
+  Lower (standing.Event e) = Unit {0}
+  Lower (standing.Basic b) = Unit {0}
+  Lower (standing.Both o t) = (t .first < i) × (t .second < i)
+  Lower (standing.Handler t) = (t .first < i) × (t .second < i)
+  Lower (standing.Block c) = c < i
+  Lower (standing.As x) = x .node < i
+
+  abbrev pub CLower : Course → Type 0
+  CLower (course.Basic b) = Unit {0}
+  CLower (course.Pair t) = (t .first < i) × (t .second < i)
+  CLower (course.Both o t) = (t .first < i) × (t .second < i)
+  CLower (course.Held t) = (t .first < i) × (t .second < i)
+  CLower (course.As c) = c < i
+
+module _ (ns : List ℕ) (i : ℕ) (tree : Tree (shape ns)) where
+  twins-lower : {t : Two} → Twins ns i t → (t .first < i) × (t .second < i)
+  twins-lower {t} w = (tree .lower i (t .first) (w .one), tree .lower i (t .second) (w .other))
+
+  rests-lower : (x : Standing) → Rests ns i x → Lower i x
+  rests-lower (standing.Event e) w = tt
+  rests-lower (standing.Basic b) w = tt
+  rests-lower (standing.Both o t) w = twins-lower w
+  rests-lower (standing.Handler t) w = twins-lower w
+  rests-lower (standing.Block c) w = tree .lower i c w
+  rests-lower (standing.As x) w = tree .lower i (x .node) w
+
+  crests-lower : (x : Course) → CRests ns i x → CLower i x
+  crests-lower (course.Basic b) w = tt
+  crests-lower (course.Pair t) w = twins-lower w
+  crests-lower (course.Both o t) w = twins-lower w
+  crests-lower (course.Held t) w = twins-lower w
+  crests-lower (course.As c) w = tree .lower i c w
+
+  pub stand-lower : (s : Sense) (m : ℕ) → Lower i (stand s (node ns i) m)
+  stand-lower s m = rests-lower (stand s (node ns i) m) (stand-rests ns i tree s m)
+
+  pub course-lower : (m : ℕ) → CLower i (course-of (node ns i) m)
+  course-lower m = crests-lower (course-of (node ns i) m) (course-rests ns i tree m)

@@ -1,0 +1,246 @@
+-- The counting pass meets its contract: a cycle of two functions, on falling node numbers. What a live part is asked follows from its
+-- number being lower (`std-below`, `run-below`), and each return is a lemma of CountLaws, given what the code has learnt on its way
+-- there. Assumes nothing.
+use Prim.Native.Nat.{ℕ, _<_}
+use mathlib.Core.Path.{sym, _∙_}
+use native.Mathlib.Omega.{arith}
+use borrow.Author.Needs.{needs}
+use borrow.Author.Tests.{not-true}
+use Rattle.states.specs.ChildLaws.{lower-spot}
+use Rattle.counting.specs.CountLaws.{std-below, run-below, event-counted, basic-counted, both-counted, handler-counted, block-counted, as-counted, paired-counted, pair-counted, pair-stops, runs-both-counted, held-counted, runs-as-counted}
+use borrow.Fn.Kinds.{In}
+use borrow.Fn.PlainCycle.{Measures, is, falls, and}
+use Rattle.counting.proofs.count_run.Reads as count-run
+use Rattle.counting.proofs.count_run.Kinds as count-run-kinds
+use Rattle.counting.proofs.+count_run+count_std.Lts-count_run as count-run-lts
+use Rattle.counting.proofs.count_std.Reads as count-std
+use Rattle.counting.proofs.count_std.Kinds as count-std-kinds
+use Rattle.counting.proofs.+count_run+count_std.Lts-count_std as count-std-lts
+use Rattle.counting.proofs.basic_view.Reads as basic-view-reads
+use Rattle.counting.proofs.basic_word.Reads as basic-word-reads
+use Rattle.counting.proofs.both_view.Reads as both-view-reads
+use Rattle.counting.proofs.both_word.Reads as both-word-reads
+use Rattle.counting.proofs.note.Reads as note-reads
+use Rattle.counting.proofs.note_word.Reads as note-word-reads
+use Rattle.states.proofs.course_at.Reads as course-at-reads
+use Rattle.states.proofs.stand_at.Reads as stand-at-reads
+use Rattle.tallies.proofs.block_view.Reads as block-view-reads
+use Rattle.tallies.proofs.event_view.Reads as event-view-reads
+use Rattle.tallies.proofs.handler_view.Reads as handler-view-reads
+use Rattle.tallies.proofs.held_word.Reads as held-word-reads
+use Rattle.tallies.proofs.pair_word.Reads as pair-word-reads
+use Rattle.tallies.proofs.skip_view.Reads as skip-view-reads
+use Rattle.counting.proofs.+count_run+count_std.{statement}
+use Rattle.counting.proofs.+count_run+count_std.Tie.{close}
+
+abbrev μ-count-run : Measures 3 count-run-kinds.ps ℕ
+μ-count-run κs a = a .1 .1 .1 .1 .0
+
+abbrev μ-count-std : Measures 3 count-std-kinds.ps ℕ
+μ-count-std κs a = a .1 .1 .1 .1 .0
+
+abbrev count-run-at : ℕ → In 3 count-run-kinds.ps
+count-run-at t = and 3 count-run-kinds.ps (is 3 count-run-kinds.ps μ-count-run t) count-run.Pre
+
+abbrev count-run-below : ℕ → In 3 count-run-kinds.ps
+count-run-below t =
+    and 3 count-run-kinds.ps (falls 3 count-run-kinds.ps _<_ μ-count-run t) count-run.Pre
+
+abbrev count-std-at : ℕ → In 3 count-std-kinds.ps
+count-std-at t = and 3 count-std-kinds.ps (is 3 count-std-kinds.ps μ-count-std t) count-std.Pre
+
+abbrev count-std-below : ℕ → In 3 count-std-kinds.ps
+count-std-below t =
+    and 3 count-std-kinds.ps (falls 3 count-std-kinds.ps _<_ μ-count-std t) count-std.Pre
+
+abbrev count-run-calls : ℕ → count-run-lts.Claims
+count-run-calls t = (course-at-reads.Asked, course-at-reads.Learnt, basic-word-reads.Asked, basic-word-reads.Learnt, note-word-reads.Asked, note-word-reads.Learnt, count-std-below t, count-std.Post, skip-view-reads.Asked, skip-view-reads.Learnt, pair-word-reads.Asked, pair-word-reads.Learnt, count-run-below t, count-run.Post, both-word-reads.Asked, both-word-reads.Learnt, held-word-reads.Asked, held-word-reads.Learnt)
+
+abbrev count-std-calls : ℕ → count-std-lts.Claims
+count-std-calls t = (stand-at-reads.Asked, stand-at-reads.Learnt, event-view-reads.Asked, event-view-reads.Learnt, note-reads.Asked, note-reads.Learnt, basic-view-reads.Asked, basic-view-reads.Learnt, count-std-below t, count-std.Post, both-view-reads.Asked, both-view-reads.Learnt, handler-view-reads.Asked, handler-view-reads.Learnt, count-run-below t, count-run.Post, block-view-reads.Asked, block-view-reads.Learnt)
+
+count-run-course-at-requires : (t : ℕ) → count-run-lts.Need-course-at-requires (count-run-calls t) (count-run-at t) count-run.Post
+count-run-course-at-requires t c κs = c .before .before .pre .1
+
+count-run-enum-known-runs : (t : ℕ) → count-run-lts.Need-enum-known-runs (count-run-calls t) (count-run-at t) count-run.Post
+count-run-enum-known-runs t c = search needs
+
+count-run-basic-word-requires : (t : ℕ) → count-run-lts.Need-basic-word-requires (count-run-calls t) (count-run-at t) count-run.Post
+count-run-basic-word-requires t c κs = search needs
+
+count-run-note-word-requires : (t : ℕ) → count-run-lts.Need-note-word-requires (count-run-calls t) (count-run-at t) count-run.Post
+count-run-note-word-requires t c κs = let spot = c .before .before .before .before .before .before .before .before .pre .1 in omega (arith, spot .node .inside, spot .node .sound .few)
+
+count-run-enum-known-runs-2 : (t : ℕ) → count-run-lts.Need-enum-known-runs-2 (count-run-calls t) (count-run-at t) count-run.Post
+count-run-enum-known-runs-2 t c = search needs
+
+count-run-count-std-requires : (t : ℕ) → count-run-lts.Need-count-std-requires (count-run-calls t) (count-run-at t) count-run.Post
+count-run-count-std-requires t c κs = let spot = c .before .before .before .before .before .before .before .pre .1 in let low = run-below spot (c .before .before .before .before .before .before .before .args .a) (c .before .before .before .before .course-at .ensures) (c .before .before .runs2 .given .1) .0 in (omega (arith, c .before .before .before .before .before .before .before .pre .0, low), lower-spot spot low)
+
+count-run-skip-view-requires : (t : ℕ) → count-run-lts.Need-skip-view-requires (count-run-calls t) (count-run-at t) count-run.Post
+count-run-skip-view-requires t c κs = search needs
+
+count-run-pair-word-requires : (t : ℕ) → count-run-lts.Need-pair-word-requires (count-run-calls t) (count-run-at t) count-run.Post
+count-run-pair-word-requires t c κs = search needs
+
+count-run-note-word-requires-2 : (t : ℕ) → count-run-lts.Need-note-word-requires-2 (count-run-calls t) (count-run-at t) count-run.Post
+count-run-note-word-requires-2 t c κs = let spot = c .before .before .before .before .before .before .before .before .before .before .before .before .before .pre .1 in omega (arith, spot .node .inside, spot .node .sound .few)
+
+count-run-returns : (t : ℕ) → count-run-lts.Need-returns (count-run-calls t) (count-run-at t) count-run.Post
+count-run-returns t c = pair-stops (c .before .before .before .before .before .before .before .before .before .before .before .before .before .before .pre .1) (c .before .before .before .before .before .before .before .before .before .before .before .before .before .before .args .a) (sym (c .before .before .before .before .before .before .before .before .before .before .before .course-at .ensures) ∙ c .before .before .before .before .before .before .before .before .before .runs2 .given .1) (c .before .before .before .before .before .before .count-std .ensures) (not-true _ (c .before .before .before .before .if1 .taken)) (c .before .before .skip-view .ensures) (c .before .pair-word .ensures) (c .note-word2 .ensures)
+
+count-run-count-std-requires-2 : (t : ℕ) → count-run-lts.Need-count-std-requires-2 (count-run-calls t) (count-run-at t) count-run.Post
+count-run-count-std-requires-2 t c κs = let spot = c .before .before .before .before .before .before .before .before .before .before .before .pre .1 in let low = run-below spot (c .before .before .before .before .before .before .before .before .before .before .before .args .a) (c .before .before .before .before .before .before .before .before .course-at .ensures) (c .before .before .before .before .before .before .runs2 .given .1) .1 in (omega (arith, c .before .before .before .before .before .before .before .before .before .before .before .pre .0, low), lower-spot spot low)
+
+count-run-pair-word-requires-2 : (t : ℕ) → count-run-lts.Need-pair-word-requires-2 (count-run-calls t) (count-run-at t) count-run.Post
+count-run-pair-word-requires-2 t c κs = search needs
+
+count-run-note-word-requires-3 : (t : ℕ) → count-run-lts.Need-note-word-requires-3 (count-run-calls t) (count-run-at t) count-run.Post
+count-run-note-word-requires-3 t c κs = let spot = c .before .before .before .before .before .before .before .before .before .before .before .before .before .before .pre .1 in omega (arith, spot .node .inside, spot .node .sound .few)
+
+count-run-enum-known-runs-3 : (t : ℕ) → count-run-lts.Need-enum-known-runs-3 (count-run-calls t) (count-run-at t) count-run.Post
+count-run-enum-known-runs-3 t c = search needs
+
+count-run-count-run-requires : (t : ℕ) → count-run-lts.Need-count-run-requires (count-run-calls t) (count-run-at t) count-run.Post
+count-run-count-run-requires t c κs = let spot = c .before .before .before .before .before .before .before .pre .1 in let low = run-below spot (c .before .before .before .before .before .before .before .args .a) (c .before .before .before .before .course-at .ensures) (c .before .before .runs3 .given .1) .0 in (omega (arith, c .before .before .before .before .before .before .before .pre .0, low), lower-spot spot low)
+
+count-run-count-run-requires-2 : (t : ℕ) → count-run-lts.Need-count-run-requires-2 (count-run-calls t) (count-run-at t) count-run.Post
+count-run-count-run-requires-2 t c κs = let spot = c .before .before .before .before .before .before .before .before .before .pre .1 in let low = run-below spot (c .before .before .before .before .before .before .before .before .before .args .a) (c .before .before .before .before .before .before .course-at .ensures) (c .before .before .before .before .runs3 .given .1) .1 in (omega (arith, c .before .before .before .before .before .before .before .before .before .pre .0, low), lower-spot spot low)
+
+count-run-both-word-requires : (t : ℕ) → count-run-lts.Need-both-word-requires (count-run-calls t) (count-run-at t) count-run.Post
+count-run-both-word-requires t c κs = search needs
+
+count-run-note-word-requires-4 : (t : ℕ) → count-run-lts.Need-note-word-requires-4 (count-run-calls t) (count-run-at t) count-run.Post
+count-run-note-word-requires-4 t c κs = let spot = c .before .before .before .before .before .before .before .before .before .before .before .before .pre .1 in omega (arith, spot .node .inside, spot .node .sound .few)
+
+count-run-enum-known-runs-4 : (t : ℕ) → count-run-lts.Need-enum-known-runs-4 (count-run-calls t) (count-run-at t) count-run.Post
+count-run-enum-known-runs-4 t c = search needs
+
+count-run-count-std-requires-3 : (t : ℕ) → count-run-lts.Need-count-std-requires-3 (count-run-calls t) (count-run-at t) count-run.Post
+count-run-count-std-requires-3 t c κs = let spot = c .before .before .before .before .before .before .before .pre .1 in let low = run-below spot (c .before .before .before .before .before .before .before .args .a) (c .before .before .before .before .course-at .ensures) (c .before .before .runs4 .given .1) .0 in (omega (arith, c .before .before .before .before .before .before .before .pre .0, low), lower-spot spot low)
+
+count-run-count-run-requires-3 : (t : ℕ) → count-run-lts.Need-count-run-requires-3 (count-run-calls t) (count-run-at t) count-run.Post
+count-run-count-run-requires-3 t c κs = let spot = c .before .before .before .before .before .before .before .before .before .pre .1 in let low = run-below spot (c .before .before .before .before .before .before .before .before .before .args .a) (c .before .before .before .before .before .before .course-at .ensures) (c .before .before .before .before .runs4 .given .1) .1 in (omega (arith, c .before .before .before .before .before .before .before .before .before .pre .0, low), lower-spot spot low)
+
+count-run-held-word-requires : (t : ℕ) → count-run-lts.Need-held-word-requires (count-run-calls t) (count-run-at t) count-run.Post
+count-run-held-word-requires t c κs = search needs
+
+count-run-note-word-requires-5 : (t : ℕ) → count-run-lts.Need-note-word-requires-5 (count-run-calls t) (count-run-at t) count-run.Post
+count-run-note-word-requires-5 t c κs = let spot = c .before .before .before .before .before .before .before .before .before .before .before .before .pre .1 in omega (arith, spot .node .inside, spot .node .sound .few)
+
+count-run-enum-known-runs-5 : (t : ℕ) → count-run-lts.Need-enum-known-runs-5 (count-run-calls t) (count-run-at t) count-run.Post
+count-run-enum-known-runs-5 t c = search needs
+
+count-run-count-run-requires-4 : (t : ℕ) → count-run-lts.Need-count-run-requires-4 (count-run-calls t) (count-run-at t) count-run.Post
+count-run-count-run-requires-4 t c κs = let spot = c .before .before .before .before .before .before .before .pre .1 in let low = run-below spot (c .before .before .before .before .before .before .before .args .a) (c .before .before .before .before .course-at .ensures) (c .before .before .runs5 .given .1) in (omega (arith, c .before .before .before .before .before .before .before .pre .0, low), lower-spot spot low)
+
+count-run-note-word-requires-6 : (t : ℕ) → count-run-lts.Need-note-word-requires-6 (count-run-calls t) (count-run-at t) count-run.Post
+count-run-note-word-requires-6 t c κs = let spot = c .before .before .before .before .before .before .before .before .before .pre .1 in omega (arith, spot .node .inside, spot .node .sound .few)
+
+count-run-returns-2 : (t : ℕ) → count-run-lts.Need-returns-2 (count-run-calls t) (count-run-at t) count-run.Post
+count-run-returns-2 t c = paired-counted (c .before .before .before .before .before .before .before .before .before .pre .1) (c .before .before .before .before .before .before .before .before .before .args .a) (sym (c .before .before .before .before .before .before .course-at .ensures) ∙ c .before .before .before .before .runs .given .1) (c .before .basic-word .ensures) (c .note-word .ensures)
+
+count-run-returns-3 : (t : ℕ) → count-run-lts.Need-returns-3 (count-run-calls t) (count-run-at t) count-run.Post
+count-run-returns-3 t c = pair-counted (c .before .before .before .before .before .before .before .before .before .before .before .before .before .before .before .pre .1) (c .before .before .before .before .before .before .before .before .before .before .before .before .before .before .before .args .a) (sym (c .before .before .before .before .before .before .before .before .before .before .before .before .course-at .ensures) ∙ c .before .before .before .before .before .before .before .before .before .before .runs2 .given .1) (c .before .before .before .before .before .before .before .count-std .ensures) (c .before .before .before .count-std2 .ensures) (c .before .pair-word2 .ensures) (c .note-word3 .ensures)
+
+count-run-returns-4 : (t : ℕ) → count-run-lts.Need-returns-4 (count-run-calls t) (count-run-at t) count-run.Post
+count-run-returns-4 t c = runs-both-counted (c .before .before .before .before .before .before .before .before .before .before .before .before .before .pre .1) (c .before .before .before .before .before .before .before .before .before .before .before .before .before .args .a) (sym (c .before .before .before .before .before .before .before .before .before .before .course-at .ensures) ∙ c .before .before .before .before .before .before .before .before .runs3 .given .1) (c .before .before .before .before .before .count-run .ensures) (c .before .before .before .count-run2 .ensures) (c .before .both-word .ensures) (c .note-word4 .ensures)
+
+count-run-returns-5 : (t : ℕ) → count-run-lts.Need-returns-5 (count-run-calls t) (count-run-at t) count-run.Post
+count-run-returns-5 t c = held-counted (c .before .before .before .before .before .before .before .before .before .before .before .before .before .pre .1) (c .before .before .before .before .before .before .before .before .before .before .before .before .before .args .a) (sym (c .before .before .before .before .before .before .before .before .before .before .course-at .ensures) ∙ c .before .before .before .before .before .before .before .before .runs4 .given .1) (c .before .before .before .before .before .count-std3 .ensures) (c .before .before .before .count-run3 .ensures) (c .before .held-word .ensures) (c .note-word5 .ensures)
+
+count-run-returns-6 : (t : ℕ) → count-run-lts.Need-returns-6 (count-run-calls t) (count-run-at t) count-run.Post
+count-run-returns-6 t c = runs-as-counted (c .before .before .before .before .before .before .before .before .before .before .pre .1) (c .before .before .before .before .before .before .before .before .before .before .args .a) (sym (c .before .before .before .before .before .before .before .course-at .ensures) ∙ c .before .before .before .before .before .runs5 .given .1) (c .before .before .count-run4 .ensures) (c .note-word6 .ensures)
+
+count-std-stand-at-requires : (t : ℕ) → count-std-lts.Need-stand-at-requires (count-std-calls t) (count-std-at t) count-std.Post
+count-std-stand-at-requires t c κs = c .before .before .pre .1
+
+count-std-enum-known-stands : (t : ℕ) → count-std-lts.Need-enum-known-stands (count-std-calls t) (count-std-at t) count-std.Post
+count-std-enum-known-stands t c = search needs
+
+count-std-event-view-requires : (t : ℕ) → count-std-lts.Need-event-view-requires (count-std-calls t) (count-std-at t) count-std.Post
+count-std-event-view-requires t c κs = search needs
+
+count-std-note-requires : (t : ℕ) → count-std-lts.Need-note-requires (count-std-calls t) (count-std-at t) count-std.Post
+count-std-note-requires t c κs = let spot = c .before .before .before .before .before .before .before .before .pre .1 in omega (arith, spot .node .inside, spot .node .sound .few)
+
+count-std-enum-known-stands-2 : (t : ℕ) → count-std-lts.Need-enum-known-stands-2 (count-std-calls t) (count-std-at t) count-std.Post
+count-std-enum-known-stands-2 t c = search needs
+
+count-std-basic-view-requires : (t : ℕ) → count-std-lts.Need-basic-view-requires (count-std-calls t) (count-std-at t) count-std.Post
+count-std-basic-view-requires t c κs = search needs
+
+count-std-note-requires-2 : (t : ℕ) → count-std-lts.Need-note-requires-2 (count-std-calls t) (count-std-at t) count-std.Post
+count-std-note-requires-2 t c κs = let spot = c .before .before .before .before .before .before .before .before .pre .1 in omega (arith, spot .node .inside, spot .node .sound .few)
+
+count-std-enum-known-stands-3 : (t : ℕ) → count-std-lts.Need-enum-known-stands-3 (count-std-calls t) (count-std-at t) count-std.Post
+count-std-enum-known-stands-3 t c = search needs
+
+count-std-count-std-requires : (t : ℕ) → count-std-lts.Need-count-std-requires (count-std-calls t) (count-std-at t) count-std.Post
+count-std-count-std-requires t c κs = let spot = c .before .before .before .before .before .before .before .pre .1 in let low = std-below spot (c .before .before .before .before .before .before .before .args .a) (c .before .before .before .before .before .before .before .args .sense) (c .before .before .before .before .stand-at .ensures) (c .before .before .stands3 .given .1) .0 in (omega (arith, c .before .before .before .before .before .before .before .pre .0, low), lower-spot spot low)
+
+count-std-count-std-requires-2 : (t : ℕ) → count-std-lts.Need-count-std-requires-2 (count-std-calls t) (count-std-at t) count-std.Post
+count-std-count-std-requires-2 t c κs = let spot = c .before .before .before .before .before .before .before .before .before .pre .1 in let low = std-below spot (c .before .before .before .before .before .before .before .before .before .args .a) (c .before .before .before .before .before .before .before .before .before .args .sense) (c .before .before .before .before .before .before .stand-at .ensures) (c .before .before .before .before .stands3 .given .1) .1 in (omega (arith, c .before .before .before .before .before .before .before .before .before .pre .0, low), lower-spot spot low)
+
+count-std-both-view-requires : (t : ℕ) → count-std-lts.Need-both-view-requires (count-std-calls t) (count-std-at t) count-std.Post
+count-std-both-view-requires t c κs = search needs
+
+count-std-note-requires-3 : (t : ℕ) → count-std-lts.Need-note-requires-3 (count-std-calls t) (count-std-at t) count-std.Post
+count-std-note-requires-3 t c κs = let spot = c .before .before .before .before .before .before .before .before .before .before .before .before .pre .1 in omega (arith, spot .node .inside, spot .node .sound .few)
+
+count-std-enum-known-stands-4 : (t : ℕ) → count-std-lts.Need-enum-known-stands-4 (count-std-calls t) (count-std-at t) count-std.Post
+count-std-enum-known-stands-4 t c = search needs
+
+count-std-count-std-requires-3 : (t : ℕ) → count-std-lts.Need-count-std-requires-3 (count-std-calls t) (count-std-at t) count-std.Post
+count-std-count-std-requires-3 t c κs = let spot = c .before .before .before .before .before .before .before .pre .1 in let low = std-below spot (c .before .before .before .before .before .before .before .args .a) (c .before .before .before .before .before .before .before .args .sense) (c .before .before .before .before .stand-at .ensures) (c .before .before .stands4 .given .1) .0 in (omega (arith, c .before .before .before .before .before .before .before .pre .0, low), lower-spot spot low)
+
+count-std-count-std-requires-4 : (t : ℕ) → count-std-lts.Need-count-std-requires-4 (count-std-calls t) (count-std-at t) count-std.Post
+count-std-count-std-requires-4 t c κs = let spot = c .before .before .before .before .before .before .before .before .before .pre .1 in let low = std-below spot (c .before .before .before .before .before .before .before .before .before .args .a) (c .before .before .before .before .before .before .before .before .before .args .sense) (c .before .before .before .before .before .before .stand-at .ensures) (c .before .before .before .before .stands4 .given .1) .1 in (omega (arith, c .before .before .before .before .before .before .before .before .before .pre .0, low), lower-spot spot low)
+
+count-std-handler-view-requires : (t : ℕ) → count-std-lts.Need-handler-view-requires (count-std-calls t) (count-std-at t) count-std.Post
+count-std-handler-view-requires t c κs = search needs
+
+count-std-note-requires-4 : (t : ℕ) → count-std-lts.Need-note-requires-4 (count-std-calls t) (count-std-at t) count-std.Post
+count-std-note-requires-4 t c κs = let spot = c .before .before .before .before .before .before .before .before .before .before .before .before .pre .1 in omega (arith, spot .node .inside, spot .node .sound .few)
+
+count-std-enum-known-stands-5 : (t : ℕ) → count-std-lts.Need-enum-known-stands-5 (count-std-calls t) (count-std-at t) count-std.Post
+count-std-enum-known-stands-5 t c = search needs
+
+count-std-count-run-requires : (t : ℕ) → count-std-lts.Need-count-run-requires (count-std-calls t) (count-std-at t) count-std.Post
+count-std-count-run-requires t c κs = let spot = c .before .before .before .before .before .before .before .pre .1 in let low = std-below spot (c .before .before .before .before .before .before .before .args .a) (c .before .before .before .before .before .before .before .args .sense) (c .before .before .before .before .stand-at .ensures) (c .before .before .stands5 .given .1) in (omega (arith, c .before .before .before .before .before .before .before .pre .0, low), lower-spot spot low)
+
+count-std-block-view-requires : (t : ℕ) → count-std-lts.Need-block-view-requires (count-std-calls t) (count-std-at t) count-std.Post
+count-std-block-view-requires t c κs = search needs
+
+count-std-note-requires-5 : (t : ℕ) → count-std-lts.Need-note-requires-5 (count-std-calls t) (count-std-at t) count-std.Post
+count-std-note-requires-5 t c κs = let spot = c .before .before .before .before .before .before .before .before .before .before .pre .1 in omega (arith, spot .node .inside, spot .node .sound .few)
+
+count-std-enum-known-stands-6 : (t : ℕ) → count-std-lts.Need-enum-known-stands-6 (count-std-calls t) (count-std-at t) count-std.Post
+count-std-enum-known-stands-6 t c = search needs
+
+count-std-count-std-requires-5 : (t : ℕ) → count-std-lts.Need-count-std-requires-5 (count-std-calls t) (count-std-at t) count-std.Post
+count-std-count-std-requires-5 t c κs = let spot = c .before .before .before .before .before .before .before .pre .1 in let low = std-below spot (c .before .before .before .before .before .before .before .args .a) (c .before .before .before .before .before .before .before .args .sense) (c .before .before .before .before .stand-at .ensures) (c .before .before .stands6 .given .1) in (omega (arith, c .before .before .before .before .before .before .before .pre .0, low), lower-spot spot low)
+
+count-std-note-requires-6 : (t : ℕ) → count-std-lts.Need-note-requires-6 (count-std-calls t) (count-std-at t) count-std.Post
+count-std-note-requires-6 t c κs = let spot = c .before .before .before .before .before .before .before .before .before .pre .1 in omega (arith, spot .node .inside, spot .node .sound .few)
+
+count-std-returns : (t : ℕ) → count-std-lts.Need-returns (count-std-calls t) (count-std-at t) count-std.Post
+count-std-returns t c = event-counted (c .before .before .before .before .before .before .before .before .before .pre .1) (c .before .before .before .before .before .before .before .before .before .args .a) (c .before .before .before .before .before .before .before .before .before .args .sense) (sym (c .before .before .before .before .before .before .stand-at .ensures) ∙ c .before .before .before .before .stands .given .1) (c .before .event-view .ensures) (c .note .ensures)
+
+count-std-returns-2 : (t : ℕ) → count-std-lts.Need-returns-2 (count-std-calls t) (count-std-at t) count-std.Post
+count-std-returns-2 t c = basic-counted (c .before .before .before .before .before .before .before .before .before .pre .1) (c .before .before .before .before .before .before .before .before .before .args .a) (c .before .before .before .before .before .before .before .before .before .args .sense) (sym (c .before .before .before .before .before .before .stand-at .ensures) ∙ c .before .before .before .before .stands2 .given .1) (c .before .basic-view .ensures) (c .note2 .ensures)
+
+count-std-returns-3 : (t : ℕ) → count-std-lts.Need-returns-3 (count-std-calls t) (count-std-at t) count-std.Post
+count-std-returns-3 t c = both-counted (c .before .before .before .before .before .before .before .before .before .before .before .before .before .pre .1) (c .before .before .before .before .before .before .before .before .before .before .before .before .before .args .a) (c .before .before .before .before .before .before .before .before .before .before .before .before .before .args .sense) (sym (c .before .before .before .before .before .before .before .before .before .before .stand-at .ensures) ∙ c .before .before .before .before .before .before .before .before .stands3 .given .1) (c .before .before .before .before .before .count-std .ensures) (c .before .before .before .count-std2 .ensures) (c .before .both-view .ensures) (c .note3 .ensures)
+
+count-std-returns-4 : (t : ℕ) → count-std-lts.Need-returns-4 (count-std-calls t) (count-std-at t) count-std.Post
+count-std-returns-4 t c = handler-counted (c .before .before .before .before .before .before .before .before .before .before .before .before .before .pre .1) (c .before .before .before .before .before .before .before .before .before .before .before .before .before .args .a) (c .before .before .before .before .before .before .before .before .before .before .before .before .before .args .sense) (sym (c .before .before .before .before .before .before .before .before .before .before .stand-at .ensures) ∙ c .before .before .before .before .before .before .before .before .stands4 .given .1) (c .before .before .before .before .before .count-std3 .ensures) (c .before .before .before .count-std4 .ensures) (c .before .handler-view .ensures) (c .note4 .ensures)
+
+count-std-returns-5 : (t : ℕ) → count-std-lts.Need-returns-5 (count-std-calls t) (count-std-at t) count-std.Post
+count-std-returns-5 t c = block-counted (c .before .before .before .before .before .before .before .before .before .before .before .pre .1) (c .before .before .before .before .before .before .before .before .before .before .before .args .a) (c .before .before .before .before .before .before .before .before .before .before .before .args .sense) (sym (c .before .before .before .before .before .before .before .before .stand-at .ensures) ∙ c .before .before .before .before .before .before .stands5 .given .1) (c .before .before .before .count-run .ensures) (c .before .block-view .ensures) (c .note5 .ensures)
+
+count-std-returns-6 : (t : ℕ) → count-std-lts.Need-returns-6 (count-std-calls t) (count-std-at t) count-std.Post
+count-std-returns-6 t c = as-counted (c .before .before .before .before .before .before .before .before .before .before .pre .1) (c .before .before .before .before .before .before .before .before .before .before .args .a) (c .before .before .before .before .before .before .before .before .before .before .args .sense) (sym (c .before .before .before .before .before .before .before .stand-at .ensures) ∙ c .before .before .before .before .before .stands6 .given .1) (c .before .before .count-std5 .ensures) (c .note6 .ensures)
+
+pub +count-run+count-std-spec : {M : Type 1} → statement M
++count-run+count-std-spec = close μ-count-run μ-count-std (λ t. count-run-lts.spec (count-run-calls t) (count-run-at t) count-run.Post (count-run-course-at-requires t) (count-run-enum-known-runs t) (count-run-basic-word-requires t) (count-run-note-word-requires t) (count-run-enum-known-runs-2 t) (count-run-count-std-requires t) (count-run-skip-view-requires t) (count-run-pair-word-requires t) (count-run-note-word-requires-2 t) (count-run-returns t) (count-run-count-std-requires-2 t) (count-run-pair-word-requires-2 t) (count-run-note-word-requires-3 t) (count-run-enum-known-runs-3 t) (count-run-count-run-requires t) (count-run-count-run-requires-2 t) (count-run-both-word-requires t) (count-run-note-word-requires-4 t) (count-run-enum-known-runs-4 t) (count-run-count-std-requires-3 t) (count-run-count-run-requires-3 t) (count-run-held-word-requires t) (count-run-note-word-requires-5 t) (count-run-enum-known-runs-5 t) (count-run-count-run-requires-4 t) (count-run-note-word-requires-6 t) (count-run-returns-2 t) (count-run-returns-3 t) (count-run-returns-4 t) (count-run-returns-5 t) (count-run-returns-6 t)) λ t. count-std-lts.spec (count-std-calls t) (count-std-at t) count-std.Post (count-std-stand-at-requires t) (count-std-enum-known-stands t) (count-std-event-view-requires t) (count-std-note-requires t) (count-std-enum-known-stands-2 t) (count-std-basic-view-requires t) (count-std-note-requires-2 t) (count-std-enum-known-stands-3 t) (count-std-count-std-requires t) (count-std-count-std-requires-2 t) (count-std-both-view-requires t) (count-std-note-requires-3 t) (count-std-enum-known-stands-4 t) (count-std-count-std-requires-3 t) (count-std-count-std-requires-4 t) (count-std-handler-view-requires t) (count-std-note-requires-4 t) (count-std-enum-known-stands-5 t) (count-std-count-run-requires t) (count-std-block-view-requires t) (count-std-note-requires-5 t) (count-std-enum-known-stands-6 t) (count-std-count-std-requires-5 t) (count-std-note-requires-6 t) (count-std-returns t) (count-std-returns-2 t) (count-std-returns-3 t) (count-std-returns-4 t) (count-std-returns-5 t) (count-std-returns-6 t)

@@ -1,0 +1,37 @@
+-- What is seen of a term is what its word makes of what is seen of its parts. Assumes nothing.
+use Prim.Native.Nat.{ℕ}
+use mathlib.Core.Path.{_≡_}
+use Rattle.calculus.specs.Term.{Std, Cmp}
+use Rattle.flow.specs.declared.Simple.{Simple}
+use Rattle.flow.specs.declared.Simple.the-variants.{Skip, Throw, Yield}
+use Rattle.flow.specs.declared.Operator.{Operator}
+use Rattle.flow.specs.declared.Operator.the-variants.{Sequence, Choice, Parallel}
+use Rattle.flow.specs.Draws.{basic, paired, standard, compensable}
+use Rattle.tallies.specs.Counts.{view, word}
+use Rattle.tallies.specs.CountsLaws.{view-skip, view-throw, view-yield, view-seq, view-alt, view-par, word-skipp, word-throww, word-yieldd, word-cseq, word-calt, word-cpar}
+use Rattle.counting.specs.Wholes.{basicV, bothV, basicW, bothW}
+
+module _ (a : ℕ) where
+  pub view-basic : (b : Simple) → view a (basic b) ≡ basicV b
+  unfolding basicV
+  view-basic Skip = view-skip a
+  view-basic Throw = view-throw a
+  view-basic Yield = view-yield a
+
+  pub view-both : (o : Operator) (p q : Std) → view a (standard o p q) ≡ bothV o (view a p) (view a q)
+  unfolding bothV
+  view-both Sequence p q = view-seq a p q
+  view-both Choice p q = view-alt a p q
+  view-both Parallel p q = view-par a p q
+
+  pub word-basic : (b : Simple) → word a (paired b) ≡ basicW b
+  unfolding basicW
+  word-basic Skip = word-skipp a
+  word-basic Throw = word-throww a
+  word-basic Yield = word-yieldd a
+
+  pub word-both : (o : Operator) (pp qq : Cmp) → word a (compensable o pp qq) ≡ bothW o (word a pp) (word a qq)
+  unfolding bothW
+  word-both Sequence pp qq = word-cseq a pp qq
+  word-both Choice pp qq = word-calt a pp qq
+  word-both Parallel pp qq = word-cpar a pp qq
