@@ -5,9 +5,7 @@ use mathlib.Core.Path.{_≡_, refl}
 use mathlib.Core.Bool.{Bool, true, false, cond}
 use lib.Dec.{eqb}
 use Rattle.flow.specs.declared.Simple.the-variants.{Skip}
-use Rattle.flow.specs.declared.Operator.{Operator}
 use Rattle.flow.specs.declared.Operator.the-variants.{Sequence, Choice, Parallel}
-use Rattle.flow.specs.declared.Two.{Two}
 use Rattle.flow.specs.declared.Node.{Node}
 use Rattle.flow.specs.declared.Node.the-variants.{Event, Basic, Standard, Handler, Block, Pair, Compensable, Paired, Unknown}
 use Rattle.flow.specs.Kinds.{two}
@@ -18,15 +16,11 @@ use Rattle.states.specs.declared.Standing.the-variants as standing
 use Rattle.states.specs.declared.Course.{Course}
 use Rattle.states.specs.declared.Course.the-variants as course
 use Rattle.states.specs.Standings.{as-drawn, first-taken, left-second, left-first, only, drawn-two, stand-drawn, undoing-two, stand-undoing, stand, course-two, course-of}
-use Rattle.steps.specs.Turns.{moved-on, second-taken, compensating, holding, gone}
-
--- an event that is taken is SKIP
-abbrev taken : ℕ
-taken = 1
+use Rattle.steps.specs.Turns.{event-taken, moved-on, second-taken, compensating, holding, gone}
 
 module _ (s : Sense) (n : Node) where
   abbrev pub After : Standing → Type 0
-  After (standing.Event e) = stand s n taken ≡ standing.Basic Skip
+  After (standing.Event e) = stand s n event-taken ≡ standing.Basic Skip
   After (standing.Basic b) = Unit {0}
   After (standing.Both Sequence t) = stand s n (gone s) ≡ only (t .second) s
   After (standing.Both Choice t) = (stand s n first-taken ≡ only (t .first) s) × (stand s n second-taken ≡ only (t .second) s)

@@ -1,8 +1,8 @@
 -- What holds at a node whose child makes a step, whatever it is: its term, its room and its counts from what is left of it, its own
--- count, and how a step of a child is one of the node (`turned`, `turned-by`). Assumes nothing.
+-- count, and how a step of a child is one of the node (`handed`, `handed-by`). Assumes nothing.
 use Prim.Native.Nat.{ℕ, _<_}
 use mathlib.Core.Path.{_≡_, sym, _∙_, ap, subst, subst₂}
-use mathlib.Core.Bool.{Bool, _&&_}
+use mathlib.Core.Bool.{_&&_}
 use mathlib.Core.List.{List}
 use lib.Dec.{T, eqb→eq}
 use lib.ListN.{length}
@@ -14,21 +14,21 @@ use Rattle.tallies.specs.Places.{At}
 use Rattle.states.specs.declared.Role.{Role}
 use Rattle.states.specs.declared.Role.the-variants.{Plain, Running}
 use Rattle.states.specs.State.{Part, part, modes, counts}
-use Rattle.states.specs.Stored.{Right, own, stored}
+use Rattle.states.specs.Stored.{own, stored}
 use Rattle.states.specs.StateLaws.{std-part, run-part, std-stored, run-stored}
 use Rattle.states.specs.Roles.{get, nexts, many, ok}
-use Rattle.states.specs.Contracts.{Scene, scene, part-at, stored-at, Kept, Sets, Ready}
+use Rattle.states.specs.Contracts.{Scene, part-at, stored-at, Kept, Sets, Ready}
 use Rattle.states.specs.ChildLaws.{lower-spot, same-room, kept-set, kept-part, kid-lower, kept-kid, own-kept, same-part, same-stored}
-use Rattle.steps.specs.Turns.{move, Turned, Stance, stance-of, term-of, right-of}
+use Rattle.steps.specs.Turns.{move, Turned, Stance, stance-of, stance-term, stance-right}
 
 -- A node by its role ---------------------------------------------------------------------------------------------------------
 
 module _ (ns : List ℕ) (tree : Tree (shape ns)) (a : ℕ) (m c : ℕ → ℕ) (i : ℕ) where
-  term-is : (r : Role) → get r (part ns m i) ≡ term-of r (stance-of r (node ns i) (m i)) (part ns m)
+  term-is : (r : Role) → get r (part ns m i) ≡ stance-term r (stance-of r (node ns i) (m i)) (part ns m)
   term-is (Plain s) = std-part ns tree m i s
   term-is Running = run-part ns tree m i
 
-  right-is : (r : Role) → ok r (stored ns a m c i) ≡ (ok r (own ns a m c i) && right-of r (stance-of r (node ns i) (m i)) (stored ns a m c))
+  right-is : (r : Role) → ok r (stored ns a m c i) ≡ (ok r (own ns a m c i) && stance-right r (stance-of r (node ns i) (m i)) (stored ns a m c))
   right-is (Plain s) = std-stored ns tree a m c i s
   right-is Running = run-stored ns tree a m c i
 
@@ -39,7 +39,7 @@ module _ (ns : List ℕ) (tree : Tree (shape ns)) (a : ℕ) (m c : ℕ → ℕ) 
 
   -- the count of the node itself
   pub own-count : (r : Role) → T (ok r (stored ns a m c i)) → c i ≡ many r a (part ns m i)
-  own-count r t = own-right r (and-left (ok r (own ns a m c i)) (right-of r (stance-of r (node ns i) (m i)) (stored ns a m c)) (subst T (right-is r) t))
+  own-count r t = own-right r (and-left (ok r (own ns a m c i)) (stance-right r (stance-of r (node ns i) (m i)) (stored ns a m c)) (subst T (right-is r) t))
 
 -- A step is handed down ------------------------------------------------------------------------------------------------------
 
@@ -48,32 +48,32 @@ module _ {s : Scene} {r : Role} {c : List ℕ} {i k : ℕ} (h : Ready s r c i k)
   abbrev pub tree-of : Tree (shape (s .ns))
   tree-of = h .spot .node .sound .tree
 
-  term-before : get r (part-at s i) ≡ term-of r x (part-at s)
-  term-before = term-is (s .ns) tree-of (s .a) (modes (s .t)) (counts c) i r ∙ ap (λ z. term-of r z (part-at s)) e
+  term-before : get r (part-at s i) ≡ stance-term r x (part-at s)
+  term-before = term-is (s .ns) tree-of (s .a) (modes (s .t)) (counts c) i r ∙ ap (λ z. stance-term r z (part-at s)) e
 
-  pub step-room : k < cap (length (nexts r (term-of r x (part-at s)) (s .a)))
+  pub step-room : k < cap (length (nexts r (stance-term r x (part-at s)) (s .a)))
   step-room = subst (λ z. k < cap (length (nexts r z (s .a)))) term-before (h .room)
 
-  pub parts-right : T (right-of r x (stored-at s c))
-  parts-right = and-right (ok r (own (s .ns) (s .a) (modes (s .t)) (counts c) i)) (right-of r x (stored-at s c))
-      (subst T (right-is (s .ns) tree-of (s .a) (modes (s .t)) (counts c) i r ∙ ap (λ z. ok r (own (s .ns) (s .a) (modes (s .t)) (counts c) i) && right-of r z (stored-at s c)) e) (h .right))
+  pub parts-right : T (stance-right r x (stored-at s c))
+  parts-right = and-right (ok r (own (s .ns) (s .a) (modes (s .t)) (counts c) i)) (stance-right r x (stored-at s c))
+      (subst T (right-is (s .ns) tree-of (s .a) (modes (s .t)) (counts c) i r ∙ ap (λ z. ok r (own (s .ns) (s .a) (modes (s .t)) (counts c) i) && stance-right r z (stored-at s c)) e) (h .right))
 
   -- and in modes t″ x′
-  step-goes : {x′ : Stance r} (t″ : List ℕ) → stance-of r (node (s .ns) i) (modes t″ i) ≡ x′
-      → At (nexts r (term-of r x (part-at s)) (s .a)) k (term-of r x′ (part (s .ns) (modes t″)))
+  pub step-goes : {x′ : Stance r} (t″ : List ℕ) → stance-of r (node (s .ns) i) (modes t″ i) ≡ x′
+      → At (nexts r (stance-term r x (part-at s)) (s .a)) k (stance-term r x′ (part (s .ns) (modes t″)))
       → At (nexts r (get r (part-at s i)) (s .a)) k (get r (part (s .ns) (modes t″) i))
   step-goes t″ e′ u =
-      let f = term-is (s .ns) tree-of (s .a) (modes t″) (counts c) i r ∙ ap (λ z. term-of r z (part (s .ns) (modes t″))) e′ in
+      let f = term-is (s .ns) tree-of (s .a) (modes t″) (counts c) i r ∙ ap (λ z. stance-term r z (part (s .ns) (modes t″))) e′ in
       subst₂ (λ y z. At (nexts r y (s .a)) k z) (sym term-before) (sym f) u
 
   module _ (q : Role) {t′ : List ℕ} {g : ℕ} (kid : Kid (shape (s .ns)) i g) where
     -- the modes become t′, and then child g makes the step, at place l of its own
-    pub turned : {x′ : Stance r} {c′ : List ℕ} {l : ℕ} → stance-of r (node (s .ns) i) (modes t′ i) ≡ x′ → Kept (s .ns) i (modes (s .t)) (modes t′) → length t′ ≡ length (s .t)
+    pub handed : {x′ : Stance r} {c′ : List ℕ} {l : ℕ} → stance-of r (node (s .ns) i) (modes t′ i) ≡ x′ → Kept (s .ns) i (modes (s .t)) (modes t′) → length t′ ≡ length (s .t)
         → T (ok q (stored (s .ns) (s .a) (modes t′) (counts c′) g)) → l < many q (s .a) (part (s .ns) (modes t′) g)
         → ((at : ℕ → Part) → ((j : ℕ) → ((n : ℕ) → Under (shape (s .ns)) g n → Under (shape (s .ns)) j n → ⊥) → at j ≡ part (s .ns) (modes t′) j)
-            → At (nexts q (get q (part (s .ns) (modes t′) g)) (s .a)) l (get q (at g)) → At (nexts r (term-of r x (part-at s)) (s .a)) k (term-of r x′ at))
+            → At (nexts q (get q (part (s .ns) (modes t′) g)) (s .a)) l (get q (at g)) → At (nexts r (stance-term r x (part-at s)) (s .a)) k (stance-term r x′ at))
         → Turned s c′ (move r i k) t′ (move q g l)
-    turned e′ w long good room goes = record {
+    handed e′ w long good room goes = record {
       lower = kid-lower (s .ns) tree-of kid;
       ready = record { spot = lower-spot (same-room (h .spot) long) (kid-lower (s .ns) tree-of kid); right = good; room = room };
       back = λ t″ z. record {
@@ -84,14 +84,14 @@ module _ {s : Scene} {r : Role} {c : List ℕ} {i k : ℕ} (h : Ready s r c i k)
     }
 
     -- only the node's mode is set
-    pub turned-by : {m : ℕ} {x′ : Stance r} {l : ℕ} → Sets (s .t) i m t′ → stance-of r (node (s .ns) i) m ≡ x′
+    pub handed-by : {m : ℕ} {x′ : Stance r} {l : ℕ} → Sets (s .t) i m t′ → stance-of r (node (s .ns) i) m ≡ x′
         → T (ok q (stored-at s c g)) → l < many q (s .a) (part-at s g)
         → ((at : ℕ → Part) → ((j : ℕ) → Kid (shape (s .ns)) i j → ((n : ℕ) → Under (shape (s .ns)) g n → Under (shape (s .ns)) j n → ⊥) → at j ≡ part-at s j)
-            → At (nexts q (get q (part-at s g)) (s .a)) l (get q (at g)) → At (nexts r (term-of r x (part-at s)) (s .a)) k (term-of r x′ at))
+            → At (nexts q (get q (part-at s g)) (s .a)) l (get q (at g)) → At (nexts r (stance-term r x (part-at s)) (s .a)) k (stance-term r x′ at))
         → Turned s c (move r i k) t′ (move q g l)
-    turned-by {m} {x′} {l} w e′ good room goes =
+    handed-by {m} {x′} {l} w e′ good room goes =
         let same : part (s .ns) (modes t′) g ≡ part-at s g = same-part (s .ns) tree-of kid w in
-        turned (ap (stance-of r (node (s .ns) i)) (w .here) ∙ e′) (kept-set (s .ns) w) (w .long)
+        handed (ap (stance-of r (node (s .ns) i)) (w .here) ∙ e′) (kept-set (s .ns) w) (w .long)
         (subst (λ z. T (ok q z)) (sym (same-stored (s .ns) tree-of kid w (s .a) c)) good)
         (subst (λ z. l < many q (s .a) z) (sym same) room)
         (λ at beside u. goes at (λ j other free. beside j free ∙ same-part (s .ns) tree-of other w) (subst (λ z. At (nexts q (get q z) (s .a)) l (get q (at g))) same u))

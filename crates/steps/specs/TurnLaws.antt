@@ -2,12 +2,12 @@
 -- that is left, into a block or out of it. What has no live part makes its step itself, or has none. Assumes nothing.
 use Prim.Native.Nat.{ℕ, _<_, _≤_, _-_}
 use mathlib.Core.Path.{_≡_, refl, sym, _∙_, ap, subst}
-use mathlib.Core.Bool.{Bool, true, false, true≢false, _&&_}
+use mathlib.Core.Bool.{true, false, true≢false, _&&_}
 use mathlib.Core.List.{List}
 use native.Mathlib.Omega.{arith}
 use lib.Dec.{T}
 use lib.ListN.{length, set}
-use Rattle.calculus.specs.Term.{leaf, Std, Cmp, done, failed, skip, throw, yield, ev, seq, par, hnd, blk, pair, cseq, cpar, held}
+use Rattle.calculus.specs.Term.{leaf, Std, Cmp, done, failed, skip, throw, yield, seq, par, hnd, blk, pair, cseq, cpar, held}
 use Rattle.calculus.specs.Successors.{steps, csteps, comps}
 use Rattle.calculus.specs.Members.{and-left, and-right}
 use Rattle.flow.specs.declared.Simple.{Simple}
@@ -17,7 +17,7 @@ use Rattle.flow.specs.declared.Operator.the-variants.{Sequence, Choice, Paralle
 use Rattle.flow.specs.declared.Two.{Two}
 use Rattle.flow.specs.declared.Node.{Node}
 use Rattle.flow.specs.Kinds.{node, shape}
-use Rattle.flow.specs.Nodes.{Kid, Under}
+use Rattle.flow.specs.Nodes.{Kid}
 use Rattle.flow.specs.Draws.{basic, paired, standard, compensable}
 use Rattle.tallies.specs.Capped.{cap}
 use Rattle.tallies.specs.Formulas.{movesG, holdG}
@@ -38,15 +38,24 @@ use Rattle.states.specs.declared.Sub.{Sub}
 use Rattle.states.specs.declared.Picked.{Picked}
 use Rattle.states.specs.Standings.{only, stand, course-of}
 use Rattle.states.specs.State.{Part, std-of, run-of, part, modes, counts}
-use Rattle.states.specs.Stored.{Right, std-right, run-right, stored}
+use Rattle.states.specs.Stored.{std-right, run-right}
 use Rattle.states.specs.Rests.{Twins, Rests, CRests, stand-rests, course-rests}
 use Rattle.states.specs.Roles.{get, nexts, many, ok}
-use Rattle.states.specs.Contracts.{Spot, Sets, Kept, Scene, scene, part-at, stored-at, weight-of, ask, Chosen, Counted, Ready, Stepped}
-use Rattle.states.specs.ChildLaws.{set-sets, sets-none, lower-spot, same-room, kept-set, kid-lower, own-kept, same-part, spot-down, mode-after, kept-up, beside-part, beside-stored}
+use Rattle.states.specs.Contracts.{Spot, Sets, Scene, scene, part-at, stored-at, weight-of, ask, Chosen, Counted, Ready, Stepped}
+use Rattle.states.specs.ChildLaws.{set-sets, sets-none, same-room, kept-set, kid-lower, same-part, spot-down, mode-after, kept-up, beside-part, beside-stored}
 use Rattle.steps.specs.declared.Turn.{Turn}
-use Rattle.steps.specs.Turns.{move, Turned, compensating, holding, moved-on, gone, first-mode, second-mode, fork, Forked, in-first, in-second, Stance, stance-of, term-of, right-of}
-use Rattle.steps.specs.AfterLaws.{taken, After, CAfter, stand-after, course-after}
-use Rattle.steps.specs.NodeLaws.{own-count, tree-of, step-room, parts-right, step-goes, turned, turned-by}
+use Rattle.steps.specs.Turns.{move, Turned, event-taken, compensating, holding, moved-on, gone, stand-in, course-in, first-mode, second-mode, halves, Forked, in-first, in-second, Stance, stance-of, stance-term}
+use Rattle.steps.specs.AfterLaws.{After, CAfter, stand-after, course-after}
+use Rattle.steps.specs.NodeLaws.{own-count, tree-of, step-room, parts-right, step-goes, handed, handed-by}
+
+-- Node numbers are small ------------------------------------------------------------------------------------------------------
+
+module _ {s : Scene} {r : Role} {c : List ℕ} {i k : ℕ} (h : Ready s r c i k) where
+  number-small : {j : ℕ} → Kid (shape (s .ns)) i j → j < 64
+  number-small kid = let n = h .spot .node in omega (arith, n .inside, n .sound .few, kid-lower (s .ns) (n .sound .tree) kid)
+
+  twins-small : {p : Two} → Twins (s .ns) i p → (p .first < 64) × (p .second < 64)
+  twins-small tw = (number-small (tw .one), number-small (tw .other))
 
 -- Two live parts -------------------------------------------------------------------------------------------------------------
 
@@ -64,15 +73,15 @@ module _ {s : Scene} {r : Role} {c : List ℕ} {i k : ℕ} (h : Ready s r c i k)
   module _ {m : ℕ} {t′ : List ℕ} (w : Sets (s .t) i m t′) {x′ : Stance r} (e′ : stance-of r (node (s .ns) i) m ≡ x′) where
     to-first : k < counts c (p .first)
         → ((at : ℕ → Part) → at (p .second) ≡ part-at s (p .second) → At (nexts r (get r (part-at s (p .first))) (s .a)) k (get r (at (p .first)))
-            → At (nexts r (term-of r x (part-at s)) (s .a)) k (term-of r x′ at))
+            → At (nexts r (stance-term r x (part-at s)) (s .a)) k (stance-term r x′ at))
         → Turned s c (move r i k) t′ (move r (p .first) k)
-    to-first l goes = turned-by h e r (tw .one) w e′ first-right (subst (λ z. k < z) first-count l) (λ at same u. goes at (same (p .second) (tw .other) (tw .free)) u)
+    to-first l goes = handed-by h e r (tw .one) w e′ first-right (subst (λ z. k < z) first-count l) (λ at same u. goes at (same (p .second) (tw .other) (tw .free)) u)
 
     to-second : k - counts c (p .first) < many r (s .a) (part-at s (p .second))
         → ((at : ℕ → Part) → at (p .first) ≡ part-at s (p .first) → At (nexts r (get r (part-at s (p .second))) (s .a)) (k - counts c (p .first)) (get r (at (p .second)))
-            → At (nexts r (term-of r x (part-at s)) (s .a)) k (term-of r x′ at))
+            → At (nexts r (stance-term r x (part-at s)) (s .a)) k (stance-term r x′ at))
         → Turned s c (move r i k) t′ (move r (p .second) (k - counts c (p .first)))
-    to-second room goes = turned-by h e r (tw .other) w e′ second-right room (λ at same u. goes at (same (p .first) (tw .one) (λ j y z. tw .free j z y)) u)
+    to-second room goes = handed-by h e r (tw .other) w e′ second-right room (λ at same u. goes at (same (p .first) (tw .one) (λ j y z. tw .free j z y)) u)
 
 -- what is left of two parts after a step of the first, and after one of the second
 abbrev first-standing : Operator → Two → Sense → Standing
@@ -85,7 +94,7 @@ second-standing Sequence p v = only (p .second) v
 second-standing Choice p v = only (p .second) v
 second-standing Parallel p v = standing.Both Parallel p
 
-module _ {v : Sense} {n : Node} {m : ℕ} {p : Two} where
+module _ (v : Sense) (n : Node) (m : ℕ) {p : Two} where
   first-stands : (o : Operator) → stand v n m ≡ standing.Both o p → stand v n (first-mode o m) ≡ first-standing o p v
   unfolding first-mode
   first-stands Sequence e = e
@@ -99,59 +108,71 @@ module _ {v : Sense} {n : Node} {m : ℕ} {p : Two} where
   second-stands Parallel e = e
 
 -- the parts before are those of b, and those after of at
-module _ (a : ℕ) (v : Sense) (p : Two) (b at : ℕ → Part) {k : ℕ} where
-  abbrev one : Std
-  one = b (p .first) .std v
+module _ (a : ℕ) (v : Sense) (p : Two) (b at : ℕ → Part) (k : ℕ) where
+  abbrev std-one : Std
+  std-one = b (p .first) .std v
 
-  abbrev other : Std
-  other = b (p .second) .std v
+  abbrev std-other : Std
+  std-other = b (p .second) .std v
 
-  both-first : (o : Operator) → at (p .second) ≡ b (p .second) → At (steps one a) k (at (p .first) .std v) → At (steps (standard o one other) a) k (std-of (first-standing o p v) v at)
+  both-first : (o : Operator) → at (p .second) ≡ b (p .second) → At (steps std-one a) k (at (p .first) .std v) → At (steps (standard o std-one std-other) a) k (std-of (first-standing o p v) v at)
   unfolding std-of
-  both-first Sequence e u = subst (λ z. At (steps (seq one other) a) k (seq (at (p .first) .std v) (z .std v))) (sym e) (at-seq-first a one other u)
-  both-first Choice e u = at-alt-first a one other u
-  both-first Parallel e u = subst (λ z. At (steps (par one other) a) k (par (at (p .first) .std v) (z .std v))) (sym e) (at-par-first a one other u)
+  both-first Sequence e u = subst (λ z. At (steps (seq std-one std-other) a) k (seq (at (p .first) .std v) (z .std v))) (sym e) (at-seq-first a std-one std-other u)
+  both-first Choice e u = at-alt-first a std-one std-other u
+  both-first Parallel e u = subst (λ z. At (steps (par std-one std-other) a) k (par (at (p .first) .std v) (z .std v))) (sym e) (at-par-first a std-one std-other u)
 
-  hnd-first : at (p .second) ≡ b (p .second) → At (steps one a) k (at (p .first) .std v) → At (steps (hnd one other) a) k (std-of (standing.Handler p) v at)
+  hnd-first : at (p .second) ≡ b (p .second) → At (steps std-one a) k (at (p .first) .std v) → At (steps (hnd std-one std-other) a) k (std-of (standing.Handler p) v at)
   unfolding std-of
-  hnd-first e u = subst (λ z. At (steps (hnd one other) a) k (hnd (at (p .first) .std v) (z .std v))) (sym e) (at-hnd-first a one other u)
+  hnd-first e u = subst (λ z. At (steps (hnd std-one std-other) a) k (hnd (at (p .first) .std v) (z .std v))) (sym e) (at-hnd-first a std-one std-other u)
 
-  module _ {n : ℕ} (d : n ≡ cap (length (steps one a))) (g : n ≤ k) where
-    both-room : (o : Operator) → k < cap (length (steps (standard o one other) a)) → k - n < cap (length (steps other a))
+  module _ {n : ℕ} (d : n ≡ cap (length (steps std-one a))) (g : n ≤ k) where
+    both-room : (o : Operator) → k < cap (length (steps (standard o std-one std-other) a)) → k - n < cap (length (steps std-other a))
     unfolding moves
-    both-room Sequence h = seq-room a one other d h g
-    both-room Choice h = alt-room a one other d h g
-    both-room Parallel h = par-room a one other d h g
+    both-room Sequence h = seq-room a std-one std-other d h g
+    both-room Choice h = alt-room a std-one std-other d h g
+    both-room Parallel h = par-room a std-one std-other d h g
 
-    both-second : (o : Operator) → k < cap (length (steps (standard o one other) a)) → at (p .first) ≡ b (p .first)
-        → At (steps other a) (k - n) (at (p .second) .std v) → At (steps (standard o one other) a) k (std-of (second-standing o p v) v at)
+    both-second : (o : Operator) → k < cap (length (steps (standard o std-one std-other) a)) → at (p .first) ≡ b (p .first)
+        → At (steps std-other a) (k - n) (at (p .second) .std v) → At (steps (standard o std-one std-other) a) k (std-of (second-standing o p v) v at)
     unfolding std-of moves
-    both-second Sequence h e u = at-seq-second a one other d h g u
-    both-second Choice h e u = at-alt-second a one other d h g u
-    both-second Parallel h e u = subst (λ z. At (steps (par one other) a) k (par (z .std v) (at (p .second) .std v))) (sym e) (at-par-second a one other d h g u)
+    both-second Sequence h e u = at-seq-second a std-one std-other d h g u
+    both-second Choice h e u = at-alt-second a std-one std-other d h g u
+    both-second Parallel h e u = subst (λ z. At (steps (par std-one std-other) a) k (par (z .std v) (at (p .second) .std v))) (sym e) (at-par-second a std-one std-other d h g u)
 
-module _ {s : Scene} {v : Sense} {c : List ℕ} {i k : ℕ} (h : Ready s (Plain v) c i k) {p : Two} {t′ : List ℕ} {y : Turn} where
-  pub both-turned : {o : Operator} → stand v (node (s .ns) i) (modes (s .t) i) ≡ standing.Both o p → Forked c (s .t) i k (fork o p (gone v)) t′ y
+module _ {s : Scene} {v : Sense} {c : List ℕ} {i k : ℕ} (h : Ready s (Plain v) c i k) {p : Two} where
+  both-twins : {o : Operator} → stand-in s v i ≡ standing.Both o p → Twins (s .ns) i p
+  both-twins e = subst (Rests (s .ns) i) e (stand-rests (s .ns) i (tree-of h e) v (modes (s .t) i))
+
+  handler-twins : stand-in s v i ≡ standing.Handler p → Twins (s .ns) i p
+  handler-twins e = subst (Rests (s .ns) i) e (stand-rests (s .ns) i (tree-of h e) v (modes (s .t) i))
+
+  pub both-small : {o : Operator} → stand-in s v i ≡ standing.Both o p → p .first < 64
+  both-small e = number-small h (both-twins e .one)
+
+  pub handler-small : stand-in s v i ≡ standing.Handler p → p .first < 64
+  handler-small e = number-small h (handler-twins e .one)
+
+  pub both-turned : {t′ : List ℕ} {y : Turn} {o : Operator} → stand-in s v i ≡ standing.Both o p → Forked c (s .t) i k (halves o p (gone v)) t′ y
       → Turned s c (move (Plain v) i k) t′ (move (Plain v) (y .node) (y .at))
   unfolding std-of std-right
-  both-turned {o} e (in-first l w) =
-      let tw = subst (Rests (s .ns) i) e (stand-rests (s .ns) i (tree-of h e) v (modes (s .t) i)) in
-      to-first h e tw (parts-right h e) w (first-stands o e) l (λ at d u. both-first (s .a) v p (part-at s) at o d u)
-  both-turned {o} e (in-second g w) =
-      let tw = subst (Rests (s .ns) i) e (stand-rests (s .ns) i (tree-of h e) v (modes (s .t) i)) in
+  both-turned {o = o} e (in-first l w) =
+      let tw = both-twins e in
+      to-first h e tw (parts-right h e) w (first-stands v (node (s .ns) i) (modes (s .t) i) o e) l (λ at d u. both-first (s .a) v p (part-at s) at k o d u)
+  both-turned {o = o} e (in-second g w) =
+      let tw = both-twins e in
       let n = first-count h e tw (parts-right h e) in
-      to-second h e tw (parts-right h e) w (second-stands o e) (both-room (s .a) v p (part-at s) (part-at s) n g o (step-room h e))
-      (λ at d u. both-second (s .a) v p (part-at s) at n g o (step-room h e) d u)
+      to-second h e tw (parts-right h e) w (second-stands v (node (s .ns) i) (modes (s .t) i) o e) (both-room (s .a) v p (part-at s) (part-at s) k n g o (step-room h e))
+      (λ at d u. both-second (s .a) v p (part-at s) at k n g o (step-room h e) d u)
 
   -- a handler goes on as a sequence does
-  pub handler-turned : stand v (node (s .ns) i) (modes (s .t) i) ≡ standing.Handler p → Forked c (s .t) i k (fork Sequence p moved-on) t′ y
+  pub handler-turned : {t′ : List ℕ} {y : Turn} → stand-in s v i ≡ standing.Handler p → Forked c (s .t) i k (halves Sequence p moved-on) t′ y
       → Turned s c (move (Plain v) i k) t′ (move (Plain v) (y .node) (y .at))
   unfolding std-of std-right first-mode second-mode moves
   handler-turned e (in-first l w) =
-      let tw = subst (Rests (s .ns) i) e (stand-rests (s .ns) i (tree-of h e) v (modes (s .t) i)) in
-      to-first h e tw (parts-right h e) w e l (λ at d u. hnd-first (s .a) v p (part-at s) at d u)
+      let tw = handler-twins e in
+      to-first h e tw (parts-right h e) w e l (λ at d u. hnd-first (s .a) v p (part-at s) at k d u)
   handler-turned e (in-second g w) =
-      let tw = subst (Rests (s .ns) i) e (stand-rests (s .ns) i (tree-of h e) v (modes (s .t) i)) in
+      let tw = handler-twins e in
       let n = first-count h e tw (parts-right h e) in
       to-second h e tw (parts-right h e) w (subst (After v (node (s .ns) i)) e (stand-after v (node (s .ns) i) (modes (s .t) i)))
       (hnd-room (s .a) (part-at s (p .first) .std v) (part-at s (p .second) .std v) n (step-room h e) g)
@@ -165,13 +186,13 @@ first-course Sequence p = course.Both Sequence p
 first-course Choice p = course.As (p .first)
 first-course Parallel p = course.Both Parallel p
 
-first-runs : {n : Node} {m : ℕ} {p : Two} (o : Operator) → course-of n m ≡ course.Both o p → course-of n (first-mode o m) ≡ first-course o p
+first-runs : (n : Node) (m : ℕ) {p : Two} (o : Operator) → course-of n m ≡ course.Both o p → course-of n (first-mode o m) ≡ first-course o p
 unfolding first-mode
-first-runs Sequence e = e
-first-runs {n} {m} Choice e = subst (CAfter n) e (course-after n m) .0
-first-runs Parallel e = e
+first-runs n m Sequence e = e
+first-runs n m Choice e = subst (CAfter n) e (course-after n m) .0
+first-runs n m Parallel e = e
 
-module _ (a : ℕ) (p : Two) (b at : ℕ → Part) {k : ℕ} where
+module _ (a : ℕ) (p : Two) (b at : ℕ → Part) (k : ℕ) where
   abbrev run-one : Cmp
   run-one = b (p .first) .run
 
@@ -185,52 +206,54 @@ module _ (a : ℕ) (p : Two) (b at : ℕ → Part) {k : ℕ} where
   run-first Parallel e u = subst (λ z. At (csteps (cpar run-one run-other) a) k (cpar (at (p .first) .run) (z .run))) (sym e) (at-cpar-first a run-one run-other u)
 
 module _ {s : Scene} {c : List ℕ} {i k : ℕ} (h : Ready s Running c i k) {p : Two} where
-  module _ {o : Operator} (e : course-of (node (s .ns) i) (modes (s .t) i) ≡ course.Both o p) where
+  module _ {o : Operator} (e : course-in s i ≡ course.Both o p) where
     pub run-twins : Twins (s .ns) i p
     run-twins = subst (CRests (s .ns) i) e (course-rests (s .ns) i (tree-of h e) (modes (s .t) i))
+
+    pub run-small : (p .first < 64) × (p .second < 64)
+    run-small = twins-small h run-twins
 
     both-right : T (stored-at s c (p .first) .run && stored-at s c (p .second) .run)
     unfolding run-right
     both-right = parts-right h e
 
-  module _ {t′ : List ℕ} {y : Turn} where
-    pub into-first : {o : Operator} → course-of (node (s .ns) i) (modes (s .t) i) ≡ course.Both o p → Forked c (s .t) i k (fork o p holding) t′ y → y .second ≡ false
-        → Turned s c (move Running i k) t′ (move Running (y .node) (y .at))
-    unfolding run-of
-    into-first {o} e (in-first l w) b = to-first h e (run-twins e) (both-right e) w (first-runs o e) l (λ at d u. run-first (s .a) p (part-at s) at o d u)
-    into-first e (in-second g w) b = absurd (true≢false b)
+  pub into-first : {t′ : List ℕ} {y : Turn} {o : Operator} → course-in s i ≡ course.Both o p → Forked c (s .t) i k (halves o p holding) t′ y → y .second ≡ false
+      → Turned s c (move Running i k) t′ (move Running (y .node) (y .at))
+  unfolding run-of
+  into-first {o = o} e (in-first l w) b = to-first h e (run-twins e) (both-right e) w (first-runs (node (s .ns) i) (modes (s .t) i) o e) l (λ at d u. run-first (s .a) p (part-at s) at k o d u)
+  into-first e (in-second g w) b = absurd (true≢false b)
 
-    pub choice-turned : course-of (node (s .ns) i) (modes (s .t) i) ≡ course.Both Choice p → Forked c (s .t) i k (fork Choice p holding) t′ y
-        → Turned s c (move Running i k) t′ (move Running (y .node) (y .at))
-    unfolding run-of second-mode
-    choice-turned e (in-first l w) = into-first e (in-first l w) refl
-    choice-turned e (in-second g w) =
-        let n = first-count h e (run-twins e) (both-right e) in
-        to-second h e (run-twins e) (both-right e) w (subst (CAfter (node (s .ns) i)) e (course-after (node (s .ns) i) (modes (s .t) i)) .1)
-        (calt-room (s .a) (part-at s (p .first) .run) (part-at s (p .second) .run) n (step-room h e) g)
-        (λ at d u. at-calt-second (s .a) (part-at s (p .first) .run) (part-at s (p .second) .run) n (step-room h e) g u)
+  pub choice-turned : {t′ : List ℕ} {y : Turn} → course-in s i ≡ course.Both Choice p → Forked c (s .t) i k (halves Choice p holding) t′ y
+      → Turned s c (move Running i k) t′ (move Running (y .node) (y .at))
+  unfolding run-of second-mode
+  choice-turned e (in-first l w) = into-first e (in-first l w) refl
+  choice-turned e (in-second g w) =
+      let n = first-count h e (run-twins e) (both-right e) in
+      to-second h e (run-twins e) (both-right e) w (subst (CAfter (node (s .ns) i)) e (course-after (node (s .ns) i) (modes (s .t) i)) .1)
+      (calt-room (s .a) (part-at s (p .first) .run) (part-at s (p .second) .run) n (step-room h e) g)
+      (λ at d u. at-calt-second (s .a) (part-at s (p .first) .run) (part-at s (p .second) .run) n (step-room h e) g u)
 
-    pub parallel-turned : course-of (node (s .ns) i) (modes (s .t) i) ≡ course.Both Parallel p → Forked c (s .t) i k (fork Parallel p holding) t′ y
-        → Turned s c (move Running i k) t′ (move Running (y .node) (y .at))
-    unfolding run-of second-mode
-    parallel-turned e (in-first l w) = into-first e (in-first l w) refl
-    parallel-turned e (in-second g w) =
-        let n = first-count h e (run-twins e) (both-right e) in
-        to-second h e (run-twins e) (both-right e) w e
-        (cpar-room (s .a) (part-at s (p .first) .run) (part-at s (p .second) .run) n (step-room h e) g)
-        (λ at d u. subst (λ z. At (csteps (cpar (part-at s (p .first) .run) (part-at s (p .second) .run)) (s .a)) k (cpar (z .run) (at (p .second) .run))) (sym d)
-        (at-cpar-second (s .a) (part-at s (p .first) .run) (part-at s (p .second) .run) n (step-room h e) g u))
+  pub parallel-turned : {t′ : List ℕ} {y : Turn} → course-in s i ≡ course.Both Parallel p → Forked c (s .t) i k (halves Parallel p holding) t′ y
+      → Turned s c (move Running i k) t′ (move Running (y .node) (y .at))
+  unfolding run-of second-mode
+  parallel-turned e (in-first l w) = into-first e (in-first l w) refl
+  parallel-turned e (in-second g w) =
+      let n = first-count h e (run-twins e) (both-right e) in
+      to-second h e (run-twins e) (both-right e) w e
+      (cpar-room (s .a) (part-at s (p .first) .run) (part-at s (p .second) .run) n (step-room h e) g)
+      (λ at d u. subst (λ z. At (csteps (cpar (part-at s (p .first) .run) (part-at s (p .second) .run)) (s .a)) k (cpar (z .run) (at (p .second) .run))) (sym d)
+      (at-cpar-second (s .a) (part-at s (p .first) .run) (part-at s (p .second) .run) n (step-room h e) g u))
 
   -- PP;QQ goes on: one of PP's compensations is held, and QQ makes a step
-  module _ (e : course-of (node (s .ns) i) (modes (s .t) i) ≡ course.Both Sequence p) (g : counts c (p .first) ≤ k) {t₁ : List ℕ} (w : Sets (s .t) i holding t₁) where
+  module _ (e : course-in s i ≡ course.Both Sequence p) (g : counts c (p .first) ≤ k) {t₁ : List ℕ} (w : Sets (s .t) i holding t₁) where
     abbrev pp : Cmp
     pp = part-at s (p .first) .run
 
     abbrev qq : Cmp
     qq = part-at s (p .second) .run
 
-    abbrev each : Weight
-    each = holdG (counts c (p .second))
+    abbrev per-step : Weight
+    per-step = holdG (counts c (p .second))
 
     second-count : counts c (p .second) ≡ many Running (s .a) (part-at s (p .second))
     second-count = own-count (s .ns) (tree-of h e) (s .a) (modes (s .t)) (counts c) (p .second) Running (second-right h e (run-twins e) (both-right e))
@@ -242,13 +265,13 @@ module _ {s : Scene} {c : List ℕ} {i k : ℕ} (h : Ready s Running c i k) {p :
     unfolding run-of
     on-left = step-room h e
 
-    on-room : k - counts c (p .first) < weight-of (scene (s .ns) t₁ (s .a)) (p .first) done each
-    on-room = subst (λ z. k - counts c (p .first) < cap (sum-of (weight (s .a) each) (comps (z .run) done))) (sym on-same)
+    on-room : k - counts c (p .first) < weight-of (scene (s .ns) t₁ (s .a)) (p .first) done per-step
+    on-room = subst (λ z. k - counts c (p .first) < cap (sum-of (weight (s .a) per-step) (comps (z .run) done))) (sym on-same)
         (cseq-room (s .a) pp qq (first-count h e (run-twins e) (both-right e)) on-left g second-count)
 
-    module _ {t₂ : List ℕ} {y : Picked} (ch : Chosen (scene (s .ns) t₁ (s .a)) (p .first) (ask done each (k - counts c (p .first))) t₂ y) where
-      on-found : Finds (weight (s .a) each) (comps pp done) (k - counts c (p .first)) (part (s .ns) (modes t₂) (p .first) .std Undoing) (y .rest)
-      on-found = subst (λ z. Finds (weight (s .a) each) (comps (z .run) done) (k - counts c (p .first)) (part (s .ns) (modes t₂) (p .first) .std Undoing) (y .rest)) on-same (ch .sought .found)
+    module _ {t₂ : List ℕ} {y : Picked} (ch : Chosen (scene (s .ns) t₁ (s .a)) (p .first) (ask done per-step (k - counts c (p .first))) t₂ y) where
+      on-found : Finds (weight (s .a) per-step) (comps pp done) (k - counts c (p .first)) (part (s .ns) (modes t₂) (p .first) .std Undoing) (y .rest)
+      on-found = subst (λ z. Finds (weight (s .a) per-step) (comps (z .run) done) (k - counts c (p .first)) (part (s .ns) (modes t₂) (p .first) .std Undoing) (y .rest)) on-same (ch .sought .found)
 
       on-beside : part (s .ns) (modes t₂) (p .second) ≡ part-at s (p .second)
       on-beside = beside-part (s .ns) (tree-of h e) (run-twins e .one) w t₂ (ch .kept) (run-twins e .other) (run-twins e .free)
@@ -258,7 +281,7 @@ module _ {s : Scene} {c : List ℕ} {i k : ℕ} (h : Ready s Running c i k) {p :
       on-turned long =
           let tw = run-twins e in
           let n = first-count h e tw (both-right e) in
-          turned h e Running (tw .other)
+          handed h e Running (tw .other)
           (ap (course-of (node (s .ns) i)) (mode-after (s .ns) (tree-of h e) (tw .one) w t₂ (ch .kept)) ∙ subst (CAfter (node (s .ns) i)) e (course-after (node (s .ns) i) (modes (s .t) i)))
           (kept-up (s .ns) (tree-of h e) (tw .one) w t₂ (ch .kept)) (long ∙ w .long)
           (subst (λ z. T (z .run)) (sym (beside-stored (s .ns) (tree-of h e) (tw .one) w t₂ (ch .kept) (tw .other) (tw .free) (s .a) c)) (second-right h e tw (both-right e)))
@@ -266,70 +289,82 @@ module _ {s : Scene} {c : List ℕ} {i k : ℕ} (h : Ready s Running c i k) {p :
           (λ at beside u. subst (λ z. At (csteps (cseq pp qq) (s .a)) k (held (at (p .second) .run) (z .std Undoing))) (sym (beside (p .first) (λ j v z. tw .free j z v)))
           (at-cseq-second (s .a) pp qq n on-left g second-count on-found (subst (λ z. At (csteps (z .run) (s .a)) (y .rest) (at (p .second) .run)) on-beside u)))
 
-  module _ (e : course-of (node (s .ns) i) (modes (s .t) i) ≡ course.Both Sequence p) {t₁ : List ℕ} {y : Turn} where
-    pub held-spot : Forked c (s .t) i k (fork Sequence p holding) t₁ y → y .second ≡ true → Spot (s .ns) t₁ (p .first)
+  module _ (e : course-in s i ≡ course.Both Sequence p) where
+    pub held-spot : {t₁ : List ℕ} {y : Turn} → Forked c (s .t) i k (halves Sequence p holding) t₁ y → y .second ≡ true → Spot (s .ns) t₁ (p .first)
     unfolding second-mode
     held-spot (in-first l w) b = absurd (true≢false (sym b))
     held-spot (in-second g w) b = spot-down (s .ns) (tree-of h e) (run-twins e .one) w (h .spot)
 
-    pub held-number : Forked c (s .t) i k (fork Sequence p holding) t₁ y → y .second ≡ true
+    pub held-number : {t₁ : List ℕ} {y : Turn} → Forked c (s .t) i k (halves Sequence p holding) t₁ y → y .second ≡ true
         → y .at < weight-of (scene (s .ns) t₁ (s .a)) (p .first) done (holdG (counts c (p .second)))
     unfolding second-mode
     held-number (in-first l w) b = absurd (true≢false (sym b))
     held-number (in-second g w) b = on-room e g w
 
-    pub sequence-turned : {t₂ : List ℕ} {z : Picked} → Forked c (s .t) i k (fork Sequence p holding) t₁ y → y .second ≡ true
+    pub sequence-turned : {t₁ t₂ : List ℕ} {y : Turn} {z : Picked} → Forked c (s .t) i k (halves Sequence p holding) t₁ y → y .second ≡ true
         → Chosen (scene (s .ns) t₁ (s .a)) (p .first) (ask done (holdG (counts c (p .second))) (y .at)) t₂ z → length t₂ ≡ length t₁
         → Turned s c (move Running i k) t₂ (move Running (y .node) (z .rest))
     unfolding second-mode
     sequence-turned (in-first l w) b ch long = absurd (true≢false (sym b))
     sequence-turned (in-second g w) b ch long = on-turned e g w ch long
 
-  pub pair-turned : course-of (node (s .ns) i) (modes (s .t) i) ≡ course.Pair p → Turned s c (move Running i k) (s .t) (move (Plain Drawn) (p .first) k)
+  pub pair-turned : course-in s i ≡ course.Pair p → Turned s c (move Running i k) (s .t) (move (Plain Drawn) (p .first) k)
   unfolding run-of run-right moves
   pair-turned e =
       let tw = subst (CRests (s .ns) i) e (course-rests (s .ns) i (tree-of h e) (modes (s .t) i)) in
       let q = part-at s (p .second) .std Drawn in
-      turned-by h e (Plain Drawn) (tw .one) (sets-none refl) e (parts-right h e) (pair-room (s .a) (part-at s (p .first) .std Drawn) q (step-room h e))
+      handed-by h e (Plain Drawn) (tw .one) (sets-none refl) e (parts-right h e) (pair-room (s .a) (part-at s (p .first) .std Drawn) q (step-room h e))
       (λ at same u. subst (λ z. At (csteps (pair (part-at s (p .first) .std Drawn) q) (s .a)) k (pair (at (p .first) .std Drawn) (z .std Drawn))) (sym (same (p .second) (tw .other) (tw .free)))
       (at-pair (s .a) (part-at s (p .first) .std Drawn) q u))
 
-  pub held-turned : course-of (node (s .ns) i) (modes (s .t) i) ≡ course.Held p → Turned s c (move Running i k) (s .t) (move Running (p .second) k)
+  pub held-turned : course-in s i ≡ course.Held p → Turned s c (move Running i k) (s .t) (move Running (p .second) k)
   unfolding run-of run-right
   held-turned e =
       let tw = subst (CRests (s .ns) i) e (course-rests (s .ns) i (tree-of h e) (modes (s .t) i)) in
       let r = part-at s (p .first) .std Undoing in
-      turned-by h e Running (tw .other) (sets-none refl) e (parts-right h e) (held-room (s .a) (part-at s (p .second) .run) r (step-room h e))
+      handed-by h e Running (tw .other) (sets-none refl) e (parts-right h e) (held-room (s .a) (part-at s (p .second) .run) r (step-room h e))
       (λ at same u. subst (λ z. At (csteps (held (part-at s (p .second) .run) r) (s .a)) k (held (at (p .second) .run) (z .std Undoing))) (sym (same (p .first) (tw .one) (λ j v z. tw .free j z v)))
       (at-held (s .a) (part-at s (p .second) .run) r u))
 
 -- One live part --------------------------------------------------------------------------------------------------------------
 
 module _ {s : Scene} {c : List ℕ} {i k : ℕ} where
-  pub only-turned : {v : Sense} → Ready s (Plain v) c i k → {x : Sub} → stand v (node (s .ns) i) (modes (s .t) i) ≡ standing.As x
+  pub only-turned : {v : Sense} → Ready s (Plain v) c i k → {x : Sub} → stand-in s v i ≡ standing.As x
       → Turned s c (move (Plain v) i k) (s .t) (move (Plain (x .sense)) (x .node) k)
   unfolding std-of std-right
   only-turned {v} h {x} e =
       let kid = subst (Rests (s .ns) i) e (stand-rests (s .ns) i (tree-of h e) v (modes (s .t) i)) in
-      turned-by h e (Plain (x .sense)) kid (sets-none refl) e (parts-right h e) (step-room h e) (λ at same u. u)
+      handed-by h e (Plain (x .sense)) kid (sets-none refl) e (parts-right h e) (step-room h e) (λ at same u. u)
 
-  pub as-turned : Ready s Running c i k → {d : ℕ} → course-of (node (s .ns) i) (modes (s .t) i) ≡ course.As d → Turned s c (move Running i k) (s .t) (move Running d k)
+  pub as-turned : Ready s Running c i k → {d : ℕ} → course-in s i ≡ course.As d → Turned s c (move Running i k) (s .t) (move Running d k)
   unfolding run-of run-right
   as-turned h e =
       let kid = subst (CRests (s .ns) i) e (course-rests (s .ns) i (tree-of h e) (modes (s .t) i)) in
-      turned-by h e Running kid (sets-none refl) e (parts-right h e) (step-room h e) (λ at same u. u)
+      handed-by h e Running kid (sets-none refl) e (parts-right h e) (step-room h e) (λ at same u. u)
 
 -- Blocks ---------------------------------------------------------------------------------------------------------------------
 
-module _ {s : Scene} {v : Sense} {c : List ℕ} {i k : ℕ} (h : Ready s (Plain v) c i k) {d : ℕ} (e : stand v (node (s .ns) i) (modes (s .t) i) ≡ standing.Block d) where
+module _ {s : Scene} {v : Sense} {c : List ℕ} {i k : ℕ} (h : Ready s (Plain v) c i k) {d : ℕ} (e : stand-in s v i ≡ standing.Block d) where
   block-after : After v (node (s .ns) i) (standing.Block d)
   block-after = subst (After v (node (s .ns) i)) e (stand-after v (node (s .ns) i) (modes (s .t) i))
 
-  pub block-drawn : v ≡ Drawn
+  block-drawn : v ≡ Drawn
   block-drawn = block-after .0
+
+  pub block-ready : Ready s (Plain Drawn) c i k
+  block-ready = subst (λ z. Ready s (Plain z) c i k) block-drawn h
+
+  pub block-stands : stand-in s Drawn i ≡ standing.Block d
+  block-stands = subst (λ z. stand-in s z i ≡ standing.Block d) block-drawn e
+
+  pub block-stepped : {t′ : List ℕ} → Stepped s (Plain Drawn) i k t′ → Stepped s (Plain v) i k t′
+  block-stepped {t′} x = subst (λ z. Stepped s (Plain z) i k t′) (sym block-drawn) x
 
   pub block-kid : Kid (shape (s .ns)) i d
   block-kid = subst (Rests (s .ns) i) e (stand-rests (s .ns) i (tree-of h e) v (modes (s .t) i))
+
+  pub block-small : d < 64
+  block-small = number-small h block-kid
 
   block-right : T (stored-at s c d .run)
   unfolding std-right
@@ -340,7 +375,7 @@ module _ {s : Scene} {v : Sense} {c : List ℕ} {i k : ℕ} (h : Ready s (Plain 
 
   pub inside-turned : k < counts c d → Turned s c (move (Plain v) i k) (s .t) (move Running d k)
   unfolding std-of
-  inside-turned l = turned-by h e Running block-kid (sets-none refl) e block-right (subst (λ z. k < z) block-count l) (λ at same u. at-blk-first (s .a) (part-at s d .run) u)
+  inside-turned l = handed-by h e Running block-kid (sets-none refl) e block-right (subst (λ z. k < z) block-count l) (λ at same u. at-blk-first (s .a) (part-at s d .run) u)
 
   -- it fails inside, and a compensation is chosen
   module _ (g : counts c d ≤ k) {t₁ : List ℕ} (w : Sets (s .t) i compensating t₁) where
@@ -367,7 +402,7 @@ module _ {s : Scene} {v : Sense} {c : List ℕ} {i k : ℕ} (h : Ready s (Plain 
       pub out-turned : {b b′ : List ℕ} {view : View} → Counted (scene (s .ns) t₂ (s .a)) (Plain Undoing) d b b′ view
           → Turned s b′ (move (Plain v) i k) t₂ (move (Plain Undoing) d (y .rest))
       unfolding std-of moves
-      out-turned m = turned h e (Plain Undoing) block-kid
+      out-turned m = handed h e (Plain Undoing) block-kid
           (ap (stand v (node (s .ns) i)) (mode-after (s .ns) (tree-of h e) block-kid w t₂ (ch .kept)) ∙ block-after .1)
           (kept-up (s .ns) (tree-of h e) block-kid w t₂ (ch .kept)) (long ∙ w .long) (m .right)
           (blk-rest (s .a) (part-at s d .run) block-count out-left g out-found)
@@ -375,31 +410,32 @@ module _ {s : Scene} {v : Sense} {c : List ℕ} {i k : ℕ} (h : Ready s (Plain 
 
 -- Events, and parts without steps --------------------------------------------------------------------------------------------
 
+module _ (a : ℕ) {k : ℕ} where
+  no-basic : (b : Simple) → k < cap (moves a (basic b)) → ⊥
+  no-basic Skip l = no-skip-step a l
+  no-basic Throw l = no-throw-step a l
+  no-basic Yield l = no-yield-step a l
+
+  no-paired : (b : Simple) → k < cap (length (csteps (paired b) a)) → ⊥
+  no-paired Skip l = no-skip-step a (pair-room a skip skip l)
+  no-paired Throw l = no-throw-step a (pair-room a throw skip l)
+  no-paired Yield l = no-yield-step a (pair-room a yield skip l)
+
 module _ {s : Scene} {c : List ℕ} {i k : ℕ} where
-  pub event-stepped : {v : Sense} → Ready s (Plain v) c i k → {x : ℕ} → stand v (node (s .ns) i) (modes (s .t) i) ≡ standing.Event x
-      → {t′ : List ℕ} → t′ ≡ set (s .t) i taken → Stepped s (Plain v) i k t′
+  pub event-stepped : {v : Sense} → Ready s (Plain v) c i k → {x : ℕ} → stand-in s v i ≡ standing.Event x
+      → {t′ : List ℕ} → t′ ≡ set (s .t) i event-taken → Stepped s (Plain v) i k t′
   unfolding std-of moves
   event-stepped {v} h {x} e {t′} d =
-      let w : Sets (s .t) i taken t′ = set-sets (h .spot .room) d in
+      let w : Sets (s .t) i event-taken t′ = set-sets (h .spot .room) d in
       record {
         goes = step-goes h e t′ (ap (stand v (node (s .ns) i)) (w .here) ∙ subst (After v (node (s .ns) i)) e (stand-after v (node (s .ns) i) (modes (s .t) i))) (at-ev (leaf x) (s .a) (step-room h e));
         kept = kept-set (s .ns) w;
       }
 
-  no-basic : (b : Simple) → k < cap (moves (s .a) (basic b)) → ⊥
-  no-basic Skip l = no-skip-step (s .a) l
-  no-basic Throw l = no-throw-step (s .a) l
-  no-basic Yield l = no-yield-step (s .a) l
-
-  pub no-step : {v : Sense} → Ready s (Plain v) c i k → {b : Simple} → stand v (node (s .ns) i) (modes (s .t) i) ≡ standing.Basic b → ⊥
+  pub no-step : {v : Sense} → Ready s (Plain v) c i k → {b : Simple} → stand-in s v i ≡ standing.Basic b → ⊥
   unfolding std-of moves
-  no-step h {b} e = no-basic b (step-room h e)
+  no-step h {b} e = no-basic (s .a) b (step-room h e)
 
-  no-paired : (b : Simple) → k < cap (length (csteps (paired b) (s .a))) → ⊥
-  no-paired Skip l = no-skip-step (s .a) (pair-room (s .a) skip skip l)
-  no-paired Throw l = no-throw-step (s .a) (pair-room (s .a) throw skip l)
-  no-paired Yield l = no-yield-step (s .a) (pair-room (s .a) yield skip l)
-
-  pub no-run-step : Ready s Running c i k → {b : Simple} → course-of (node (s .ns) i) (modes (s .t) i) ≡ course.Basic b → ⊥
+  pub no-run-step : Ready s Running c i k → {b : Simple} → course-in s i ≡ course.Basic b → ⊥
   unfolding run-of
-  no-run-step h {b} e = no-paired b (step-room h e)
+  no-run-step h {b} e = no-paired (s .a) b (step-room h e)

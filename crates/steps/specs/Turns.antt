@@ -7,6 +7,7 @@ use Rattle.flow.specs.declared.Operator.{Operator}
 use Rattle.flow.specs.declared.Operator.the-variants.{Sequence, Choice, Parallel}
 use Rattle.flow.specs.declared.Two.{Two}
 use Rattle.flow.specs.declared.Node.{Node}
+use Rattle.flow.specs.Kinds.{node}
 use Rattle.states.specs.declared.Sense.{Sense}
 use Rattle.states.specs.declared.Sense.the-variants.{Drawn, Undoing}
 use Rattle.states.specs.declared.Standing.{Standing}
@@ -35,7 +36,17 @@ pub record Turned (s : Scene) (c : List ℕ) (x : Move) (t′ : List ℕ) (y : M
   pub ready : Ready (scene (s .ns) t′ (s .a)) (y .role) c (y .node) (y .place)
   pub back : (t″ : List ℕ) → Stepped (scene (s .ns) t′ (s .a)) (y .role) (y .node) (y .place) t″ → Stepped s (x .role) (x .node) (x .place) t″
 
+-- what is left of node i
+abbrev pub stand-in : Scene → Sense → ℕ → Standing
+stand-in s v i = stand v (node (s .ns) i) (modes (s .t) i)
+
+abbrev pub course-in : Scene → ℕ → Course
+course-in s i = course-of (node (s .ns) i) (modes (s .t) i)
+
 -- the modes that a step gives to a node, besides those by which it is left
+abbrev pub event-taken : ℕ
+event-taken = 1
+
 abbrev pub moved-on : ℕ
 moved-on = 1
 
@@ -65,19 +76,19 @@ second-mode Choice g m = second-taken
 second-mode Parallel g m = m
 
 -- two live parts, how they are joined, and the mode of a sequence that has gone on
-pub record Fork : Type 0 where
+pub record Halves : Type 0 where
   pub operator : Operator
   pub two : Two
   pub gone : ℕ
 
-abbrev pub fork : Operator → Two → ℕ → Fork
-fork o p g = record { operator = o; two = p; gone = g }
+abbrev pub halves : Operator → Two → ℕ → Halves
+halves o p g = record { operator = o; two = p; gone = g }
 
 abbrev pub turn-to : ℕ → ℕ → Bool → Turn
 turn-to j l b = record { node = j; at = l; second = b }
 
 -- step k of node i, which has the parts f, is one of the first or one of the second; the node's mode is set for it
-pub data Forked (c t : List ℕ) (i k : ℕ) (f : Fork) (t′ : List ℕ) : Turn → Type 0 where
+pub data Forked (c t : List ℕ) (i k : ℕ) (f : Halves) (t′ : List ℕ) : Turn → Type 0 where
   in-first : k < counts c (f .two .first) → Sets t i (first-mode (f .operator) (modes t i)) t′ → Forked c t i k f t′ (turn-to (f .two .first) k false)
   in-second : counts c (f .two .first) ≤ k → Sets t i (second-mode (f .operator) (f .gone) (modes t i)) t′ → Forked c t i k f t′ (turn-to (f .two .second) (k - counts c (f .two .first)) true)
 
@@ -90,10 +101,10 @@ abbrev pub stance-of : (r : Role) → Node → ℕ → Stance r
 stance-of (Plain s) n m = stand s n m
 stance-of Running n m = course-of n m
 
-abbrev pub term-of : (r : Role) → Stance r → (ℕ → Part) → Term r
-term-of (Plain s) x at = std-of x s at
-term-of Running x at = run-of x at
+abbrev pub stance-term : (r : Role) → Stance r → (ℕ → Part) → Term r
+stance-term (Plain s) x at = std-of x s at
+stance-term Running x at = run-of x at
 
-abbrev pub right-of : (r : Role) → Stance r → (ℕ → Right) → Bool
-right-of (Plain s) x at = std-right x s at
-right-of Running x at = run-right x at
+abbrev pub stance-right : (r : Role) → Stance r → (ℕ → Right) → Bool
+stance-right (Plain s) x at = std-right x s at
+stance-right Running x at = run-right x at

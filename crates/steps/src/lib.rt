@@ -3,12 +3,23 @@
 // steps; standard and compensable nodes call each other, and child numbers fall.
 use flow::Operator;
 use flow::Two;
+use states::Course;
+use states::Picked;
+use states::Sense;
+use states::Standing;
+use tallies::Weight;
 ghost use mathlib.Core.Path.{_≡_};
-ghost use Prim.Native.Nat.{_<_};
+ghost use Prim.Native.Nat.{_<_, _≤_};
 ghost use lib.ListN.{length};
+ghost use Rattle.calculus.specs.Term.{done};
+ghost use Rattle.tallies.specs.Formulas.{holdG};
+ghost use Rattle.states.specs.declared.Standing.the-variants as standing;
+ghost use Rattle.states.specs.declared.Course.the-variants as course;
+ghost use Rattle.states.specs.declared.Sense.the-variants.{Drawn, Undoing};
+ghost use Rattle.states.specs.declared.Role.the-variants.{Plain, Running};
 ghost use Rattle.states.specs.State.{modes, counts};
-ghost use Rattle.states.specs.Contracts.{Sets};
-ghost use Rattle.steps.specs.Turns.{first-mode, second-mode, fork, Forked};
+ghost use Rattle.states.specs.Contracts.{Spot, Sets, scene, weight-of, ask, Chosen, Ready, Stepped};
+ghost use Rattle.steps.specs.Turns.{move, Turned, stand-in, course-in, gone, first-mode, second-mode, halves, Forked};
 
 // Where a step goes on: a live part, the place among its steps, and whether it is the second of two.
 struct Turn {
@@ -48,6 +59,16 @@ fn enter_second(t: &mut [u8], i: usize, operator: Operator, gone: u8)
     }
 }
 
+// The mode of a sequence of standard parts that has gone on.
+fn gone_on(sense: Sense) -> u8
+    ensures { λ r. ⌜ r ≡ gone sense ⌝ }
+{
+    match sense {
+        Sense::Drawn => states::MOVED_ON,
+        Sense::Undoing => states::LEFT_FIRST,
+    }
+}
+
 // Two live parts: the first's steps come first.
 fn turn_two(
     t: &mut [u8],
@@ -60,7 +81,7 @@ fn turn_two(
 ) -> Turn
     requires { ⌜ i < length (now t) ⌝ }
     requires { ⌜ two .first < 64 ⌝ }
-    ensures { λ r. ⌜ Forked (now (c .entry)) (now (t .entry)) i k (fork operator two gone) (now (t .exit)) r ⌝ }
+    ensures { λ r. ⌜ Forked (now (c .entry)) (now (t .entry)) i k (halves operator two gone) (now (t .exit)) r ⌝ }
 {
     let n = count_at(c, two.first);
     if k < n {
@@ -77,5 +98,142 @@ fn turn_two(
             at: k - n,
             second: true,
         }
+    }
+}
+
+// PP;QQ has gone on: a compensation of PP's done ending is chosen and held, and QQ makes the step, at the place answered.
+fn hold(ns: &[u16], t: &mut [u8], a: u16, c: &[u32; 64], two: Two, j: u32) -> Picked
+    requires { ⌜ Spot (now ns) (now t) (two .first) ⌝ }
+    requires { ⌜ two .second < 64 ⌝ }
+    requires { ⌜ j < weight-of (scene (now ns) (now t) a) (two .first) done (holdG (counts (now c) (two .second))) ⌝ }
+    ensures { λ r. ⌜ Chosen (scene (now (ns .entry)) (now (t .entry)) a) (two .first) (ask done (holdG (counts (now (c .entry)) (two .second))) j) (now (t .exit)) r ⌝ }
+{
+    let own = count_at(c, two.second);
+    let each = Weight {
+        own,
+        moves: 0,
+        able: 0,
+    };
+    seek::seek(ns, t, a, two.first, tallies::DONE, each, j)
+}
+
+// Two running parts. Where PP;QQ goes on, a compensation of PP's done ending is chosen, to be held while QQ makes the step.
+fn turn_run(
+    ns: &[u16],
+    t: &mut [u8],
+    a: u16,
+    c: &[u32; 64],
+    i: usize,
+    operator: Operator,
+    two: Two,
+    k: u32,
+) -> Turn
+    requires { ⌜ Ready (scene (now ns) (now t) a) Running (now c) i k ⌝ }
+    requires { ⌜ course-in (scene (now ns) (now t) a) i ≡ course.Both operator two ⌝ }
+    ensures { λ r. ⌜ Turned (scene (now (ns .entry)) (now (t .entry)) a) (now (c .entry)) (move Running i k) (now (t .exit)) (move Running (r .node) (r .at)) ⌝ }
+{
+    let x = turn_two(t, c, i, operator, two, states::HELD, k);
+    match operator {
+        Operator::Sequence => {
+            if x.second {
+                let held = hold(ns, t, a, c, two, x.at);
+                let rest = held.rest;
+                Turn {
+                    node: x.node,
+                    at: rest,
+                    second: true,
+                }
+            } else {
+                x
+            }
+        }
+        Operator::Choice => x,
+        Operator::Parallel => x,
+    }
+}
+
+// A block fails inside: a compensation that has a step is chosen, and its steps are counted into d.
+fn turn_out(
+    ns: &[u16],
+    t: &mut [u8],
+    a: u16,
+    c: &[u32; 64],
+    d: &mut [u32; 64],
+    i: usize,
+    child: usize,
+    k: u32,
+) -> u32
+    requires { ⌜ Ready (scene (now ns) (now t) a) (Plain Drawn) (now c) i k ⌝ }
+    requires { ⌜ stand-in (scene (now ns) (now t) a) Drawn i ≡ standing.Block child ⌝ }
+    requires { ⌜ counts (now c) child ≤ k ⌝ }
+    ensures { λ r. ⌜ Turned (scene (now (ns .entry)) (now (t .entry)) a) (now (d .exit)) (move (Plain Drawn) i k) (now (t .exit)) (move (Plain Undoing) child r) ⌝ }
+{
+    let n = count_at(c, child);
+    states::set_mode(t, i, states::COMPENSATING);
+    let each = Weight {
+        own: 0,
+        moves: 1,
+        able: 0,
+    };
+    let x = seek::seek(ns, t, a, child, tallies::FAILED, each, k - n);
+    counting::count_std(ns, t, a, d, child, Sense::Undoing);
+    x.rest
+}
+
+// The k-th step of a standard part.
+pub fn step_std(ns: &[u16], t: &mut [u8], a: u16, c: &[u32; 64], i: usize, sense: Sense, k: u32)
+    requires { ⌜ Ready (scene (now ns) (now t) a) (Plain sense) (now c) i k ⌝ }
+    ensures { λ r. ⌜ Stepped (scene (now (ns .entry)) (now (t .entry)) a) (Plain sense) i k (now (t .exit)) ⌝ }
+{
+    let stands = states::stand_at(ns, t, i, sense);
+    match stands {
+        Standing::Event(_) => states::set_mode(t, i, states::TAKEN),
+        Standing::Basic(_) => {}
+        Standing::Both(operator, two) => {
+            let x = turn_two(t, c, i, operator, two, gone_on(sense), k);
+            step_std(ns, t, a, c, x.node, sense, x.at);
+        }
+        Standing::Handler(two) => {
+            let x = turn_two(t, c, i, Operator::Sequence, two, states::MOVED_ON, k);
+            step_std(ns, t, a, c, x.node, sense, x.at);
+        }
+        Standing::Block(child) => step_block(ns, t, a, c, i, child, k),
+        Standing::As(sub) => {
+            let inner = sub.sense;
+            step_std(ns, t, a, c, sub.node, inner, k);
+        }
+    }
+}
+
+// Of a block: inside, or out of it by a compensation.
+fn step_block(ns: &[u16], t: &mut [u8], a: u16, c: &[u32; 64], i: usize, child: usize, k: u32)
+    requires { ⌜ Ready (scene (now ns) (now t) a) (Plain Drawn) (now c) i k ⌝ }
+    requires { ⌜ stand-in (scene (now ns) (now t) a) Drawn i ≡ standing.Block child ⌝ }
+    ensures { λ r. ⌜ Stepped (scene (now (ns .entry)) (now (t .entry)) a) (Plain Drawn) i k (now (t .exit)) ⌝ }
+{
+    if k < count_at(c, child) {
+        step_run(ns, t, a, c, child, k);
+    } else {
+        let mut d = [0u32; 64];
+        let at = turn_out(ns, t, a, c, &mut d, i, child, k);
+        step_std(ns, t, a, &d, child, Sense::Undoing, at);
+    }
+}
+
+// The k-th step of a compensable part that runs.
+pub fn step_run(ns: &[u16], t: &mut [u8], a: u16, c: &[u32; 64], i: usize, k: u32)
+    requires { ⌜ Ready (scene (now ns) (now t) a) Running (now c) i k ⌝ }
+    ensures { λ r. ⌜ Stepped (scene (now (ns .entry)) (now (t .entry)) a) Running i k (now (t .exit)) ⌝ }
+{
+    let runs = states::course_at(ns, t, i);
+    match runs {
+        Course::Basic(_) => {}
+        Course::Pair(two) => step_std(ns, t, a, c, two.first, Sense::Drawn, k),
+        Course::Both(operator, two) => {
+            let x = turn_run(ns, t, a, c, i, operator, two, k);
+            step_run(ns, t, a, c, x.node, x.at);
+        }
+        Course::Held(two) => step_run(ns, t, a, c, two.second, k),
+        Course::As(child) => step_run(ns, t, a, c, child, k),
     }
 }
