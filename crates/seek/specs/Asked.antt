@@ -1,77 +1,90 @@
--- What the functions below `seek` ask and promise: a search in a node of a known kind (`Wanted`), in a child of a node that gets
--- a mode (`Below`, `Marked`), in the second part of PP;QQ once the first has become its compensation (`Follows`, `Followed`), and
+-- What the functions below `seek` ask and promise: a search in a node of a known course (`Wanted`), in a child of a node that gets
+-- a mode (`Below`), in the second part of PP;QQ once the first has become its compensation (`SecondWanted`, `SecondChosen`), and
 -- what a pair's compensation is whatever it weighs (`PairChosen`). Definitions only. Assumes nothing.
-use Prim.Native.Nat.{ℕ, _*_, _<_}
+use Prim.Native.Nat.{ℕ, _<_}
 use mathlib.Core.Path.{_≡_}
 use mathlib.Core.Bool.{Bool, not}
 use mathlib.Core.List.{List, map}
-use mathlib.Core.Logic.{_≢_}
-use lib.ListN.{getD}
 use Rattle.calculus.specs.Term.{Closing, done, Std, Cmp, seq}
 use Rattle.calculus.specs.Successors.{eqc, only, ends, comps}
-use Rattle.flow.specs.Kinds.{one-of, two-of, shape}
-use Rattle.flow.specs.Nodes.{Kid, Under}
+use Rattle.flow.specs.declared.Operator.the-variants.{Sequence}
+use Rattle.flow.specs.declared.Two.{Two}
+use Rattle.flow.specs.declared.Node.the-variants.{Compensable}
+use Rattle.flow.specs.Kinds.{node, shape}
+use Rattle.flow.specs.Nodes.{Kid}
 use Rattle.tallies.specs.Capped.{cap}
 use Rattle.tallies.specs.Counts.{sum-of, moves, weight}
 use Rattle.tallies.specs.Formulas.{closing}
 use Rattle.tallies.specs.Sought.{Sought, Falls}
 use Rattle.tallies.specs.declared.Weight.{Weight}
+use Rattle.states.specs.declared.Sense.the-variants.{Undoing}
+use Rattle.states.specs.declared.Course.{Course}
+use Rattle.states.specs.declared.Picked.{Picked}
+use Rattle.states.specs.Standings.{course-of}
 use Rattle.states.specs.State.{part, modes}
-use Rattle.states.specs.Contracts.{Spot, Kept, Chosen, weight-of}
+use Rattle.states.specs.Contracts.{Spot, Kept, Scene, part-at, weight-of, Ask, ask, Chosen}
 
 -- an ending, as a small number, that j falls on, where those done and withdrawn weigh x and y
 pub record Fallen (x y j e r : ℕ) : Type 0 where
   pub falls : Falls x y j (closing e) r
   pub small : e < 3
 
-module _ (ns : List ℕ) where
-  -- the part of node i that runs by the modes t, and the compensation that it has become
-  abbrev pub runs : List ℕ → ℕ → Cmp
-  runs t i = part ns (modes t) i .run
+-- what node i is as a part that runs by the modes t, its term, and the compensation that it has become
+abbrev pub course-at : List ℕ → List ℕ → ℕ → Course
+course-at ns t i = course-of (node ns i) (modes t i)
 
-  abbrev pub left : List ℕ → ℕ → Std
-  left t i = part ns (modes t) i .left
+abbrev pub runs : List ℕ → List ℕ → ℕ → Cmp
+runs ns t i = part ns (modes t) i .run
 
-  -- what PP weighs in PP;QQ by w: all that it can become, if it does not end done
-  abbrev pub own-of : List ℕ → ℕ → ℕ → Closing → Weight → ℕ
-  own-of t a i w g = cap (sum-of (weight a g) (only (not (eqc w done)) (comps (runs t i) w)))
+abbrev pub left : List ℕ → List ℕ → ℕ → Std
+left ns t i = part ns (modes t) i .std Undoing
 
-  -- a search in node i: its place, the closing as a small number, and that j falls on one of its compensations
-  pub record Wanted (t : List ℕ) (a i w : ℕ) (g : Weight) (j : ℕ) : Type 0 where
-    pub spot : Spot ns t i
-    pub closes : w < 3
-    pub room : j < weight-of ns t a i (closing w) g
+-- what is known of a compensation
+abbrev pub picked : ℕ → ℕ → Bool → Picked
+picked r n b = record { rest = r; moves = n; able = b }
 
-  -- a search in the child c of node i
-  pub record Below (t : List ℕ) (a i c w : ℕ) (g : Weight) (j : ℕ) : Type 0 where
-    pub spot : Spot ns t i
-    pub kid : Kid (shape ns) i c
-    pub closes : w < 3
-    pub room : j < weight-of ns t a c (closing w) g
+-- among the compensations l, what is asked falls on k, of which p is known
+abbrev pub Picks : ℕ → Ask → List Std → Std → Picked → Type 0
+Picks a q l k p = Sought a (q .weight) l (q .number) k (p .rest) (p .moves) (p .able)
 
-  -- the child has become one of its compensations, and node i has the mode m
-  pub record Marked (t : List ℕ) (a i m c : ℕ) (w : Closing) (g : Weight) (j : ℕ) (t′ : List ℕ) (rest steps : ℕ) (able : Bool) : Type 0 where
-    pub sought : Sought a g (comps (runs t c) w) j (left t′ c) rest steps able
-    pub mode : modes t′ i ≡ m
-    pub kept : (k : ℕ) → k ≢ i → (Under (shape ns) c k → ⊥) → modes t′ k ≡ modes t k
+module _ (s : Scene) where
+  -- what PP, node i, weighs in PP;QQ by w: all that it can become, if it does not end done
+  abbrev pub own-of : ℕ → Closing → Weight → ℕ
+  own-of i w g = cap (sum-of (weight (s .a) g) (only (not (eqc w done)) (comps (part-at s i .run) w)))
+
+  module _ (i : ℕ) where
+    -- a search in node i: its place, its course, the closing as a small number, and that j falls on one of its compensations
+    pub record Wanted (x : Course) (w : ℕ) (g : Weight) (j : ℕ) : Type 0 where
+      pub spot : Spot (s .ns) (s .t) i
+      pub is : course-at (s .ns) (s .t) i ≡ x
+      pub closes : w < 3
+      pub room : j < weight-of s i (closing w) g
+
+    -- a search in the child c of node i
+    pub record Below (c w : ℕ) (g : Weight) (j : ℕ) : Type 0 where
+      pub spot : Spot (s .ns) (s .t) i
+      pub kid : Kid (shape (s .ns)) i c
+      pub closes : w < 3
+      pub room : j < weight-of s c (closing w) g
+
+    -- whatever a compensation weighs
+    abbrev pub PairChosen : Closing → ℕ → List ℕ → Picked → Type 0
+    PairChosen w j t′ p = (g : Weight) → j < weight-of s i w g → Chosen s i (ask w g j) t′ p
 
   -- QQ's compensations, each before the one that PP has become
-  abbrev pub followed : List ℕ → ℕ → Closing → List Std
-  followed t i w = map (λ x. seq x (left t (one-of ns i))) (comps (runs t (two-of ns i)) w)
+  abbrev pub seconds : Two → Closing → List Std
+  seconds two w = map (λ x. seq x (left (s .ns) (s .t) (two .first))) (comps (part-at s (two .second) .run) w)
 
-  -- a search among them; the first's has n steps, and b says that it can end done
-  pub record Follows (t : List ℕ) (a i w : ℕ) (g : Weight) (j n : ℕ) (b : Bool) : Type 0 where
-    pub spot : Spot ns t i
-    pub kind : getD ns (3 * i) 0 ≡ 11
-    pub closes : w < 3
-    pub counted : n ≡ cap (moves a (left t (one-of ns i)))
-    pub ended : b ≡ ends (left t (one-of ns i)) done
-    pub room : j < cap (sum-of (weight a g) (followed t i (closing w)))
+  module _ (i : ℕ) (two : Two) where
+    -- a search among them; k is what is known of PP's
+    pub record SecondWanted (w : ℕ) (g : Weight) (k : Picked) : Type 0 where
+      pub spot : Spot (s .ns) (s .t) i
+      pub is : node (s .ns) i ≡ Compensable Sequence two
+      pub closes : w < 3
+      pub counted : k .moves ≡ cap (moves (s .a) (left (s .ns) (s .t) (two .first)))
+      pub ended : k .able ≡ ends (left (s .ns) (s .t) (two .first)) done
+      pub room : k .rest < cap (sum-of (weight (s .a) g) (seconds two (closing w)))
 
-  pub record Followed (t : List ℕ) (a i : ℕ) (w : Closing) (g : Weight) (j : ℕ) (t′ : List ℕ) (rest steps : ℕ) (able : Bool) : Type 0 where
-    pub sought : Sought a g (followed t i w) j (left t′ i) rest steps able
-    pub kept : Kept ns i (modes t) (modes t′)
-
-  -- whatever a compensation weighs
-  abbrev pub PairChosen : List ℕ → ℕ → ℕ → Closing → ℕ → List ℕ → ℕ → ℕ → Bool → Type 0
-  PairChosen t a i w j t′ rest steps able = (g : Weight) → j < weight-of ns t a i w g → Chosen ns t a i w g j t′ rest steps able
+    pub record SecondChosen (q : Ask) (t′ : List ℕ) (p : Picked) : Type 0 where
+      pub sought : Picks (s .a) q (seconds two (q .closing)) (left (s .ns) t′ i) p
+      pub kept : Kept (s .ns) i (modes (s .t)) (modes t′)

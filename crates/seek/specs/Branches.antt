@@ -1,35 +1,46 @@
 -- Why each way through the search is right: one lemma for each call that the code makes and for each way in which it returns. Each
 -- takes what the code has learnt, in the code's order; what it says of terms is in SeekLaws of the crate below. Assumes nothing.
-use Prim.Native.Nat.{ℕ, _+_, _*_, _-_, _<_, _≤_}
+use Prim.Native.Nat.{ℕ, _+_, _-_, _<_, _≤_}
 use mathlib.Core.Path.{_≡_, refl, sym, _∙_, ap, subst}
 use mathlib.Core.Bool.{Bool, true, not, _&&_, cond}
 use mathlib.Core.List.{List, map}
 use mathlib.Core.Logic.{_≢_}
 use native.Mathlib.Omega.{arith}
 use lib.Dec.{eqb}
-use lib.ListN.{length, getD, set}
-use borrow.Author.Tests.{ne-eqb}
+use lib.ListN.{length, set}
 use Rattle.calculus.specs.Term.{done, withdrawn, Std, Cmp, skip, seq, par, pair, cseq, calt, cpar, held}
-use Rattle.calculus.specs.Successors.{eqc, only, ends, comps}
-use Rattle.flow.specs.Kinds.{Kind, kindOf, one-of, two-of}
-use Rattle.flow.specs.EachKind.{unknown, each-kind}
+use Rattle.calculus.specs.Successors.{eqc, only, comps}
+use Rattle.flow.specs.declared.Simple.{Simple}
+use Rattle.flow.specs.declared.Simple.the-variants.{Skip, Throw, Yield}
+use Rattle.flow.specs.declared.Operator.{Operator}
+use Rattle.flow.specs.declared.Operator.the-variants.{Sequence, Choice, Parallel}
+use Rattle.flow.specs.declared.Two.{Two}
+use Rattle.flow.specs.Draws.{paired}
+use Rattle.flow.specs.Kinds.{node, shape}
+use Rattle.flow.specs.Nodes.{Tree}
+use Rattle.flow.specs.NodeChildren.{two-kids, kids-disjoint}
 use Rattle.tallies.specs.Capped.{cap}
 use Rattle.tallies.specs.Counts.{sum-of, moves, view, tally, word, weight}
 use Rattle.tallies.specs.CountsLaws.{tally-only, weight-total}
 use Rattle.tallies.specs.Formulas.{closing, whenT, byW, total, afterG, insideG, besideG, withinG, fittingT, partnersT}
-use Rattle.tallies.specs.Sought.{Sought}
 use Rattle.tallies.specs.SeekLaws.{eqc-done, closing-other, view-moves, view-able, seek-pair, seek-pair-skip, seek-skip, seek-calt-first, seek-calt-room, seek-calt-second, seek-second-room, seek-second, seek-held-room, seek-held, seek-own-room, seek-own, seek-both-room, seek-both-rest, seek-both, seek-par-first-room, seek-par-second-room, seek-par}
 use Rattle.tallies.specs.declared.Tally.{Tally}
 use Rattle.tallies.specs.declared.View.{View}
 use Rattle.tallies.specs.declared.Word.{Word}
 use Rattle.tallies.specs.declared.Weight.{Weight}
-use Rattle.states.specs.State.{Part, build, part, modes}
-use Rattle.states.specs.StateLaws.{part-is}
-use Rattle.states.specs.Roles.{plain, undoing}
-use Rattle.states.specs.Contracts.{Spot, Sets, Counted, Chosen, weight-of}
-use Rattle.states.specs.ChildLaws.{set-sets, lower-spot, same-room, kept-set, kept-part, kid-lower, kept-kid, same-part, spot-down}
-use Rattle.seek.specs.Asked.{Fallen, runs, left, own-of, Wanted, Below, Marked, followed, Follows, Followed, PairChosen}
-use Rattle.seek.specs.NodeLaws.{Fork, first-kid, second-kid, sides-apart, node-is, room-is, sought-is, marked-kept, marked-part}
+use Rattle.states.specs.declared.Sense.the-variants.{Drawn, Undoing}
+use Rattle.states.specs.declared.Role.the-variants.{Plain}
+use Rattle.states.specs.declared.Course.{Course}
+use Rattle.states.specs.declared.Course.the-variants as course
+use Rattle.states.specs.declared.Picked.{Picked}
+use Rattle.states.specs.Standings.{stand, stand-undoing, undoing-two}
+use Rattle.states.specs.State.{std-of, run-of, part, modes}
+use Rattle.states.specs.StateLaws.{std-part}
+use Rattle.states.specs.Rests.{Twins}
+use Rattle.states.specs.Contracts.{Spot, Sets, scene, weight-of, ask, Counted, Chosen}
+use Rattle.states.specs.ChildLaws.{set-sets, lower-spot, same-room, kept-set, kept-part, kid-lower, kept-kid, own-kept, same-part, spot-down}
+use Rattle.seek.specs.Asked.{Fallen, course-at, runs, left, picked, Picks, own-of, Wanted, Below, seconds, SecondWanted, SecondChosen, PairChosen}
+use Rattle.seek.specs.NodeLaws.{course-runs, course-kids, course-node, left-is, room-is, sought-is, marked-picks, marked-mode, marked-kept, marked-beside}
 
 -- What is weighed ---------------------------------------------------------------------------------------------------------------
 
@@ -41,281 +52,312 @@ module _ (a : ℕ) (g : Weight) where
   pub own-weighed : (pp : Cmp) (w : ℕ) {x y : Tally} {r : ℕ} → x ≡ tally a (comps pp (closing w)) → y ≡ whenT (not (eqb w 0)) x → r ≡ total y g → r ≡ cap (sum-of (weight a g) (only (not (eqc (closing w) done)) (comps pp (closing w))))
   own-weighed pp w e f d = rw eqc-done (weighed (only (not (eqb w 0)) (comps pp (closing w))) (f ∙ ap (whenT (not (eqb w 0))) e ∙ sym (tally-only a (not (eqb w 0)) (comps pp (closing w)))) d)
 
--- Parts that become SKIP ----------------------------------------------------------------------------------------------------
+-- A node by its course ---------------------------------------------------------------------------------------------------------
 
-module _ (m e : ℕ) (x y : Part) where
-  record Lone (k : Kind) : Type 0 where
-    inner : Std
-    running : build k m e x y .run ≡ pair inner skip
-    leaves : build k m e x y .left ≡ skip
+pub wanted : {ns t : List ℕ} {a i w : ℕ} {g : Weight} {j : ℕ} {r x : Course} → Spot ns t i → (w < 3) × (j < weight-of (scene ns t a) i (closing w) g) → r ≡ course-at ns t i → r ≡ x → Wanted (scene ns t a) i x w g j
+wanted spot q e d = record { spot = spot; is = sym e ∙ d; closes = q .0; room = q .1 }
 
-  -- not one of kinds 10 to 13
-  abbrev Other : ℕ → Type 0
-  Other k = k ≢ 10 → k ≢ 11 → k ≢ 12 → k ≢ 13 → Lone (kindOf k)
+-- by its operator too
+pub wanted-both : {ns t : List ℕ} {a i w : ℕ} {g : Weight} {j : ℕ} {r : Course} {o o′ : Operator} {two : Two} → Spot ns t i → (w < 3) × (j < weight-of (scene ns t a) i (closing w) g) → r ≡ course-at ns t i → r ≡ course.Both o two → o ≡ o′
+    → Wanted (scene ns t a) i (course.Both o′ two) w g j
+wanted-both {two} spot q e d f = wanted spot q e (d ∙ ap (λ o. course.Both o two) f)
 
-  lone : {k : Kind} {p : Std} → build k m e x y .run ≡ pair p skip → build k m e x y .left ≡ skip → Lone k
-  lone {p} r l = record { inner = p; running = r; leaves = l }
+-- A node gets a mode, and a child is sought in ----------------------------------------------------------------------------------
 
-  other : (k : ℕ) → Other k
-  unfolding build
-  other =
-      each-kind Other (λ a b c d. lone refl refl) (λ a b c d. lone refl refl) (λ a b c d. lone refl refl) (λ a b c d. lone refl refl) (λ a b c d. lone refl refl)
-      (λ a b c d. lone refl refl) (λ a b c d. lone refl refl) (λ a b c d. lone refl refl) (λ a b c d. lone refl refl) (λ a b c d. lone refl refl)
-      (λ a b c d. absurd (a refl)) (λ a b c d. absurd (b refl)) (λ a b c d. absurd (c refl)) (λ a b c d. absurd (d refl))
-      (λ a b c d. lone refl refl) (λ a b c d. lone refl refl) (λ a b c d. lone refl refl) (λ k h a b c d. subst Lone (sym (unknown k h)) (lone refl refl))
+module _ {ns t : List ℕ} {a i : ℕ} (m : ℕ) {c w : ℕ} {g : Weight} {j : ℕ} {t₁ : List ℕ} (e : t₁ ≡ set t i m) (b : Below (scene ns t a) i c w g j) where
+  below-sets : Sets t i m t₁
+  below-sets = set-sets (b .spot .room) e
 
-pub other-chosen : {ns t : List ℕ} {a i w : ℕ} {g : Weight} {j : ℕ} → Wanted ns t a i w g j → getD ns (3 * i) 0 ≢ 10 → getD ns (3 * i) 0 ≢ 11 → getD ns (3 * i) 0 ≢ 12 → getD ns (3 * i) 0 ≢ 13
-    → Chosen ns t a i (closing w) g j t j 0 true
-other-chosen {ns} {t} {a} {i} {w} {g} {j} h n₁ n₂ n₃ n₄ =
+  pub below-spot : Spot ns t₁ c
+  below-spot = spot-down ns (b .spot .node .sound .tree) (b .kid) below-sets (b .spot)
+
+  pub below-room : j < weight-of (scene ns t₁ a) c (closing w) g
+  below-room = room-is a g (closing w) (ap (λ p. p .run) (sym (same-part ns (b .spot .node .sound .tree) (b .kid) below-sets))) (b .room)
+
+  pub below-chosen : {t′ : List ℕ} {p : Picked} → Chosen (scene ns t₁ a) c (ask (closing w) g j) t′ p → Chosen (scene ns (set t i m) a) c (ask (closing w) g j) t′ p
+  below-chosen {t′} {p} h = subst (λ u. Chosen (scene ns u a) c (ask (closing w) g j) t′ p) e h
+
+-- A part that is SKIP÷SKIP, THROW÷SKIP or YIELD÷SKIP: nothing changes ------------------------------------------------------------
+
+module _ (a : ℕ) (g : Weight) (w : ℕ) {j : ℕ} where
+  skip-picks : (b : Simple) → j < cap (sum-of (weight a g) (comps (paired b) (closing w))) → Picks a (ask (closing w) g j) (comps (paired b) (closing w)) skip (picked j 0 true)
+  skip-picks Skip h = seek-skip a g _ (closing w) h
+  skip-picks Throw h = seek-skip a g _ (closing w) h
+  skip-picks Yield h = seek-skip a g _ (closing w) h
+
+pub basic-chosen : {ns t : List ℕ} {a i w : ℕ} {g : Weight} {j : ℕ} {b : Simple} → Wanted (scene ns t a) i (course.Basic b) w g j → Chosen (scene ns t a) i (ask (closing w) g j) t (picked j 0 true)
+unfolding run-of std-of
+basic-chosen {ns} {t} {a} {i} {w} {g} {b} h =
     let tree = h .spot .node .sound .tree in
-    let l : Lone (modes t i) (one-of ns i) (part ns (modes t) (one-of ns i)) (part ns (modes t) (two-of ns i)) (kindOf (getD ns (3 * i) 0)) = other _ _ _ _ (getD ns (3 * i) 0) n₁ n₂ n₃ n₄ in
-    let r : runs ns t i ≡ pair (l .inner) skip = ap (λ p. p .run) (part-is ns tree (modes t) i) ∙ l .running in
-    let s : left ns t i ≡ skip = ap (λ p. p .left) (part-is ns tree (modes t) i) ∙ l .leaves in
-    record {
-      sought = sought-is a g (closing w) (sym r) (sym s) (seek-skip a g (l .inner) (closing w) (room-is a g (closing w) r (h .room)));
-      kept = λ k u. refl;
-    }
+    let r : runs ns t i ≡ paired b = course-runs (h .spot) (h .is) in
+    let l : left ns t i ≡ skip = std-part ns tree (modes t) i Undoing ∙ ap (λ x. std-of x Undoing (part ns (modes t))) (course-node (h .spot) (h .is) (modes t i)) in
+    record { sought = sought-is a g (closing w) (sym r) (sym l) (skip-picks a g w b (room-is a g (closing w) r (h .room))); kept = λ k u. refl }
 
 -- P÷Q -----------------------------------------------------------------------------------------------------------------------
 
-module _ {ns t : List ℕ} {i : ℕ} (spot : Spot ns t i) (k : getD ns (3 * i) 0 ≡ 10) where
-  pair-fork : Fork ns i 10 (one-of ns i) (two-of ns i)
-  pair-fork = record { tree = spot .node .sound .tree; kind = k; low = omega arith; high = omega arith; first = refl; second = refl }
+module _ {ns t : List ℕ} {i : ℕ} {two : Two} (spot : Spot ns t i) (e : course-at ns t i ≡ course.Pair two) where
+  pair-tree : Tree (shape ns)
+  pair-tree = spot .node .sound .tree
 
-  pair-runs : runs ns t i ≡ pair (part ns (modes t) (one-of ns i) .std) (part ns (modes t) (two-of ns i) .std)
-  unfolding build
-  pair-runs = ap (λ p. p .run) (node-is pair-fork (modes t) refl)
+  pair-twins : Twins ns i two
+  pair-twins = course-kids spot e
 
-  module _ (m : ℕ) {t′ : List ℕ} (e : t′ ≡ set t i m) where
+  pair-runs : runs ns t i ≡ pair (part ns (modes t) (two .first) .std Drawn) (part ns (modes t) (two .second) .std Drawn)
+  unfolding run-of
+  pair-runs = course-runs spot e
+
+  module _ (m : ℕ) {t′ : List ℕ} (f : t′ ≡ set t i m) where
     pair-sets : Sets t i m t′
-    pair-sets = set-sets (spot .room) e
+    pair-sets = set-sets (spot .room) f
 
-    pub pair-spot : {s : ℕ} → s ≡ two-of ns i → Spot ns t′ s
-    pair-spot d = subst (Spot ns t′) (sym d) (spot-down ns (spot .node .sound .tree) (second-kid pair-fork) pair-sets spot)
+    pub pair-spot : Spot ns t′ (two .second)
+    pair-spot = spot-down ns pair-tree (pair-twins .other) pair-sets spot
 
-  pub pair-done : {a w j : ℕ} {t′ : List ℕ} → t′ ≡ set t i 1 → w ≡ 0 → {s : ℕ} → s ≡ two-of ns i → {c c′ : List ℕ} {v : View} → Counted ns a plain t′ s c c′ v → PairChosen ns t a i (closing w) j t′ j (v .moves) (v .done)
-  unfolding build
-  pair-done {a} {w} {t′} e o d {v} h g room =
-      let q : part ns (modes t′) (two-of ns i) ≡ part ns (modes t) (two-of ns i) = same-part ns (spot .node .sound .tree) (second-kid pair-fork) (pair-sets 1 e) in
-      let l : left ns t′ i ≡ part ns (modes t) (two-of ns i) .std = ap (λ p. p .left) (node-is pair-fork (modes t′) (pair-sets 1 e .here)) ∙ ap (λ p. p .std) q in
-      let u : v ≡ view a (part ns (modes t) (two-of ns i) .std) = h .seen ∙ ap (λ z. view a (part ns (modes t′) z .std)) d ∙ ap (λ p. view a (p .std)) q in
+  pub pair-done : {a w j : ℕ} {t′ : List ℕ} → t′ ≡ set t i 1 → w ≡ 0 → {c c′ : List ℕ} {v : View} → Counted (scene ns t′ a) (Plain Drawn) (two .second) c c′ v → PairChosen (scene ns t a) i (closing w) j t′ (picked j (v .moves) (v .done))
+  unfolding std-of stand stand-undoing
+  pair-done {a} {w} {t′} f o {v} h g room =
+      let q : part ns (modes t′) (two .second) ≡ part ns (modes t) (two .second) = same-part ns pair-tree (pair-twins .other) (pair-sets 1 f) in
+      let l : left ns t′ i ≡ part ns (modes t) (two .second) .std Drawn = left-is ns t′ i pair-tree (course-node spot e) (pair-sets 1 f .here) ∙ ap (λ p. p .std Drawn) q in
+      let u : v ≡ view a (part ns (modes t) (two .second) .std Drawn) = h .seen ∙ ap (λ p. view a (p .std Drawn)) q in
       record {
         sought = sought-is a g (closing w) (sym pair-runs) (sym l) (seek-pair a g _ _ (ap closing o) u (room-is a g (closing w) pair-runs room));
-        kept = kept-set ns (pair-sets 1 e);
+        kept = kept-set ns (pair-sets 1 f);
       }
 
-  pub pair-other : {a w j : ℕ} {t′ : List ℕ} → t′ ≡ set t i 2 → w ≢ 0 → PairChosen ns t a i (closing w) j t′ j 0 true
-  unfolding build
-  pair-other {a} {w} {t′} e n g room = record {
-    sought = sought-is a g (closing w) (sym pair-runs) (sym (ap (λ p. p .left) (node-is pair-fork (modes t′) (pair-sets 2 e .here)))) (seek-pair-skip a g _ _ (closing w) (closing-other w n) (room-is a g (closing w) pair-runs room));
-    kept = kept-set ns (pair-sets 2 e);
+  pub pair-other : {a w j : ℕ} {t′ : List ℕ} → t′ ≡ set t i 2 → w ≢ 0 → PairChosen (scene ns t a) i (closing w) j t′ (picked j 0 true)
+  unfolding std-of stand stand-undoing
+  pair-other {a} {w} {t′} f n g room = record {
+    sought = sought-is a g (closing w) (sym pair-runs) (sym (left-is ns t′ i pair-tree (course-node spot e) (pair-sets 2 f .here))) (seek-pair-skip a g _ _ (closing w) (closing-other w n) (room-is a g (closing w) pair-runs room));
+    kept = kept-set ns (pair-sets 2 f);
   }
+
+-- A choice that has been made -----------------------------------------------------------------------------------------------
+
+module _ {ns t : List ℕ} {a i c w : ℕ} {g : Weight} {j : ℕ} (h : Wanted (scene ns t a) i (course.As c) w g j) where
+  as-tree : Tree (shape ns)
+  as-tree = h .spot .node .sound .tree
+
+  as-runs : runs ns t i ≡ runs ns t c
+  unfolding run-of
+  as-runs = course-runs (h .spot) (h .is)
+
+  pub as-lower : c < i
+  as-lower = kid-lower ns as-tree (course-kids (h .spot) (h .is))
+
+  pub as-room : j < weight-of (scene ns t a) c (closing w) g
+  as-room = room-is a g (closing w) as-runs (h .room)
+
+  -- its mode stays, and says what it becomes too
+  pub as-chosen : {t′ : List ℕ} {p : Picked} → Chosen (scene ns t a) c (ask (closing w) g j) t′ p → Chosen (scene ns t a) i (ask (closing w) g j) t′ p
+  unfolding std-of
+  as-chosen {t′} x =
+      let l : left ns t′ i ≡ left ns t′ c = left-is ns t′ i as-tree refl (own-kept ns as-tree (course-kids (h .spot) (h .is)) (x .kept)) ∙ ap (λ x. std-of x Undoing (part ns (modes t′))) (course-node (h .spot) (h .is)) in
+      record { sought = sought-is a g (closing w) (sym as-runs) (sym l) (x .sought); kept = kept-kid ns as-tree (course-kids (h .spot) (h .is)) (x .kept) }
 
 -- PP□QQ ---------------------------------------------------------------------------------------------------------------------
 
-module _ {ns t : List ℕ} {a i w : ℕ} {g : Weight} {j f s : ℕ} (h : Wanted ns t a i w g j) (k : getD ns (3 * i) 0 ≡ 12) (ef : f ≡ one-of ns i) (es : s ≡ two-of ns i) where
-  choice-fork : Fork ns i 12 f s
-  choice-fork = record { tree = h .spot .node .sound .tree; kind = k; low = omega arith; high = omega arith; first = ef; second = es }
+module _ {ns t : List ℕ} {a i w : ℕ} {g : Weight} {j : ℕ} {two : Two} (h : Wanted (scene ns t a) i (course.Both Choice two) w g j) where
+  calt-tree : Tree (shape ns)
+  calt-tree = h .spot .node .sound .tree
 
-  -- what is left goes by the mode
-  left-first : {g′ : Weight} {j′ : ℕ} {t′ : List ℕ} {r n : ℕ} {b : Bool} → Marked ns t a i 1 f (closing w) g′ j′ t′ r n b → left ns t′ f ≡ left ns t′ i
-  unfolding build
-  left-first {t′} m = sym (ap (λ p. p .left) (node-is choice-fork (modes t′) (m .mode)))
+  calt-twins : Twins ns i two
+  calt-twins = course-kids (h .spot) (h .is)
 
-  left-second : {g′ : Weight} {j′ : ℕ} {t′ : List ℕ} {r n : ℕ} {b : Bool} → Marked ns t a i 2 s (closing w) g′ j′ t′ r n b → left ns t′ s ≡ left ns t′ i
-  unfolding build
-  left-second {t′} m = sym (ap (λ p. p .left) (node-is choice-fork (modes t′) (m .mode)))
+  calt-runs : runs ns t i ≡ calt (runs ns t (two .first)) (runs ns t (two .second))
+  unfolding run-of
+  calt-runs = course-runs (h .spot) (h .is)
 
-  -- the first is taken
-  module _ (e : modes t i ≡ 1) where
-    first-runs : runs ns t i ≡ runs ns t f
-    unfolding build
-    first-runs = ap (λ p. p .run) (node-is choice-fork (modes t) e)
+  calt-room : j < cap (sum-of (weight a g) (comps (calt (runs ns t (two .first)) (runs ns t (two .second))) (closing w)))
+  calt-room = room-is a g (closing w) calt-runs (h .room)
 
-    pub choice-first-below : Below ns t a i f w g j
-    choice-first-below = record { spot = h .spot; kid = first-kid choice-fork; closes = h .closes; room = room-is a g (closing w) first-runs (h .room) }
+  pub choice-spot : Spot ns t (two .first)
+  choice-spot = lower-spot (h .spot) (kid-lower ns calt-tree (calt-twins .one))
 
-    pub choice-first : {t′ : List ℕ} {r n : ℕ} {b : Bool} → Marked ns t a i 1 f (closing w) g j t′ r n b → Chosen ns t a i (closing w) g j t′ r n b
-    choice-first m = record { sought = sought-is a g (closing w) (sym first-runs) (left-first m) (m .sought); kept = marked-kept m (first-kid choice-fork) }
-
-  -- the second is taken
-  module _ (n₁ : modes t i ≢ 1) (n₀ : modes t i ≢ 0) where
-    second-runs : runs ns t i ≡ runs ns t s
-    unfolding build
-    second-runs =
-        ap (λ p. p .run) (node-is choice-fork (modes t) refl)
-        ∙ (λ x. cond (ne-eqb (modes t i) 0 n₀ x) (calt (runs ns t f) (runs ns t s)) (cond (ne-eqb (modes t i) 1 n₁ x) (runs ns t f) (runs ns t s)))
-
-    pub choice-second-below : Below ns t a i s w g j
-    choice-second-below = record { spot = h .spot; kid = second-kid choice-fork; closes = h .closes; room = room-is a g (closing w) second-runs (h .room) }
-
-    pub choice-second : {t′ : List ℕ} {r n : ℕ} {b : Bool} → Marked ns t a i 2 s (closing w) g j t′ r n b → Chosen ns t a i (closing w) g j t′ r n b
-    choice-second m = record { sought = sought-is a g (closing w) (sym second-runs) (left-second m) (m .sought); kept = marked-kept m (second-kid choice-fork) }
-
-  -- neither is taken yet; the first's compensations weigh c
-  module _ (e : modes t i ≡ 0) {c : ℕ} (d : c ≡ weight-of ns t a f (closing w) g) where
-    open-runs : runs ns t i ≡ calt (runs ns t f) (runs ns t s)
-    unfolding build
-    open-runs = ap (λ p. p .run) (node-is choice-fork (modes t) e)
-
-    open-room : j < cap (sum-of (weight a g) (comps (calt (runs ns t f) (runs ns t s)) (closing w)))
-    open-room = room-is a g (closing w) open-runs (h .room)
-
+  -- the first's compensations weigh c
+  module _ {c : ℕ} (d : c ≡ weight-of (scene ns t a) (two .first) (closing w) g) where
     module _ (lt : j < c) where
-      pub open-first-below : Below ns t a i f w g j
-      open-first-below = record { spot = h .spot; kid = first-kid choice-fork; closes = h .closes; room = omega arith }
+      pub choice-first-below : Below (scene ns t a) i (two .first) w g j
+      choice-first-below = record { spot = h .spot; kid = calt-twins .one; closes = h .closes; room = omega (arith, d) }
 
-      pub open-first : {t′ : List ℕ} {r n : ℕ} {b : Bool} → Marked ns t a i 1 f (closing w) g j t′ r n b → Chosen ns t a i (closing w) g j t′ r n b
-      open-first m = record {
-        sought = sought-is a g (closing w) (sym open-runs) refl (seek-calt-first a g _ _ (closing w) (sought-is a g (closing w) refl (left-first m) (m .sought)));
-        kept = marked-kept m (first-kid choice-fork);
-      }
+      pub choice-first : {t′ : List ℕ} {p : Picked} → Chosen (scene ns (set t i 1) a) (two .first) (ask (closing w) g j) t′ p → Chosen (scene ns t a) i (ask (closing w) g j) t′ p
+      unfolding std-of stand stand-undoing undoing-two
+      choice-first {t′} {p} m =
+          let l : left ns t′ i ≡ left ns t′ (two .first) = left-is ns t′ i calt-tree (course-node (h .spot) (h .is)) (marked-mode 1 (h .spot) (calt-twins .one) m) in
+          let u : Picks a (ask (closing w) g j) (comps (calt (runs ns t (two .first)) (runs ns t (two .second))) (closing w)) (left ns t′ (two .first)) p = seek-calt-first a g _ _ (closing w) (marked-picks 1 (h .spot) (calt-twins .one) m) in
+          record { sought = sought-is a g (closing w) (sym calt-runs) (sym l) u; kept = marked-kept 1 (h .spot) (calt-twins .one) m }
 
     module _ (le : c ≤ j) where
-      pub open-second-below : Below ns t a i s w g (j - c)
-      open-second-below = record { spot = h .spot; kid = second-kid choice-fork; closes = h .closes; room = seek-calt-room a g _ _ (closing w) d open-room le }
+      pub choice-second-below : Below (scene ns t a) i (two .second) w g (j - c)
+      choice-second-below = record { spot = h .spot; kid = calt-twins .other; closes = h .closes; room = seek-calt-room a g _ _ (closing w) d calt-room le }
 
-      pub open-second : {t′ : List ℕ} {r n : ℕ} {b : Bool} → Marked ns t a i 2 s (closing w) g (j - c) t′ r n b → Chosen ns t a i (closing w) g j t′ r n b
-      open-second m = record {
-        sought = sought-is a g (closing w) (sym open-runs) refl (seek-calt-second a g _ _ (closing w) d open-room le (sought-is a g (closing w) refl (left-second m) (m .sought)));
-        kept = marked-kept m (second-kid choice-fork);
-      }
+      pub choice-second : {t′ : List ℕ} {p : Picked} → Chosen (scene ns (set t i 2) a) (two .second) (ask (closing w) g (j - c)) t′ p → Chosen (scene ns t a) i (ask (closing w) g j) t′ p
+      unfolding std-of stand stand-undoing undoing-two
+      choice-second {t′} {p} m =
+          let l : left ns t′ i ≡ left ns t′ (two .second) = left-is ns t′ i calt-tree (course-node (h .spot) (h .is)) (marked-mode 2 (h .spot) (calt-twins .other) m) in
+          let u : Picks a (ask (closing w) g j) (comps (calt (runs ns t (two .first)) (runs ns t (two .second))) (closing w)) (left ns t′ (two .second)) p = seek-calt-second a g _ _ (closing w) d calt-room le (marked-picks 2 (h .spot) (calt-twins .other) m) in
+          record { sought = sought-is a g (closing w) (sym calt-runs) (sym l) u; kept = marked-kept 2 (h .spot) (calt-twins .other) m }
 
--- QQ's compensations before what PP has become ----------------------------------------------------------------------------------
+-- PP;QQ: the second, before what the first has become -----------------------------------------------------------------------
 
-module _ {ns t : List ℕ} {a i w : ℕ} {g : Weight} {j n : ℕ} {b : Bool} {s : ℕ} (h : Follows ns t a i w g j n b) (es : s ≡ two-of ns i) {g₂ : Weight} (eg : g₂ ≡ insideG g n b) where
-  second-fork : Fork ns i 11 (one-of ns i) s
-  second-fork = record { tree = h .spot .node .sound .tree; kind = h .kind; low = omega arith; high = omega arith; first = refl; second = es }
+module _ {ns t : List ℕ} {a i w : ℕ} {g : Weight} {two : Two} {k : Picked} (h : SecondWanted (scene ns t a) i two w g k) {g₂ : Weight} (eg : g₂ ≡ insideG g (k .moves) (k .able)) where
+  second-tree : Tree (shape ns)
+  second-tree = h .spot .node .sound .tree
 
-  second-list : followed ns t i (closing w) ≡ map (λ x. seq x (left ns t (one-of ns i))) (comps (runs ns t s) (closing w))
-  second-list = ap (λ z. map (λ x. seq x (left ns t (one-of ns i))) (comps (runs ns t z) (closing w))) (sym es)
+  pub second-below : Below (scene ns t a) i (two .second) w g₂ (k .rest)
+  second-below = record { spot = h .spot; kid = two-kids ns i (h .is) two refl .1; closes = h .closes; room = seek-second-room a g _ _ (h .counted) (h .ended) eg (h .room) }
 
-  second-room : j < cap (sum-of (weight a g) (map (λ x. seq x (left ns t (one-of ns i))) (comps (runs ns t s) (closing w))))
-  second-room = subst (λ l. j < cap (sum-of (weight a g) l)) second-list (h .room)
-
-  pub second-below : Below ns t a i s w g₂ j
-  second-below = record { spot = h .spot; kid = second-kid second-fork; closes = h .closes; room = seek-second-room a g _ _ (h .counted) (h .ended) eg second-room }
-
-  pub second-followed : {t′ : List ℕ} {r n′ : ℕ} {b′ : Bool} → Marked ns t a i 3 s (closing w) g₂ j t′ r n′ b′ → Followed ns t a i (closing w) g j t′ r (cond b′ (cap (n′ + n)) n′) (b′ && b)
-  unfolding build
-  second-followed {t′} {r} {n′} {b′} m =
-      let p : part ns (modes t′) (one-of ns i) ≡ part ns (modes t) (one-of ns i) = marked-part m (second-fork .tree) (first-kid second-fork) (λ k u v. sides-apart second-fork k v u) in
-      let l : seq (left ns t′ s) (left ns t (one-of ns i)) ≡ left ns t′ i = ap (λ p. seq (left ns t′ s) (p .left)) (sym p) ∙ sym (ap (λ p. p .left) (node-is second-fork (modes t′) (m .mode))) in
-      let u = seek-second a g _ _ (h .counted) (h .ended) eg second-room (m .sought) in
+  pub second-chosen : {t′ : List ℕ} {p : Picked} → Chosen (scene ns (set t i 3) a) (two .second) (ask (closing w) g₂ (k .rest)) t′ p
+      → SecondChosen (scene ns t a) i two (ask (closing w) g (k .rest)) t′ (picked (p .rest) (cond (p .able) (cap (p .moves + k .moves)) (p .moves)) (p .able && k .able))
+  unfolding std-of stand stand-undoing undoing-two
+  second-chosen {t′} {p} m =
+      let kids = two-kids ns i (h .is) two refl in
+      let f : part ns (modes t′) (two .first) ≡ part ns (modes t) (two .first) = marked-beside 3 (h .spot) (kids .1) m (kids .0) (λ j u v. kids-disjoint ns i (h .is) two refl second-tree j v u) in
+      let l : left ns t′ i ≡ seq (left ns t′ (two .second)) (left ns t′ (two .first)) = left-is ns t′ i second-tree (h .is) (marked-mode 3 (h .spot) (kids .1) m) in
+      let r : seq (left ns t′ (two .second)) (left ns t (two .first)) ≡ left ns t′ i = sym (l ∙ ap (λ p. seq (left ns t′ (two .second)) (p .std Undoing)) f) in
       record {
-        sought = subst (λ x. Sought a g x j (left ns t′ i) r (cond b′ (cap (n′ + n)) n′) (b′ && b)) (sym second-list) (subst (λ x. Sought a g (map (λ x. seq x (left ns t (one-of ns i))) (comps (runs ns t s) (closing w))) j x r (cond b′ (cap (n′ + n)) n′) (b′ && b)) l u);
-        kept = marked-kept m (second-kid second-fork);
+        sought = subst (λ x. Picks a (ask (closing w) g (k .rest)) (seconds (scene ns t a) two (closing w)) x (picked (p .rest) (cond (p .able) (cap (p .moves + k .moves)) (p .moves)) (p .able && k .able))) r
+            (seek-second a g _ _ (h .counted) (h .ended) eg (h .room) (marked-picks 3 (h .spot) (kids .1) m));
+        kept = marked-kept 3 (h .spot) (kids .1) m;
       }
 
 -- PP;QQ whose PP has ended --------------------------------------------------------------------------------------------------
 
-module _ {ns t : List ℕ} {a i w : ℕ} {g : Weight} {j : ℕ} (h : Wanted ns t a i w g j) (k : getD ns (3 * i) 0 ≡ 11) (n₀ : modes t i ≢ 0) where
-  held-fork : Fork ns i 11 (one-of ns i) (two-of ns i)
-  held-fork = record { tree = h .spot .node .sound .tree; kind = k; low = omega arith; high = omega arith; first = refl; second = refl }
+module _ {ns t : List ℕ} {a i w : ℕ} {g : Weight} {j : ℕ} {two : Two} (h : Wanted (scene ns t a) i (course.Held two) w g j) where
+  held-tree : Tree (shape ns)
+  held-tree = h .spot .node .sound .tree
 
-  held-runs : runs ns t i ≡ held (runs ns t (two-of ns i)) (left ns t (one-of ns i))
-  unfolding build
-  held-runs =
-      ap (λ p. p .run) (node-is held-fork (modes t) refl)
-      ∙ (λ x. cond (ne-eqb (modes t i) 0 n₀ x) (cseq (runs ns t (one-of ns i)) (runs ns t (two-of ns i))) (held (runs ns t (two-of ns i)) (left ns t (one-of ns i))))
+  held-twins : Twins ns i two
+  held-twins = course-kids (h .spot) (h .is)
 
-  pub held-follows : {f : ℕ} → f ≡ one-of ns i → {c c′ : List ℕ} {v : View} → Counted ns a undoing t f c c′ v → Follows ns t a i w g j (v .moves) (v .done)
-  held-follows ef {v} x =
-      let u : v ≡ view a (left ns t (one-of ns i)) = x .seen ∙ ap (λ z. view a (left ns t z)) ef in
-      record { spot = h .spot; kind = k; closes = h .closes; counted = view-moves a _ u; ended = view-able a _ u; room = seek-held-room a g _ _ (closing w) (room-is a g (closing w) held-runs (h .room)) }
+  held-runs : runs ns t i ≡ held (runs ns t (two .second)) (left ns t (two .first))
+  unfolding run-of
+  held-runs = course-runs (h .spot) (h .is)
 
-  pub held-chosen : {t′ : List ℕ} {r n : ℕ} {b : Bool} → Followed ns t a i (closing w) g j t′ r n b → Chosen ns t a i (closing w) g j t′ r n b
-  held-chosen m = record { sought = sought-is a g (closing w) (sym held-runs) refl (seek-held a g _ _ (closing w) (m .sought)); kept = m .kept }
+  pub held-spot : Spot ns t (two .first)
+  held-spot = lower-spot (h .spot) (kid-lower ns held-tree (held-twins .one))
+
+  pub held-wanted : {c c′ : List ℕ} {v : View} → Counted (scene ns t a) (Plain Undoing) (two .first) c c′ v → SecondWanted (scene ns t a) i two w g (picked j (v .moves) (v .done))
+  held-wanted x = record {
+    spot = h .spot;
+    is = course-node (h .spot) (h .is);
+    closes = h .closes;
+    counted = view-moves a _ (x .seen);
+    ended = view-able a _ (x .seen);
+    room = seek-held-room a g _ _ (closing w) (room-is a g (closing w) held-runs (h .room));
+  }
+
+  pub held-chosen : {t′ : List ℕ} {p : Picked} → SecondChosen (scene ns t a) i two (ask (closing w) g j) t′ p → Chosen (scene ns t a) i (ask (closing w) g j) t′ p
+  held-chosen {t′} {p} m =
+      let u : Picks a (ask (closing w) g j) (comps (held (runs ns t (two .second)) (left ns t (two .first))) (closing w)) (left ns t′ i) p = seek-held a g _ _ (closing w) (m .sought) in
+      record { sought = sought-is a g (closing w) (sym held-runs) refl u; kept = m .kept }
 
 -- PP;QQ whose PP runs -------------------------------------------------------------------------------------------------------
 
-module _ {ns t : List ℕ} {a i w : ℕ} {g : Weight} {j f : ℕ} (h : Wanted ns t a i w g j) (k : getD ns (3 * i) 0 ≡ 11) (m₀ : modes t i ≡ 0) (ef : f ≡ one-of ns i) {c : ℕ} (d : c ≡ own-of ns t a f (closing w) g) where
-  run-fork : Fork ns i 11 f (two-of ns i)
-  run-fork = record { tree = h .spot .node .sound .tree; kind = k; low = omega arith; high = omega arith; first = ef; second = refl }
+module _ {ns t : List ℕ} {a i w : ℕ} {g : Weight} {j : ℕ} {two : Two} (h : Wanted (scene ns t a) i (course.Both Sequence two) w g j) where
+  cseq-tree : Tree (shape ns)
+  cseq-tree = h .spot .node .sound .tree
 
-  cseq-runs : runs ns t i ≡ cseq (runs ns t f) (runs ns t (two-of ns i))
-  unfolding build
-  cseq-runs = ap (λ p. p .run) (node-is run-fork (modes t) m₀)
+  cseq-twins : Twins ns i two
+  cseq-twins = course-kids (h .spot) (h .is)
 
-  cseq-room : j < cap (sum-of (weight a g) (comps (cseq (runs ns t f) (runs ns t (two-of ns i))) (closing w)))
+  cseq-runs : runs ns t i ≡ cseq (runs ns t (two .first)) (runs ns t (two .second))
+  unfolding run-of
+  cseq-runs = course-runs (h .spot) (h .is)
+
+  cseq-room : j < cap (sum-of (weight a g) (comps (cseq (runs ns t (two .first)) (runs ns t (two .second))) (closing w)))
   cseq-room = room-is a g (closing w) cseq-runs (h .room)
 
-  -- PP closes by w
-  module _ (lt : j < c) where
-    pub own-below : Below ns t a i f w g j
-    own-below = record { spot = h .spot; kid = first-kid run-fork; closes = h .closes; room = seek-own-room a g _ _ (closing w) d cseq-room lt }
+  pub running-lower : two .first < i
+  running-lower = kid-lower ns cseq-tree (cseq-twins .one)
 
-    pub own-chosen : {t′ : List ℕ} {r n : ℕ} {b : Bool} → Marked ns t a i 2 f (closing w) g j t′ r n b → Chosen ns t a i (closing w) g j t′ r n b
-    unfolding build
-    own-chosen {t′} m = record {
-      sought = sought-is a g (closing w) (sym cseq-runs) (sym (ap (λ p. p .left) (node-is run-fork (modes t′) (m .mode)))) (seek-own a g _ _ (closing w) d cseq-room lt (m .sought));
-      kept = marked-kept m (first-kid run-fork);
-    }
+  pub running-first : Spot ns t (two .first)
+  running-first = lower-spot (h .spot) running-lower
 
-  -- PP ends done, and QQ closes by w
-  module _ (le : c ≤ j) {s : ℕ} (es : s ≡ two-of ns i) {g₁ : Weight} (eg : g₁ ≡ afterG (tally a (comps (runs ns t s) (closing w))) g) where
-    after-is : g₁ ≡ afterG (tally a (comps (runs ns t (two-of ns i)) (closing w))) g
-    after-is = eg ∙ ap (λ z. afterG (tally a (comps (runs ns t z) (closing w))) g) es
+  pub running-second : Spot ns t (two .second)
+  running-second = lower-spot (h .spot) (kid-lower ns cseq-tree (cseq-twins .other))
 
-    pub both-room : j - c < weight-of ns t a f done g₁
-    both-room = seek-both-room a g _ _ (closing w) d cseq-room le refl after-is
+  module _ {c : ℕ} (d : c ≡ own-of (scene ns t a) (two .first) (closing w) g) where
+    -- PP closes by w
+    module _ (lt : j < c) where
+      pub own-below : Below (scene ns t a) i (two .first) w g j
+      own-below = record { spot = h .spot; kid = cseq-twins .one; closes = h .closes; room = seek-own-room a g _ _ (closing w) d cseq-room lt }
 
-    pub both-spot : Spot ns t f
-    both-spot = lower-spot (h .spot) (kid-lower ns (run-fork .tree) (first-kid run-fork))
+      pub own-chosen : {t′ : List ℕ} {p : Picked} → Chosen (scene ns (set t i 2) a) (two .first) (ask (closing w) g j) t′ p → Chosen (scene ns t a) i (ask (closing w) g j) t′ p
+      unfolding std-of stand stand-undoing undoing-two
+      own-chosen {t′} {p} m =
+          let l : left ns t′ i ≡ left ns t′ (two .first) = left-is ns t′ i cseq-tree (course-node (h .spot) (h .is)) (marked-mode 2 (h .spot) (cseq-twins .one) m) in
+          let u : Picks a (ask (closing w) g j) (comps (cseq (runs ns t (two .first)) (runs ns t (two .second))) (closing w)) (left ns t′ (two .first)) p = seek-own a g _ _ (closing w) d cseq-room lt (marked-picks 2 (h .spot) (cseq-twins .one) m) in
+          record { sought = sought-is a g (closing w) (sym cseq-runs) (sym l) u; kept = marked-kept 2 (h .spot) (cseq-twins .one) m }
 
-    module _ {t₁ : List ℕ} {r n : ℕ} {b : Bool} (x : Chosen ns t a f done g₁ (j - c) t₁ r n b) where
-      -- what the first has become is read off the new modes, and the second is as it was
-      both-list : map (λ x. seq x (left ns t₁ f)) (comps (runs ns t (two-of ns i)) (closing w)) ≡ followed ns t₁ i (closing w)
-      both-list =
-          let q : part ns (modes t₁) (two-of ns i) ≡ part ns (modes t) (two-of ns i) = kept-part ns f (sides-apart run-fork) (x .kept) in
-          λ z. map (λ x. seq x (left ns t₁ (ef z))) (comps (sym q z .run) (closing w))
+    -- PP ends done, and QQ closes by w
+    module _ (le : c ≤ j) {g₁ : Weight} (eg : g₁ ≡ afterG (tally a (comps (runs ns t (two .second)) (closing w))) g) where
+      pub both-room : j - c < weight-of (scene ns t a) (two .first) done g₁
+      both-room = seek-both-room a g _ _ (closing w) d cseq-room le refl eg
 
-      pub both-follows : length t₁ ≡ length t → Follows ns t₁ a i w g r n b
-      both-follows l = record {
-        spot = same-room (h .spot) l;
-        kind = k;
-        closes = h .closes;
-        counted = x .sought .counted ∙ ap (λ z. cap (moves a (left ns t₁ z))) ef;
-        ended = x .sought .ended ∙ ap (λ z. ends (left ns t₁ z) done) ef;
-        room = subst (λ l. r < cap (sum-of (weight a g) l)) both-list (seek-both-rest a g _ _ (closing w) d cseq-room le refl after-is (x .sought));
-      }
+      module _ {t₁ : List ℕ} {k : Picked} (x : Chosen (scene ns t a) (two .first) (ask done g₁ (j - c)) t₁ k) where
+        -- what the first has become is read off the new modes, and the second is as it was
+        both-list : map (λ x. seq x (left ns t₁ (two .first))) (comps (runs ns t (two .second)) (closing w)) ≡ seconds (scene ns t₁ a) two (closing w)
+        both-list =
+            let q : part ns (modes t₁) (two .second) ≡ part ns (modes t) (two .second) = kept-part ns cseq-tree (two .first) (cseq-twins .free) (x .kept) in
+            λ z. map (λ x. seq x (left ns t₁ (two .first))) (comps (sym q z .run) (closing w))
 
-      pub both-chosen : {t′ : List ℕ} {r′ n′ : ℕ} {b′ : Bool} → Followed ns t₁ a i (closing w) g r t′ r′ n′ b′ → Chosen ns t a i (closing w) g j t′ r′ n′ b′
-      both-chosen {t′} {r′} {n′} {b′} m = record {
-        sought = sought-is a g (closing w) (sym cseq-runs) refl (seek-both a g _ _ (closing w) d cseq-room le refl after-is (x .sought) (subst (λ l. Sought a g l r (left ns t′ i) r′ n′ b′) (sym both-list) (m .sought)));
-        kept = λ y u. m .kept y u ∙ kept-kid ns (run-fork .tree) (first-kid run-fork) (x .kept) y u;
-      }
+        pub both-wanted : length t₁ ≡ length t → SecondWanted (scene ns t₁ a) i two w g k
+        both-wanted l = record {
+          spot = same-room (h .spot) l;
+          is = course-node (h .spot) (h .is);
+          closes = h .closes;
+          counted = x .sought .counted;
+          ended = x .sought .ended;
+          room = subst (λ l. k .rest < cap (sum-of (weight a g) l)) both-list (seek-both-rest a g _ _ (closing w) d cseq-room le refl eg (x .sought));
+        }
+
+        pub both-chosen : {t′ : List ℕ} {p : Picked} → SecondChosen (scene ns t₁ a) i two (ask (closing w) g (k .rest)) t′ p → Chosen (scene ns t a) i (ask (closing w) g j) t′ p
+        both-chosen {t′} {p} m =
+            let v : Picks a (ask (closing w) g (k .rest)) (map (λ x. seq x (left ns t₁ (two .first))) (comps (runs ns t (two .second)) (closing w))) (left ns t′ i) p = subst (λ l. Picks a (ask (closing w) g (k .rest)) l (left ns t′ i) p) (sym both-list) (m .sought) in
+            let u : Picks a (ask (closing w) g j) (comps (cseq (runs ns t (two .first)) (runs ns t (two .second))) (closing w)) (left ns t′ i) p = seek-both a g _ _ (closing w) d cseq-room le refl eg (x .sought) v in
+            record { sought = sought-is a g (closing w) (sym cseq-runs) refl u; kept = λ y u. m .kept y u ∙ kept-kid ns cseq-tree (cseq-twins .one) (x .kept) y u }
 
 -- PP∥QQ ---------------------------------------------------------------------------------------------------------------------
 
-module _ {ns t : List ℕ} {a i w : ℕ} {g : Weight} {j f s : ℕ} (h : Wanted ns t a i w g j) (k : getD ns (3 * i) 0 ≡ 13) (ef : f ≡ one-of ns i) (es : s ≡ two-of ns i) {p q : Word} (ep : p ≡ word a (runs ns t f)) (eq : q ≡ word a (runs ns t s)) where
-  par-fork : Fork ns i 13 f s
-  par-fork = record { tree = h .spot .node .sound .tree; kind = k; low = omega arith; high = omega arith; first = ef; second = es }
+module _ {ns t : List ℕ} {a i w : ℕ} {g : Weight} {j : ℕ} {two : Two} (h : Wanted (scene ns t a) i (course.Both Parallel two) w g j) where
+  cpar-tree : Tree (shape ns)
+  cpar-tree = h .spot .node .sound .tree
 
-  cpar-runs : runs ns t i ≡ cpar (runs ns t f) (runs ns t s)
-  unfolding build
-  cpar-runs = ap (λ p. p .run) (node-is par-fork (modes t) refl)
+  cpar-twins : Twins ns i two
+  cpar-twins = course-kids (h .spot) (h .is)
 
-  cpar-room : j < cap (sum-of (weight a g) (comps (cpar (runs ns t f) (runs ns t s)) (closing w)))
+  cpar-runs : runs ns t i ≡ cpar (runs ns t (two .first)) (runs ns t (two .second))
+  unfolding run-of
+  cpar-runs = course-runs (h .spot) (h .is)
+
+  cpar-room : j < cap (sum-of (weight a g) (comps (cpar (runs ns t (two .first)) (runs ns t (two .second))) (closing w)))
   cpar-room = room-is a g (closing w) cpar-runs (h .room)
 
-  module _ {x r : ℕ} (fx : Fallen (total (byW p done) (besideG (partnersT q (closing w) done) g)) (total (byW p withdrawn) (besideG (partnersT q (closing w) withdrawn) g)) j x r) {g₁ : Weight} (e₁ : g₁ ≡ besideG (partnersT q (closing w) (closing x)) g) where
-    pub par-first-room : r < weight-of ns t a f (closing x) g₁
+  pub parallel-first : two .first < i
+  parallel-first = kid-lower ns cpar-tree (cpar-twins .one)
+
+  pub parallel-second : two .second < i
+  parallel-second = kid-lower ns cpar-tree (cpar-twins .other)
+
+  module _ {p q : Word} (ep : p ≡ word a (runs ns t (two .first))) (eq : q ≡ word a (runs ns t (two .second))) {x r : ℕ} (fx : Fallen (total (byW p done) (besideG (partnersT q (closing w) done) g)) (total (byW p withdrawn) (besideG (partnersT q (closing w) withdrawn) g)) j x r) {g₁ : Weight} (e₁ : g₁ ≡ besideG (partnersT q (closing w) (closing x)) g) where
+    pub par-first-room : r < weight-of (scene ns t a) (two .first) (closing x) g₁
     par-first-room = seek-par-first-room a g _ _ (closing w) ep eq cpar-room refl refl (fx .falls) e₁
 
-    module _ {t₁ : List ℕ} {r₁ n₁ : ℕ} {b₁ : Bool} (c₁ : Chosen ns t a f (closing x) g₁ r t₁ r₁ n₁ b₁) {g₂ : Weight} (e₂ : g₂ ≡ withinG g n₁ b₁) {y r₂ : ℕ} (fy : Fallen (total (fittingT q (closing w) (closing x) done) g₂) (total (fittingT q (closing w) (closing x) withdrawn) g₂) r₁ y r₂) where
-      second-same : part ns (modes t₁) s ≡ part ns (modes t) s
-      second-same = kept-part ns f (sides-apart par-fork) (c₁ .kept)
+    module _ {t₁ : List ℕ} {k : Picked} (c₁ : Chosen (scene ns t a) (two .first) (ask (closing x) g₁ r) t₁ k) {g₂ : Weight} (e₂ : g₂ ≡ withinG g (k .moves) (k .able)) {y r₂ : ℕ} (fy : Fallen (total (fittingT q (closing w) (closing x) done) g₂) (total (fittingT q (closing w) (closing x) withdrawn) g₂) (k .rest) y r₂) where
+      second-same : part ns (modes t₁) (two .second) ≡ part ns (modes t) (two .second)
+      second-same = kept-part ns cpar-tree (two .first) (cpar-twins .free) (c₁ .kept)
 
-      pub par-second-room : r₂ < weight-of ns t₁ a s (closing y) g₂
+      pub par-second-room : r₂ < weight-of (scene ns t₁ a) (two .second) (closing y) g₂
       par-second-room = room-is a g₂ (closing y) (ap (λ p. p .run) (sym second-same)) (seek-par-second-room a g _ _ (closing w) ep eq cpar-room refl refl (fx .falls) e₁ (c₁ .sought) e₂ refl refl (fy .falls))
 
-      pub par-chosen : {t₂ : List ℕ} {r₃ n₂ : ℕ} {b₂ : Bool} → Chosen ns t₁ a s (closing y) g₂ r₂ t₂ r₃ n₂ b₂ → Chosen ns t a i (closing w) g j t₂ r₃ (cap (n₁ + n₂)) (b₁ && b₂)
-      unfolding build
-      par-chosen {t₂} c₂ =
-          let z : part ns (modes t₂) f ≡ part ns (modes t₁) f = kept-part ns s (λ k u v. sides-apart par-fork k v u) (c₂ .kept) in
-          let l : par (left ns t₁ f) (left ns t₂ s) ≡ left ns t₂ i = ap (λ p. par (p .left) (left ns t₂ s)) (sym z) ∙ sym (ap (λ p. p .left) (node-is par-fork (modes t₂) refl)) in
+      pub par-chosen : {t₂ : List ℕ} {l : Picked} → Chosen (scene ns t₁ a) (two .second) (ask (closing y) g₂ r₂) t₂ l → Chosen (scene ns t a) i (ask (closing w) g j) t₂ (picked (l .rest) (cap (k .moves + l .moves)) (k .able && l .able))
+      unfolding std-of stand stand-undoing undoing-two
+      par-chosen {t₂} {l} c₂ =
+          let z : part ns (modes t₂) (two .first) ≡ part ns (modes t₁) (two .first) = kept-part ns cpar-tree (two .second) (λ j u v. cpar-twins .free j v u) (c₂ .kept) in
+          let o : left ns t₂ i ≡ par (left ns t₂ (two .first)) (left ns t₂ (two .second)) = left-is ns t₂ i cpar-tree (course-node (h .spot) (h .is)) refl in
+          let m : par (left ns t₁ (two .first)) (left ns t₂ (two .second)) ≡ left ns t₂ i = sym (o ∙ ap (λ p. par (p .std Undoing) (left ns t₂ (two .second))) z) in
+          let v : Picks a (ask (closing y) g₂ r₂) (comps (runs ns t (two .second)) (closing y)) (left ns t₂ (two .second)) l = sought-is a g₂ (closing y) (ap (λ p. p .run) second-same) refl (c₂ .sought) in
           record {
-            sought = sought-is a g (closing w) (sym cpar-runs) l (seek-par a g _ _ (closing w) ep eq cpar-room refl refl (fx .falls) e₁ (c₁ .sought) e₂ refl refl (fy .falls) (sought-is a g₂ (closing y) (ap (λ p. p .run) second-same) refl (c₂ .sought)));
-            kept = λ v u. kept-kid ns (par-fork .tree) (second-kid par-fork) (c₂ .kept) v u ∙ kept-kid ns (par-fork .tree) (first-kid par-fork) (c₁ .kept) v u;
+            sought = sought-is a g (closing w) (sym cpar-runs) m (seek-par a g _ _ (closing w) ep eq cpar-room refl refl (fx .falls) e₁ (c₁ .sought) e₂ refl refl (fy .falls) v);
+            kept = λ b u. kept-kid ns cpar-tree (cpar-twins .other) (c₂ .kept) b u ∙ kept-kid ns cpar-tree (cpar-twins .one) (c₁ .kept) b u;
           }

@@ -1,56 +1,90 @@
--- A node of a known kind and mode, and its children: what the part of the node is, and what a search in a child of a node that
--- gets a mode leaves of the other child and outside the node. Theorems only. Assumes nothing.
-use Prim.Native.Nat.{ℕ, _*_, _<_, _≤_}
-use mathlib.Core.Path.{_≡_, refl, sym, _∙_, ap, subst}
-use mathlib.Core.Bool.{Bool}
+-- A node of a known course: its term, its live parts, and what it is once it has become its compensation; and what a search in a
+-- child of a node that got a mode leaves of the node, of the other child and outside. Theorems only. Assumes nothing.
+use Prim.Native.Nat.{ℕ, _<_}
+use mathlib.Core.Path.{_≡_, refl, _∙_, ap, subst}
+use mathlib.Core.Bool.{Bool, true, false, cond}
 use mathlib.Core.List.{List}
-use native.Mathlib.Omega.{arith}
-use lib.ListN.{getD, set}
+use lib.Dec.{eqb}
+use lib.ListN.{set}
 use Rattle.calculus.specs.Term.{Closing, Std, Cmp}
 use Rattle.calculus.specs.Successors.{comps}
-use Rattle.flow.specs.Kinds.{kindOf, one-of, two-of, shape}
-use Rattle.flow.specs.Nodes.{Kid, Under, self, under-kid, Tree}
+use Rattle.flow.specs.declared.Operator.{Operator}
+use Rattle.flow.specs.declared.Operator.the-variants.{Sequence, Choice, Parallel}
+use Rattle.flow.specs.declared.Two.{Two}
+use Rattle.flow.specs.declared.Simple.the-variants.{Skip}
+use Rattle.flow.specs.declared.Node.{Node}
+use Rattle.flow.specs.declared.Node.the-variants.{Event, Basic, Standard, Handler, Block, Pair, Compensable, Paired, Unknown}
+use Rattle.flow.specs.Kinds.{node, shape}
+use Rattle.flow.specs.Nodes.{Kid, Under, Tree}
 use Rattle.tallies.specs.Capped.{cap}
 use Rattle.tallies.specs.Counts.{sum-of, weight}
-use Rattle.tallies.specs.Formulas.{closing}
 use Rattle.tallies.specs.Sought.{Sought}
 use Rattle.tallies.specs.declared.Weight.{Weight}
-use Rattle.states.specs.State.{build, part, modes}
-use Rattle.states.specs.StateLaws.{part-of, part-frame}
-use Rattle.states.specs.Contracts.{Spot, Both, Kept, Sets, Chosen, weight-of}
-use Rattle.states.specs.ChildLaws.{set-sets, not-own, same-part, spot-down, mode-after, kid-one, kid-two, one-off-two, both-of}
-use Rattle.seek.specs.Asked.{Below, Marked}
+use Rattle.states.specs.declared.Sense.the-variants.{Undoing}
+use Rattle.states.specs.declared.Standing.the-variants as standing
+use Rattle.states.specs.declared.Course.{Course}
+use Rattle.states.specs.declared.Course.the-variants as course
+use Rattle.states.specs.declared.Picked.{Picked}
+use Rattle.states.specs.Standings.{as-drawn, first-taken, only, stand, stand-undoing, undoing-two, course-two, course-of}
+use Rattle.states.specs.State.{std-of, run-of, part, modes}
+use Rattle.states.specs.StateLaws.{std-part, run-part}
+use Rattle.states.specs.Rests.{CRests, course-rests}
+use Rattle.states.specs.Contracts.{Spot, Kept, Sets, scene, Ask, Chosen}
+use Rattle.states.specs.ChildLaws.{set-sets, same-part, mode-after, kept-up, beside-part}
+use Rattle.seek.specs.Asked.{course-at, runs, left, Picks}
 
--- A node of kind k from 10 to 13 and its children f and s --------------------------------------------------------------------
+-- A node by its course --------------------------------------------------------------------------------------------------------
 
-pub record Fork (ns : List ℕ) (i k f s : ℕ) : Type 0 where
-  pub tree : Tree (shape ns)
-  pub kind : getD ns (3 * i) 0 ≡ k
-  pub low : 10 ≤ k
-  pub high : k ≤ 13
-  pub first : f ≡ one-of ns i
-  pub second : s ≡ two-of ns i
+-- which node it is; of one that is SKIP, or a choice already made, what it becomes
+abbrev pub NodeBy : Node → ℕ → Course → Type 0
+NodeBy n m (course.Basic b) = (k : ℕ) → stand Undoing n k ≡ standing.Basic Skip
+NodeBy n m (course.Pair t) = n ≡ Pair t
+NodeBy n m (course.Both o t) = n ≡ Compensable o t
+NodeBy n m (course.Held t) = n ≡ Compensable Sequence t
+NodeBy n m (course.As c) = stand Undoing n m ≡ only c Undoing
 
-module _ {ns : List ℕ} {i k f s : ℕ} (z : Fork ns i k f s) where
-  pub both : Both ns i
-  both = let l = z .low in both-of (sym (z .kind)) (omega arith) (z .high) (λ e. omega arith)
+by-operator : (o : Operator) (t : Two) (m : ℕ) → NodeBy (Compensable o t) m (course-two o t m)
+unfolding course-two stand stand-undoing undoing-two
+by-operator Sequence t m = by (eqb m as-drawn)
+  where
+    by : (b : Bool) → NodeBy (Compensable Sequence t) m (cond b (course.Both Sequence t) (course.Held t))
+    by true = refl
+    by false = refl
+by-operator Choice t m = by (eqb m as-drawn) (eqb m first-taken) refl
+  where
+    by : (b d : Bool) → eqb m first-taken ≡ d → NodeBy (Compensable Choice t) m (cond b (course.Both Choice t) (cond d (course.As (t .first)) (course.As (t .second))))
+    by true d e = refl
+    by false true e = ap (λ d. cond d (only (t .first) Undoing) (only (t .second) Undoing)) e
+    by false false e = ap (λ d. cond d (only (t .first) Undoing) (only (t .second) Undoing)) e
+by-operator Parallel t m = refl
 
-  pub first-kid : Kid (shape ns) i f
-  first-kid = subst (Kid (shape ns) i) (sym (z .first)) (kid-one ns (z .tree) both)
+by-course : (n : Node) (m : ℕ) → NodeBy n m (course-of n m)
+unfolding course-of stand stand-undoing
+by-course (Event e) m = λ k. refl
+by-course (Basic b) m = λ k. refl
+by-course (Standard o t) m = λ k. refl
+by-course (Handler t) m = λ k. refl
+by-course (Block c) m = λ k. refl
+by-course (Pair t) m = refl
+by-course (Compensable o t) m = by-operator o t m
+by-course (Paired b) m = λ k. refl
+by-course Unknown m = λ k. refl
 
-  pub second-kid : Kid (shape ns) i s
-  second-kid = subst (Kid (shape ns) i) (sym (z .second)) (kid-two ns (z .tree) both)
+module _ {ns t : List ℕ} {i : ℕ} (spot : Spot ns t i) {x : Course} (e : course-at ns t i ≡ x) where
+  pub course-runs : runs ns t i ≡ run-of x (part ns (modes t))
+  course-runs = run-part ns (spot .node .sound .tree) (modes t) i ∙ ap (λ x. run-of x (part ns (modes t))) e
 
-  pub sides-apart : (j : ℕ) → Under (shape ns) f j → Under (shape ns) s j → ⊥
-  sides-apart j u v = one-off-two ns (z .tree) both j (subst (λ c. Under (shape ns) c j) (z .first) u) (subst (λ c. Under (shape ns) c j) (z .second) v)
+  pub course-kids : CRests ns i x
+  course-kids = subst (CRests ns i) e (course-rests ns i (spot .node .sound .tree) (modes t i))
 
-  -- the node's part, by its mode
-  pub node-is : (d : ℕ → ℕ) {m : ℕ} → d i ≡ m → part ns d i ≡ build (kindOf k) m (one-of ns i) (part ns d f) (part ns d s)
-  node-is d e =
-      part-of ns (z .tree) d i (ap kindOf (z .kind))
-      ∙ (λ x. build (kindOf k) (e x) (one-of ns i) (part ns d (sym (z .first) x)) (part ns d (sym (z .second) x)))
+  pub course-node : NodeBy (node ns i) (modes t i) x
+  course-node = subst (NodeBy (node ns i) (modes t i)) e (by-course (node ns i) (modes t i))
 
--- A child is sought in, and the node has a mode -----------------------------------------------------------------------------
+-- what a node has become, by the mode that it got
+pub left-is : (ns t : List ℕ) (i : ℕ) → Tree (shape ns) → {n : Node} {m : ℕ} → node ns i ≡ n → modes t i ≡ m → left ns t i ≡ std-of (stand Undoing n m) Undoing (part ns (modes t))
+left-is ns t i tree e d = std-part ns tree (modes t) i Undoing ∙ (λ z. std-of (stand Undoing (e z) (d z)) Undoing (part ns (modes t)))
+
+-- A search in the same terms -----------------------------------------------------------------------------------------------------
 
 module _ (a : ℕ) (g : Weight) {pp qq : Cmp} (w : Closing) {j : ℕ} (e : pp ≡ qq) where
   pub room-is : j < cap (sum-of (weight a g) (comps pp w)) → j < cap (sum-of (weight a g) (comps qq w))
@@ -59,34 +93,20 @@ module _ (a : ℕ) (g : Weight) {pp qq : Cmp} (w : Closing) {j : ℕ} (e : pp �
   pub sought-is : {k l : Std} {r n : ℕ} {b : Bool} → k ≡ l → Sought a g (comps pp w) j k r n b → Sought a g (comps qq w) j l r n b
   sought-is {k} {r} {n} {b} d s = subst (λ l. Sought a g (comps qq w) j l r n b) d (subst (λ pp. Sought a g (comps pp w) j k r n b) e s)
 
-module _ {ns : List ℕ} where
-  module _ {t : List ℕ} {a i : ℕ} (m : ℕ) {c w : ℕ} {g : Weight} {j : ℕ} {t₁ : List ℕ} (e : t₁ ≡ set t i m) (b : Below ns t a i c w g j) where
-    tree : Tree (shape ns)
-    tree = b .spot .node .sound .tree
+-- A child is sought in, and the node has got the mode m -------------------------------------------------------------------------
 
-    sets : Sets t i m t₁
-    sets = set-sets (b .spot .room) e
+module _ {ns t : List ℕ} {a i : ℕ} (m : ℕ) {c : ℕ} {q : Ask} {t′ : List ℕ} {p : Picked} (spot : Spot ns t i) (kid : Kid (shape ns) i c) (h : Chosen (scene ns (set t i m) a) c q t′ p) where
+  sets : Sets t i m (set t i m)
+  sets = set-sets (spot .room) refl
 
-    same : part ns (modes t₁) c ≡ part ns (modes t) c
-    same = same-part ns tree (b .kid) sets
+  pub marked-picks : Picks a q (comps (runs ns t c) (q .closing)) (left ns t′ c) p
+  marked-picks = sought-is a (q .weight) (q .closing) (ap (λ p. p .run) (same-part ns (spot .node .sound .tree) kid sets)) refl (h .sought)
 
-    pub below-spot : Spot ns t₁ c
-    below-spot = spot-down ns tree (b .kid) sets (b .spot)
+  pub marked-mode : modes t′ i ≡ m
+  marked-mode = mode-after ns (spot .node .sound .tree) kid sets t′ (h .kept)
 
-    pub below-room : j < weight-of ns t₁ a c (closing w) g
-    below-room = room-is a g (closing w) (ap (λ p. p .run) (sym same)) (b .room)
+  pub marked-kept : Kept ns i (modes t) (modes t′)
+  marked-kept = kept-up ns (spot .node .sound .tree) kid sets t′ (h .kept)
 
-    pub below-marked : {t′ : List ℕ} {r n : ℕ} {o : Bool} → Chosen ns t₁ a c (closing w) g j t′ r n o → Marked ns t a i m c (closing w) g j t′ r n o
-    below-marked {t′ = t′} h = record {
-      sought = sought-is a g (closing w) (ap (λ p. p .run) same) refl (h .sought);
-      mode = mode-after ns tree (b .kid) sets t′ (h .kept);
-      kept = λ k n u. h .kept k u ∙ sets .others k n;
-    }
-
-  -- what stays outside the node, and of the other child
-  module _ {t : List ℕ} {a i m c : ℕ} {w : Closing} {g : Weight} {j : ℕ} {t′ : List ℕ} {r n : ℕ} {o : Bool} (h : Marked ns t a i m c w g j t′ r n o) where
-    pub marked-kept : Kid (shape ns) i c → Kept ns i (modes t) (modes t′)
-    marked-kept kid k u = h .kept k (λ e. u (self e)) (λ v. u (under-kid (shape ns) kid v))
-
-    pub marked-part : Tree (shape ns) → {s : ℕ} → Kid (shape ns) i s → ((k : ℕ) → Under (shape ns) c k → Under (shape ns) s k → ⊥) → part ns (modes t′) s ≡ part ns (modes t) s
-    marked-part tree {s} kid free = part-frame ns (modes t′) (modes t) s (λ k u. h .kept k (not-own ns tree kid u) (λ v. free k v u))
+  pub marked-beside : {s : ℕ} → Kid (shape ns) i s → ((j : ℕ) → Under (shape ns) c j → Under (shape ns) s j → ⊥) → part ns (modes t′) s ≡ part ns (modes t) s
+  marked-beside other free = beside-part ns (spot .node .sound .tree) kid sets t′ (h .kept) other free

@@ -2,41 +2,27 @@
 // has a weight. The modes in t are those of the state before, and become those of the state after; the answer says how far into
 // the compensation the number falls, how many steps it has by the event and whether it can end done. A compensation without
 // weight is passed over without being looked at, however many there are.
+use flow::Operator;
+use flow::Two;
+use states::Course;
+use states::Picked;
+use states::Sense;
 use tallies::Tally;
 use tallies::Weight;
 use tallies::Word;
 ghost use mathlib.Core.Path.{_≡_};
 ghost use mathlib.Core.Bool.{cond};
-ghost use Prim.Native.Nat.{_+_, _*_, _<_};
-ghost use lib.ListN.{getD};
+ghost use Prim.Native.Nat.{_+_, _<_};
+ghost use lib.ListN.{set};
 ghost use Rattle.calculus.specs.Term.{done, withdrawn};
 ghost use Rattle.calculus.specs.Successors.{comps};
+ghost use Rattle.flow.specs.declared.Operator.the-variants.{Sequence, Choice, Parallel};
 ghost use Rattle.tallies.specs.Capped.{cap};
 ghost use Rattle.tallies.specs.Counts.{tally, word};
 ghost use Rattle.tallies.specs.Formulas.{closing, byW, total, afterG, besideG, partnersT, fittingT};
-ghost use Rattle.states.specs.State.{modes};
-ghost use Rattle.states.specs.Contracts.{Spot, Chosen, weight-of};
-ghost use Rattle.seek.specs.Asked.{Fallen, runs, own-of, Wanted, Below, Marked, Follows, Followed, PairChosen};
-
-// The modes of a part that has become its compensation (states, State): of a pair, Q or SKIP; of a choice, the first's or the
-// second's; of PP;QQ, the first's only, or the second's before the first's.
-const LEFT_Q: u8 = 1;
-
-const LEFT_SKIP: u8 = 2;
-
-const LEFT_FIRST: u8 = 1;
-
-const LEFT_SECOND: u8 = 2;
-
-const LEFT_ONE: u8 = 2;
-
-const LEFT_BOTH: u8 = 3;
-
-pub struct Sought {
-    pub rest: u32,
-    pub moves: u32,
-    pub able: bool,
-}
+ghost use Rattle.states.specs.declared.Course.the-variants.{Pair, Both, Held};
+ghost use Rattle.states.specs.Contracts.{Spot, scene, weight-of, ask, Chosen};
+ghost use Rattle.seek.specs.Asked.{Fallen, runs, own-of, course-at, Wanted, Below, SecondWanted, SecondChosen, PairChosen};
 
 // Weights -----------------------------------------------------------------------------------------------------------
 
@@ -65,7 +51,7 @@ fn ending_at(x: u32, y: u32, j: u32) -> Fall
 }
 
 // What is known of the running part of a node.
-fn word_at(ns: &[u16], a: u16, t: &[u8], i: usize) -> Word
+fn word_at(ns: &[u16], t: &[u8], a: u16, i: usize) -> Word
     requires { ⌜ Spot (now ns) (now t) i ⌝ }
     ensures { λ r. ⌜ r ≡ word a (runs (now (ns .entry)) (now (t .entry)) i) ⌝ }
 {
@@ -74,38 +60,38 @@ fn word_at(ns: &[u16], a: u16, t: &[u8], i: usize) -> Word
 }
 
 // What is known of its compensations by w.
-fn tally_at(ns: &[u16], a: u16, t: &[u8], i: usize, w: u8) -> Tally
+fn tally_at(ns: &[u16], t: &[u8], a: u16, i: usize, w: u8) -> Tally
     requires { ⌜ Spot (now ns) (now t) i ⌝ }
     ensures { λ r. ⌜ r ≡ tally a (comps (runs (now (ns .entry)) (now (t .entry)) i) (closing w)) ⌝ }
 {
-    tallies::tally_by(word_at(ns, a, t, i), w)
+    tallies::tally_by(word_at(ns, t, a, i), w)
 }
 
 // What all compensations of a running part by w weigh.
-fn weight_by(ns: &[u16], a: u16, t: &[u8], i: usize, w: u8, g: Weight) -> u32
+fn weight_by(ns: &[u16], t: &[u8], a: u16, i: usize, w: u8, g: Weight) -> u32
     requires { ⌜ Spot (now ns) (now t) i ⌝ }
-    ensures { λ r. ⌜ r ≡ weight-of (now (ns .entry)) (now (t .entry)) a i (closing w) g ⌝ }
+    ensures { λ r. ⌜ r ≡ weight-of (scene (now (ns .entry)) (now (t .entry)) a) i (closing w) g ⌝ }
 {
-    tallies::weight_total(tally_at(ns, a, t, i, w), g)
+    tallies::weight_total(tally_at(ns, t, a, i, w), g)
 }
 
 // What the compensations of PP, node i, weigh in PP;QQ by w: nothing if w is done, since then QQ goes on.
-fn own_weight(ns: &[u16], a: u16, t: &[u8], i: usize, w: u8, g: Weight) -> u32
+fn own_weight(ns: &[u16], t: &[u8], a: u16, i: usize, w: u8, g: Weight) -> u32
     requires { ⌜ Spot (now ns) (now t) i ⌝ }
-    ensures { λ r. ⌜ r ≡ own-of (now (ns .entry)) (now (t .entry)) a i (closing w) g ⌝ }
+    ensures { λ r. ⌜ r ≡ own-of (scene (now (ns .entry)) (now (t .entry)) a) i (closing w) g ⌝ }
 {
     tallies::weight_total(
-        tallies::tally_when(w != tallies::DONE, tally_at(ns, a, t, i, w)),
+        tallies::tally_when(w != tallies::DONE, tally_at(ns, t, a, i, w)),
         g,
     )
 }
 
 // What a compensation of PP weighs with all those of QQ, node i, by w.
-fn weight_before(ns: &[u16], a: u16, t: &[u8], i: usize, w: u8, g: Weight) -> Weight
+fn weight_before(ns: &[u16], t: &[u8], a: u16, i: usize, w: u8, g: Weight) -> Weight
     requires { ⌜ Spot (now ns) (now t) i ⌝ }
     ensures { λ r. ⌜ r ≡ afterG (tally a (comps (runs (now (ns .entry)) (now (t .entry)) i) (closing w))) g ⌝ }
 {
-    tallies::weight_after(tally_at(ns, a, t, i, w), g)
+    tallies::weight_after(tally_at(ns, t, a, i, w), g)
 }
 
 // The steps of l;k, where l has so many and can end done or not.
@@ -165,49 +151,47 @@ fn second_ending(q: Word, w: u8, x: u8, g: Weight, j: u32) -> Fall
 
 // The search --------------------------------------------------------------------------------------------------------
 
-pub fn seek(ns: &[u16], a: u16, t: &mut [u8], i: usize, w: u8, g: Weight, j: u32) -> Sought
+pub fn seek(ns: &[u16], t: &mut [u8], a: u16, i: usize, w: u8, g: Weight, j: u32) -> Picked
     requires { ⌜ Spot (now ns) (now t) i ⌝ }
-    requires { ⌜ (w < 3) × (j < weight-of (now ns) (now t) a i (closing w) g) ⌝ }
-    ensures { λ r. ⌜ Chosen (now (ns .entry)) (now (t .entry)) a i (closing w) g j (now (t .exit)) (r .rest) (r .moves) (r .able) ⌝ }
+    requires { ⌜ (w < 3) × (j < weight-of (scene (now ns) (now t) a) i (closing w) g) ⌝ }
+    ensures { λ r. ⌜ Chosen (scene (now (ns .entry)) (now (t .entry)) a) i (ask (closing w) g j) (now (t .exit)) r ⌝ }
 {
-    let kind = flow::kind_at(ns, i);
-    match kind {
-        10 => seek_pair(ns, a, t, i, w, j),
-        11 => {
-            if states::mode_of(t, i) == 0 {
-                seek_running(ns, a, t, i, w, g, j)
-            } else {
-                seek_held(ns, a, t, i, w, g, j)
-            }
-        }
-        12 => seek_choice(ns, a, t, i, w, g, j),
-        13 => seek_parallel(ns, a, t, i, w, g, j),
-        _ => Sought {
+    let course = states::course_at(ns, t, i);
+    match course {
+        Course::Basic(_) => Picked {
             rest: j,
             moves: 0,
             able: true,
         },
+        Course::Pair(two) => seek_pair(ns, t, a, i, two, w, j),
+        Course::Both(operator, two) => match operator {
+            Operator::Sequence => seek_running(ns, t, a, i, two, w, g, j),
+            Operator::Choice => seek_choice(ns, t, a, i, two, w, g, j),
+            Operator::Parallel => seek_parallel(ns, t, a, i, two, w, g, j),
+        },
+        Course::Held(two) => seek_held(ns, t, a, i, two, w, g, j),
+        Course::As(child) => seek(ns, t, a, child, w, g, j),
     }
 }
 
 // P÷Q has one compensation by each closing.
-fn seek_pair(ns: &[u16], a: u16, t: &mut [u8], i: usize, w: u8, j: u32) -> Sought
+fn seek_pair(ns: &[u16], t: &mut [u8], a: u16, i: usize, two: Two, w: u8, j: u32) -> Picked
     requires { ⌜ Spot (now ns) (now t) i ⌝ }
-    requires { ⌜ getD (now ns) (3 * i) 0 ≡ 10 ⌝ }
-    ensures { λ r. ⌜ PairChosen (now (ns .entry)) (now (t .entry)) a i (closing w) j (now (t .exit)) (r .rest) (r .moves) (r .able) ⌝ }
+    requires { ⌜ course-at (now ns) (now t) i ≡ Pair two ⌝ }
+    ensures { λ r. ⌜ PairChosen (scene (now (ns .entry)) (now (t .entry)) a) i (closing w) j (now (t .exit)) r ⌝ }
 {
     if w == tallies::DONE {
-        states::set_mode(t, i, LEFT_Q);
+        states::set_mode(t, i, states::LEFT_SECOND);
         let mut c = [0u32; 64];
-        let v = counting::count_std(ns, t, a, &mut c, states::second_child(ns, i));
-        return Sought {
+        let v = counting::count_std(ns, t, a, &mut c, two.second, Sense::Drawn);
+        return Picked {
             rest: j,
             moves: v.moves,
             able: v.done,
         };
     }
-    states::set_mode(t, i, LEFT_SKIP);
-    Sought {
+    states::set_mode(t, i, states::LEFT_NOTHING);
+    Picked {
         rest: j,
         moves: 0,
         able: true,
@@ -217,112 +201,151 @@ fn seek_pair(ns: &[u16], a: u16, t: &mut [u8], i: usize, w: u8, j: u32) -> Sough
 // Node i gets the mode m, and its child c becomes one of its compensations.
 fn seek_marked(
     ns: &[u16],
-    a: u16,
     t: &mut [u8],
+    a: u16,
     i: usize,
     m: u8,
     c: usize,
     w: u8,
     g: Weight,
     j: u32,
-) -> Sought
-    requires { ⌜ Below (now ns) (now t) a i c w g j ⌝ }
-    ensures { λ r. ⌜ Marked (now (ns .entry)) (now (t .entry)) a i m c (closing w) g j (now (t .exit)) (r .rest) (r .moves) (r .able) ⌝ }
+) -> Picked
+    requires { ⌜ Below (scene (now ns) (now t) a) i c w g j ⌝ }
+    ensures { λ r. ⌜ Chosen (scene (now (ns .entry)) (set (now (t .entry)) i m) a) c (ask (closing w) g j) (now (t .exit)) r ⌝ }
 {
     states::set_mode(t, i, m);
-    seek(ns, a, t, c, w, g, j)
+    seek(ns, t, a, c, w, g, j)
 }
 
 // PP;QQ whose PP has ended: QQ's compensation, and then PP's, k.
-fn seek_second(ns: &[u16], a: u16, t: &mut [u8], i: usize, w: u8, g: Weight, k: Sought) -> Sought
-    requires { ⌜ Follows (now ns) (now t) a i w g (k .rest) (k .moves) (k .able) ⌝ }
-    ensures { λ r. ⌜ Followed (now (ns .entry)) (now (t .entry)) a i (closing w) g (k .rest) (now (t .exit)) (r .rest) (r .moves) (r .able) ⌝ }
+fn seek_second(
+    ns: &[u16],
+    t: &mut [u8],
+    a: u16,
+    i: usize,
+    two: Two,
+    w: u8,
+    g: Weight,
+    k: Picked,
+) -> Picked
+    requires { ⌜ SecondWanted (scene (now ns) (now t) a) i two w g k ⌝ }
+    ensures { λ r. ⌜ SecondChosen (scene (now (ns .entry)) (now (t .entry)) a) i two (ask (closing w) g (k .rest)) (now (t .exit)) r ⌝ }
 {
     let inside = tallies::weight_inside(g, k.moves, k.able);
-    let s = states::second_child(ns, i);
-    let l = seek_marked(ns, a, t, i, LEFT_BOTH, s, w, inside, k.rest);
-    Sought {
+    let l = seek_marked(
+        ns,
+        t,
+        a,
+        i,
+        states::LEFT_BOTH,
+        two.second,
+        w,
+        inside,
+        k.rest,
+    );
+    Picked {
         rest: l.rest,
         moves: moves_before(l.able, l.moves, k.moves),
         able: l.able & k.able,
     }
 }
 
-fn seek_held(ns: &[u16], a: u16, t: &mut [u8], i: usize, w: u8, g: Weight, j: u32) -> Sought
-    requires { ⌜ Wanted (now ns) (now t) a i w g j ⌝ }
-    requires { ⌜ (getD (now ns) (3 * i) 0 ≡ 11) × (modes (now t) i ≡ 0 → ⊥) ⌝ }
-    ensures { λ r. ⌜ Chosen (now (ns .entry)) (now (t .entry)) a i (closing w) g j (now (t .exit)) (r .rest) (r .moves) (r .able) ⌝ }
+fn seek_held(
+    ns: &[u16],
+    t: &mut [u8],
+    a: u16,
+    i: usize,
+    two: Two,
+    w: u8,
+    g: Weight,
+    j: u32,
+) -> Picked
+    requires { ⌜ Wanted (scene (now ns) (now t) a) i (Held two) w g j ⌝ }
+    ensures { λ r. ⌜ Chosen (scene (now (ns .entry)) (now (t .entry)) a) i (ask (closing w) g j) (now (t .exit)) r ⌝ }
 {
     let mut c = [0u32; 64];
-    let v = counting::count_left(ns, t, a, &mut c, states::first_child(ns, i));
-    seek_second(
-        ns,
-        a,
-        t,
-        i,
-        w,
-        g,
-        Sought {
-            rest: j,
-            moves: v.moves,
-            able: v.done,
-        },
-    )
+    let v = counting::count_std(ns, t, a, &mut c, two.first, Sense::Undoing);
+    let k = Picked {
+        rest: j,
+        moves: v.moves,
+        able: v.done,
+    };
+    seek_second(ns, t, a, i, two, w, g, k)
 }
 
 // PP closes by w, or it ends done and QQ closes by w.
-fn seek_running(ns: &[u16], a: u16, t: &mut [u8], i: usize, w: u8, g: Weight, j: u32) -> Sought
-    requires { ⌜ Wanted (now ns) (now t) a i w g j ⌝ }
-    requires { ⌜ (getD (now ns) (3 * i) 0 ≡ 11) × (modes (now t) i ≡ 0) ⌝ }
-    ensures { λ r. ⌜ Chosen (now (ns .entry)) (now (t .entry)) a i (closing w) g j (now (t .exit)) (r .rest) (r .moves) (r .able) ⌝ }
+fn seek_running(
+    ns: &[u16],
+    t: &mut [u8],
+    a: u16,
+    i: usize,
+    two: Two,
+    w: u8,
+    g: Weight,
+    j: u32,
+) -> Picked
+    requires { ⌜ Wanted (scene (now ns) (now t) a) i (Both Sequence two) w g j ⌝ }
+    ensures { λ r. ⌜ Chosen (scene (now (ns .entry)) (now (t .entry)) a) i (ask (closing w) g j) (now (t .exit)) r ⌝ }
 {
-    let f = states::first_child(ns, i);
-    let own = own_weight(ns, a, t, f, w, g);
+    let own = own_weight(ns, t, a, two.first, w, g);
     if j < own {
-        return seek_marked(ns, a, t, i, LEFT_ONE, f, w, g, j);
+        return seek_marked(ns, t, a, i, states::LEFT_FIRST, two.first, w, g, j);
     }
-    let before = weight_before(ns, a, t, states::second_child(ns, i), w, g);
-    let k = seek(ns, a, t, f, tallies::DONE, before, j - own);
-    seek_second(ns, a, t, i, w, g, k)
+    let before = weight_before(ns, t, a, two.second, w, g);
+    let k = seek(ns, t, a, two.first, tallies::DONE, before, j - own);
+    seek_second(ns, t, a, i, two, w, g, k)
 }
 
-fn seek_choice(ns: &[u16], a: u16, t: &mut [u8], i: usize, w: u8, g: Weight, j: u32) -> Sought
-    requires { ⌜ Wanted (now ns) (now t) a i w g j ⌝ }
-    requires { ⌜ getD (now ns) (3 * i) 0 ≡ 12 ⌝ }
-    ensures { λ r. ⌜ Chosen (now (ns .entry)) (now (t .entry)) a i (closing w) g j (now (t .exit)) (r .rest) (r .moves) (r .able) ⌝ }
+fn seek_choice(
+    ns: &[u16],
+    t: &mut [u8],
+    a: u16,
+    i: usize,
+    two: Two,
+    w: u8,
+    g: Weight,
+    j: u32,
+) -> Picked
+    requires { ⌜ Wanted (scene (now ns) (now t) a) i (Both Choice two) w g j ⌝ }
+    ensures { λ r. ⌜ Chosen (scene (now (ns .entry)) (now (t .entry)) a) i (ask (closing w) g j) (now (t .exit)) r ⌝ }
 {
-    let f = states::first_child(ns, i);
-    let s = states::second_child(ns, i);
-    let mode = states::mode_of(t, i);
-    if mode == 1 {
-        return seek_marked(ns, a, t, i, LEFT_FIRST, f, w, g, j);
-    }
-    if mode != 0 {
-        return seek_marked(ns, a, t, i, LEFT_SECOND, s, w, g, j);
-    }
-    let p = weight_by(ns, a, t, f, w, g);
+    let p = weight_by(ns, t, a, two.first, w, g);
     if j < p {
-        seek_marked(ns, a, t, i, LEFT_FIRST, f, w, g, j)
+        seek_marked(ns, t, a, i, states::FIRST_TAKEN, two.first, w, g, j)
     } else {
-        seek_marked(ns, a, t, i, LEFT_SECOND, s, w, g, j - p)
+        seek_marked(ns, t, a, i, states::SECOND_TAKEN, two.second, w, g, j - p)
     }
 }
 
-fn seek_parallel(ns: &[u16], a: u16, t: &mut [u8], i: usize, w: u8, g: Weight, j: u32) -> Sought
-    requires { ⌜ Wanted (now ns) (now t) a i w g j ⌝ }
-    requires { ⌜ getD (now ns) (3 * i) 0 ≡ 13 ⌝ }
-    ensures { λ r. ⌜ Chosen (now (ns .entry)) (now (t .entry)) a i (closing w) g j (now (t .exit)) (r .rest) (r .moves) (r .able) ⌝ }
+fn seek_parallel(
+    ns: &[u16],
+    t: &mut [u8],
+    a: u16,
+    i: usize,
+    two: Two,
+    w: u8,
+    g: Weight,
+    j: u32,
+) -> Picked
+    requires { ⌜ Wanted (scene (now ns) (now t) a) i (Both Parallel two) w g j ⌝ }
+    ensures { λ r. ⌜ Chosen (scene (now (ns .entry)) (now (t .entry)) a) i (ask (closing w) g j) (now (t .exit)) r ⌝ }
 {
-    let f = states::first_child(ns, i);
-    let s = states::second_child(ns, i);
-    let p = word_at(ns, a, t, f);
-    let q = word_at(ns, a, t, s);
+    let p = word_at(ns, t, a, two.first);
+    let q = word_at(ns, t, a, two.second);
     let x = first_ending(p, q, w, g, j);
-    let k = seek(ns, a, t, f, x.ending, beside(q, w, x.ending, g), x.rest);
+    let k = seek(
+        ns,
+        t,
+        a,
+        two.first,
+        x.ending,
+        beside(q, w, x.ending, g),
+        x.rest,
+    );
     let within = tallies::weight_within(g, k.moves, k.able);
     let y = second_ending(q, w, x.ending, within, k.rest);
-    let l = seek(ns, a, t, s, y.ending, within, y.rest);
-    Sought {
+    let l = seek(ns, t, a, two.second, y.ending, within, y.rest);
+    Picked {
         rest: l.rest,
         moves: tallies::sum(k.moves, l.moves),
         able: k.able & l.able,

@@ -1,9 +1,8 @@
--- `seek::seek` and the functions that it calls by the kind of a node, which call it again for the children, meet their contracts.
+-- `seek::seek` and the functions that it calls by the course of a node, which call it again for the children, meet their contracts.
 -- Each call and each return is answered by its lemma in Branches, from what the code has learnt on its way there. The measure is the
 -- node's number, and below it the order in which functions call each other at one node. Assumes nothing.
-use Rattle.seek.specs.Branches.{other-chosen, choice-first-below, choice-first, choice-second-below, choice-second, open-first-below, open-first, open-second-below, open-second, second-below, second-followed, held-follows, held-chosen, own-below, own-chosen, both-room, both-spot, both-follows, both-chosen, par-first-room, par-second-room, par-chosen}
+use Rattle.seek.specs.Branches.{wanted, wanted-both, basic-chosen, below-spot, below-room, below-chosen, as-lower, as-room, as-chosen, choice-spot, choice-first-below, choice-first, choice-second-below, choice-second, second-below, second-chosen, held-spot, held-wanted, held-chosen, running-lower, running-first, running-second, own-below, own-chosen, both-room, both-wanted, both-chosen, parallel-first, parallel-second, par-first-room, par-second-room, par-chosen}
 use Rattle.states.specs.ChildLaws.{lower-spot, same-room, kid-lower}
-use Rattle.seek.specs.NodeLaws.{below-spot, below-room, below-marked}
 use mathlib.Core.Path.{sym, _∙_}
 use native.Mathlib.Omega.{arith}
 use borrow.Author.Needs.{needs}
@@ -31,7 +30,7 @@ use Rattle.seek.proofs.+seek+seek_choice+seek_held+seek_marked+seek_par
 use Rattle.seek.proofs.seek_second.Reads as seek-second
 use Rattle.seek.proofs.seek_second.Kinds as seek-second-kinds
 use Rattle.seek.proofs.+seek+seek_choice+seek_held+seek_marked+seek_parallel+seek_running+seek_second.Lts-seek_second as seek-second-lts
-use Rattle.flow.proofs.kind_at.Reads as kind-at-reads
+use Rattle.counting.proofs.count_std.Reads as count-std-reads
 use Rattle.seek.proofs.beside.Reads as beside-reads
 use Rattle.seek.proofs.first_ending.Reads as first-ending-reads
 use Rattle.seek.proofs.moves_before.Reads as moves-before-reads
@@ -41,10 +40,7 @@ use Rattle.seek.proofs.seek_pair.Reads as seek-pair-reads
 use Rattle.seek.proofs.weight_before.Reads as weight-before-reads
 use Rattle.seek.proofs.weight_by.Reads as weight-by-reads
 use Rattle.seek.proofs.word_at.Reads as word-at-reads
-use Rattle.counting.proofs.count_left.Reads as count-left-reads
-use Rattle.states.proofs.first_child.Reads as first-child-reads
-use Rattle.states.proofs.mode_of.Reads as mode-of-reads
-use Rattle.states.proofs.second_child.Reads as second-child-reads
+use Rattle.states.proofs.course_at.Reads as course-at-reads
 use Rattle.states.proofs.set_mode.Reads as set-mode-reads
 use Rattle.tallies.proofs.sum.Reads as sum-reads
 use Rattle.tallies.proofs.weight_inside.Reads as weight-inside-reads
@@ -139,331 +135,233 @@ seek-second-below t =
     and 2 seek-second-kinds.ps (falls 2 seek-second-kinds.ps _<_ μ-seek-second t) seek-second.Pre
 
 abbrev seek-calls : ℕ → seek-lts.Claims
-seek-calls t = (kind-at-reads.Asked, kind-at-reads.Learnt, seek-pair-reads.Asked, seek-pair-reads.Learnt, mode-of-reads.Asked, mode-of-reads.Learnt, seek-running-below t, seek-running.Post, seek-held-below t, seek-held.Post, seek-choice-below t, seek-choice.Post, seek-parallel-below t, seek-parallel.Post)
+seek-calls t = (course-at-reads.Asked, course-at-reads.Learnt, seek-pair-reads.Asked, seek-pair-reads.Learnt, seek-running-below t, seek-running.Post, seek-choice-below t, seek-choice.Post, seek-parallel-below t, seek-parallel.Post, seek-held-below t, seek-held.Post, seek-below t, seek.Post)
 
 abbrev seek-choice-calls : ℕ → seek-choice-lts.Claims
-seek-choice-calls t = (first-child-reads.Asked, first-child-reads.Learnt, second-child-reads.Asked, second-child-reads.Learnt, mode-of-reads.Asked, mode-of-reads.Learnt, seek-marked-below t, seek-marked.Post, weight-by-reads.Asked, weight-by-reads.Learnt)
+seek-choice-calls t = (weight-by-reads.Asked, weight-by-reads.Learnt, seek-marked-below t, seek-marked.Post)
 
 abbrev seek-held-calls : ℕ → seek-held-lts.Claims
-seek-held-calls t = (first-child-reads.Asked, first-child-reads.Learnt, count-left-reads.Asked, count-left-reads.Learnt, seek-second-below t, seek-second.Post)
+seek-held-calls t = (count-std-reads.Asked, count-std-reads.Learnt, seek-second-below t, seek-second.Post)
 
 abbrev seek-marked-calls : ℕ → seek-marked-lts.Claims
 seek-marked-calls t = (set-mode-reads.Asked, set-mode-reads.Learnt, seek-below t, seek.Post)
 
 abbrev seek-parallel-calls : ℕ → seek-parallel-lts.Claims
-seek-parallel-calls t = (first-child-reads.Asked, first-child-reads.Learnt, second-child-reads.Asked, second-child-reads.Learnt, word-at-reads.Asked, word-at-reads.Learnt, first-ending-reads.Asked, first-ending-reads.Learnt, beside-reads.Asked, beside-reads.Learnt, seek-below t, seek.Post, weight-within-reads.Asked, weight-within-reads.Learnt, second-ending-reads.Asked, second-ending-reads.Learnt, sum-reads.Asked, sum-reads.Learnt)
+seek-parallel-calls t = (word-at-reads.Asked, word-at-reads.Learnt, first-ending-reads.Asked, first-ending-reads.Learnt, beside-reads.Asked, beside-reads.Learnt, seek-below t, seek.Post, weight-within-reads.Asked, weight-within-reads.Learnt, second-ending-reads.Asked, second-ending-reads.Learnt, sum-reads.Asked, sum-reads.Learnt)
 
 abbrev seek-running-calls : ℕ → seek-running-lts.Claims
-seek-running-calls t = (first-child-reads.Asked, first-child-reads.Learnt, own-weight-reads.Asked, own-weight-reads.Learnt, seek-marked-below t, seek-marked.Post, second-child-reads.Asked, second-child-reads.Learnt, weight-before-reads.Asked, weight-before-reads.Learnt, seek-below t, seek.Post, seek-second-below t, seek-second.Post)
+seek-running-calls t = (own-weight-reads.Asked, own-weight-reads.Learnt, seek-marked-below t, seek-marked.Post, weight-before-reads.Asked, weight-before-reads.Learnt, seek-below t, seek.Post, seek-second-below t, seek-second.Post)
 
 abbrev seek-second-calls : ℕ → seek-second-lts.Claims
-seek-second-calls t = (weight-inside-reads.Asked, weight-inside-reads.Learnt, second-child-reads.Asked, second-child-reads.Learnt, seek-marked-below t, seek-marked.Post, moves-before-reads.Asked, moves-before-reads.Learnt)
+seek-second-calls t = (weight-inside-reads.Asked, weight-inside-reads.Learnt, seek-marked-below t, seek-marked.Post, moves-before-reads.Asked, moves-before-reads.Learnt)
 
-seek-kind-at-requires : (t : ℕ) → seek-lts.Need-kind-at-requires (seek-calls t) (seek-at t) seek.Post
-seek-kind-at-requires t c κs =
-    let s = c .before .before in
-    s .pre .1 .0 .node .inside
+seek-course-at-requires : (t : ℕ) → seek-lts.Need-course-at-requires (seek-calls t) (seek-at t) seek.Post
+seek-course-at-requires t c κs = c .before .before .before .pre .1 .0
+
+seek-enum-told : (t : ℕ) → seek-lts.Need-enum-told (seek-calls t) (seek-at t) seek.Post
+seek-enum-told t c = search needs
+
+seek-enum-known-course : (t : ℕ) → seek-lts.Need-enum-known-course (seek-calls t) (seek-at t) seek.Post
+seek-enum-known-course t c = search needs
 
 seek-seek-pair-requires : (t : ℕ) → seek-lts.Need-seek-pair-requires (seek-calls t) (seek-at t) seek.Post
-seek-seek-pair-requires t c κs =
-    let s = c .before .before .before .before .before in
-    (s .pre .1 .0, sym (c .before .before .kind-at .ensures) ∙ c .before .match .keys1)
+seek-seek-pair-requires t c κs = (c .before .before .before .before .before .before .before .before .pre .1 .0, sym (c .before .before .before .before .course-at .ensures) ∙ c .before .before .course .given .1)
 
-seek-mode-of-requires : (t : ℕ) → seek-lts.Need-mode-of-requires (seek-calls t) (seek-at t) seek.Post
-seek-mode-of-requires t c κs =
-    let s = c .before .before .before .before .before in
-    s .pre .1 .0 .room
+seek-enum-known-course-2 : (t : ℕ) → seek-lts.Need-enum-known-course-2 (seek-calls t) (seek-at t) seek.Post
+seek-enum-known-course-2 t c = search needs
+
+seek-enum-told-2 : (t : ℕ) → seek-lts.Need-enum-told-2 (seek-calls t) (seek-at t) seek.Post
+seek-enum-told-2 t c = search needs
 
 seek-seek-running-requires : (t : ℕ) → seek-lts.Need-seek-running-requires (seek-calls t) (seek-at t) seek.Post
-seek-seek-running-requires t c κs =
-    let s = c .before .before .before .before .before .before .before .before in
-    (omega (arith, s .pre .0), (record { spot = s .pre .1 .0; closes = s .pre .1 .1 .0; room = s .pre .1 .1 .1 }, (sym (c .before .before .before .before .before .kind-at .ensures) ∙ c .before .before .before .before .match .keys2, sym (c .before .before .mode-of .ensures) ∙ c .before .if1 .taken)))
+seek-seek-running-requires t c κs = (omega (arith, c .before .before .before .before .before .before .before .before .before .before .pre .0), wanted-both (c .before .before .before .before .before .before .before .before .before .before .pre .1 .0) (c .before .before .before .before .before .before .before .before .before .before .pre .1 .1) (c .before .before .before .before .before .before .course-at .ensures) (c .before .before .before .before .course2 .given .1) (c .before .enum-told2 .given .1))
 
-seek-seek-held-requires : (t : ℕ) → seek-lts.Need-seek-held-requires (seek-calls t) (seek-at t) seek.Post
-seek-seek-held-requires t c κs =
-    let s = c .before .before .before .before .before .before .before .before in
-    (omega (arith, s .pre .0), (record { spot = s .pre .1 .0; closes = s .pre .1 .1 .0; room = s .pre .1 .1 .1 }, (sym (c .before .before .before .before .before .kind-at .ensures) ∙ c .before .before .before .before .match .keys2, λ e. c .before .if1 .left (c .before .before .mode-of .ensures ∙ e))))
+seek-enum-told-3 : (t : ℕ) → seek-lts.Need-enum-told-3 (seek-calls t) (seek-at t) seek.Post
+seek-enum-told-3 t c = search needs
 
 seek-seek-choice-requires : (t : ℕ) → seek-lts.Need-seek-choice-requires (seek-calls t) (seek-at t) seek.Post
-seek-seek-choice-requires t c κs =
-    let s = c .before .before .before .before .before in
-    (omega (arith, s .pre .0), (record { spot = s .pre .1 .0; closes = s .pre .1 .1 .0; room = s .pre .1 .1 .1 }, sym (c .before .before .kind-at .ensures) ∙ c .before .match .keys3))
+seek-seek-choice-requires t c κs = (omega (arith, c .before .before .before .before .before .before .before .before .before .before .pre .0), wanted-both (c .before .before .before .before .before .before .before .before .before .before .pre .1 .0) (c .before .before .before .before .before .before .before .before .before .before .pre .1 .1) (c .before .before .before .before .before .before .course-at .ensures) (c .before .before .before .before .course2 .given .1) (c .before .enum-told3 .given .1))
+
+seek-enum-told-4 : (t : ℕ) → seek-lts.Need-enum-told-4 (seek-calls t) (seek-at t) seek.Post
+seek-enum-told-4 t c = search needs
 
 seek-seek-parallel-requires : (t : ℕ) → seek-lts.Need-seek-parallel-requires (seek-calls t) (seek-at t) seek.Post
-seek-seek-parallel-requires t c κs =
-    let s = c .before .before .before .before .before in
-    (omega (arith, s .pre .0), (record { spot = s .pre .1 .0; closes = s .pre .1 .1 .0; room = s .pre .1 .1 .1 }, sym (c .before .before .kind-at .ensures) ∙ c .before .match .keys4))
+seek-seek-parallel-requires t c κs = (omega (arith, c .before .before .before .before .before .before .before .before .before .before .pre .0), wanted-both (c .before .before .before .before .before .before .before .before .before .before .pre .1 .0) (c .before .before .before .before .before .before .before .before .before .before .pre .1 .1) (c .before .before .before .before .before .before .course-at .ensures) (c .before .before .before .before .course2 .given .1) (c .before .enum-told4 .given .1))
+
+seek-enum-known-course-3 : (t : ℕ) → seek-lts.Need-enum-known-course-3 (seek-calls t) (seek-at t) seek.Post
+seek-enum-known-course-3 t c = search needs
+
+seek-seek-held-requires : (t : ℕ) → seek-lts.Need-seek-held-requires (seek-calls t) (seek-at t) seek.Post
+seek-seek-held-requires t c κs = (omega (arith, c .before .before .before .before .before .before .before .before .pre .0), wanted (c .before .before .before .before .before .before .before .before .pre .1 .0) (c .before .before .before .before .before .before .before .before .pre .1 .1) (c .before .before .before .before .course-at .ensures) (c .before .before .course3 .given .1))
+
+seek-enum-known-course-4 : (t : ℕ) → seek-lts.Need-enum-known-course-4 (seek-calls t) (seek-at t) seek.Post
+seek-enum-known-course-4 t c = search needs
+
+seek-seek-requires : (t : ℕ) → seek-lts.Need-seek-requires (seek-calls t) (seek-at t) seek.Post
+seek-seek-requires t c κs = let h = wanted (c .before .before .before .before .before .before .before .before .pre .1 .0) (c .before .before .before .before .before .before .before .before .pre .1 .1) (c .before .before .before .before .course-at .ensures) (c .before .before .course4 .given .1) in let l = as-lower h in (omega (arith, c .before .before .before .before .before .before .before .before .pre .0, l), (lower-spot (c .before .before .before .before .before .before .before .before .pre .1 .0) l, (c .before .before .before .before .before .before .before .before .pre .1 .1 .0, as-room h)))
 
 seek-same-length : (t : ℕ) → seek-lts.Need-same-length (seek-calls t) (seek-at t) seek.Post
-seek-same-length t c = c .before .before .seek-pair .kept .1 .1 .0
+seek-same-length t c = search needs
 
 seek-returns : (t : ℕ) → seek-lts.Need-returns (seek-calls t) (seek-at t) seek.Post
-seek-returns t c =
-    let s = c .before .before .before .before .before .before .before .before in
-    c .before .before .seek-pair .ensures (s .args .g) (s .pre .1 .1 .1)
+seek-returns t c = basic-chosen (wanted (c .before .before .before .before .before .before .pre .1 .0) (c .before .before .before .before .before .before .pre .1 .1) (c .before .before .course-at .ensures) (c .enum-told .given .1))
 
 seek-same-length-2 : (t : ℕ) → seek-lts.Need-same-length-2 (seek-calls t) (seek-at t) seek.Post
-seek-same-length-2 t c = c .before .before .seek-running .kept .1 .1 .0
+seek-same-length-2 t c = c .before .before .seek-pair .kept .1 .0
 
 seek-returns-2 : (t : ℕ) → seek-lts.Need-returns-2 (seek-calls t) (seek-at t) seek.Post
-seek-returns-2 t c = c .before .before .seek-running .ensures
+seek-returns-2 t c = c .before .before .seek-pair .ensures (c .before .before .before .before .before .before .before .before .before .before .before .args .g) (c .before .before .before .before .before .before .before .before .before .before .before .pre .1 .1 .1)
 
 seek-same-length-3 : (t : ℕ) → seek-lts.Need-same-length-3 (seek-calls t) (seek-at t) seek.Post
-seek-same-length-3 t c = c .before .before .seek-held .kept .1 .1 .0
+seek-same-length-3 t c = c .before .before .seek-running .kept .1 .0
 
 seek-returns-3 : (t : ℕ) → seek-lts.Need-returns-3 (seek-calls t) (seek-at t) seek.Post
-seek-returns-3 t c = c .before .before .seek-held .ensures
+seek-returns-3 t c = c .before .before .seek-running .ensures
 
 seek-same-length-4 : (t : ℕ) → seek-lts.Need-same-length-4 (seek-calls t) (seek-at t) seek.Post
-seek-same-length-4 t c = c .before .before .seek-choice .kept .1 .1 .0
+seek-same-length-4 t c = c .before .before .seek-choice .kept .1 .0
 
 seek-returns-4 : (t : ℕ) → seek-lts.Need-returns-4 (seek-calls t) (seek-at t) seek.Post
 seek-returns-4 t c = c .before .before .seek-choice .ensures
 
 seek-same-length-5 : (t : ℕ) → seek-lts.Need-same-length-5 (seek-calls t) (seek-at t) seek.Post
-seek-same-length-5 t c = c .before .before .seek-parallel .kept .1 .1 .0
+seek-same-length-5 t c = c .before .before .seek-parallel .kept .1 .0
 
 seek-returns-5 : (t : ℕ) → seek-lts.Need-returns-5 (seek-calls t) (seek-at t) seek.Post
 seek-returns-5 t c = c .before .before .seek-parallel .ensures
 
+seek-same-length-6 : (t : ℕ) → seek-lts.Need-same-length-6 (seek-calls t) (seek-at t) seek.Post
+seek-same-length-6 t c = c .before .before .seek-held .kept .1 .0
+
 seek-returns-6 : (t : ℕ) → seek-lts.Need-returns-6 (seek-calls t) (seek-at t) seek.Post
-seek-returns-6 t c =
-    let s = c .before .before .before .before in
-    other-chosen (record { spot = s .pre .1 .0; closes = s .pre .1 .1 .0; room = s .pre .1 .1 .1 }) (λ e. c .match .rest .0 .0 .0 .1 (c .before .kind-at .ensures ∙ e)) (λ e. c .match .rest .0 .0 .1 (c .before .kind-at .ensures ∙ e)) (λ e. c .match .rest .0 .1 (c .before .kind-at .ensures ∙ e)) (λ e. c .match .rest .1 (c .before .kind-at .ensures ∙ e))
+seek-returns-6 t c = c .before .before .seek-held .ensures
 
-seek-choice-first-child-requires : (t : ℕ) → seek-choice-lts.Need-first-child-requires (seek-choice-calls t) (seek-choice-at t) seek-choice.Post
-seek-choice-first-child-requires t c κs = search needs
+seek-same-length-7 : (t : ℕ) → seek-lts.Need-same-length-7 (seek-calls t) (seek-at t) seek.Post
+seek-same-length-7 t c = c .before .before .seek .kept .1 .0
 
-seek-choice-second-child-requires : (t : ℕ) → seek-choice-lts.Need-second-child-requires (seek-choice-calls t) (seek-choice-at t) seek-choice.Post
-seek-choice-second-child-requires t c κs = search needs
-
-seek-choice-mode-of-requires : (t : ℕ) → seek-choice-lts.Need-mode-of-requires (seek-choice-calls t) (seek-choice-at t) seek-choice.Post
-seek-choice-mode-of-requires t c κs =
-    let s = c .before .before .before .before .before in
-    s .pre .1 .0 .spot .room
-
-seek-choice-seek-marked-requires : (t : ℕ) → seek-choice-lts.Need-seek-marked-requires (seek-choice-calls t) (seek-choice-at t) seek-choice.Post
-seek-choice-seek-marked-requires t c κs =
-    let s = c .before .before .before .before .before .before .before .before in
-    (omega (arith, s .pre .0), choice-first-below (s .pre .1 .0) (s .pre .1 .1) (c .before .before .before .before .before .first-child .ensures .0) (c .before .before .before .before .second-child .ensures .0) (sym (c .before .before .mode-of .ensures) ∙ c .before .if1 .taken))
-
-seek-choice-same-length : (t : ℕ) → seek-choice-lts.Need-same-length (seek-choice-calls t) (seek-choice-at t) seek-choice.Post
-seek-choice-same-length t c = c .before .before .seek-marked .kept .1 .1 .0
-
-seek-choice-returns : (t : ℕ) → seek-choice-lts.Need-returns (seek-choice-calls t) (seek-choice-at t) seek-choice.Post
-seek-choice-returns t c =
-    let s = c .before .before .before .before .before .before .before .before .before .before .before in
-    choice-first (s .pre .1 .0) (s .pre .1 .1) (c .before .before .before .before .before .before .before .before .first-child .ensures .0) (c .before .before .before .before .before .before .before .second-child .ensures .0) (sym (c .before .before .before .before .before .mode-of .ensures) ∙ c .before .before .before .before .if1 .taken) (c .before .before .seek-marked .ensures)
-
-seek-choice-seek-marked-requires-2 : (t : ℕ) → seek-choice-lts.Need-seek-marked-requires-2 (seek-choice-calls t) (seek-choice-at t) seek-choice.Post
-seek-choice-seek-marked-requires-2 t c κs =
-    let s = c .before .before .before .before .before .before .before .before .before in
-    (omega (arith, s .pre .0), choice-second-below (s .pre .1 .0) (s .pre .1 .1) (c .before .before .before .before .before .before .first-child .ensures .0) (c .before .before .before .before .before .second-child .ensures .0) (λ e. c .before .before .if1 .left (c .before .before .before .mode-of .ensures ∙ e)) (λ e. c .before .if2 .taken (c .before .before .before .mode-of .ensures ∙ e)))
-
-seek-choice-same-length-2 : (t : ℕ) → seek-choice-lts.Need-same-length-2 (seek-choice-calls t) (seek-choice-at t) seek-choice.Post
-seek-choice-same-length-2 t c = c .before .before .seek-marked2 .kept .1 .1 .0
-
-seek-choice-returns-2 : (t : ℕ) → seek-choice-lts.Need-returns-2 (seek-choice-calls t) (seek-choice-at t) seek-choice.Post
-seek-choice-returns-2 t c =
-    let s = c .before .before .before .before .before .before .before .before .before .before .before .before in
-    choice-second (s .pre .1 .0) (s .pre .1 .1) (c .before .before .before .before .before .before .before .before .before .first-child .ensures .0) (c .before .before .before .before .before .before .before .before .second-child .ensures .0) (λ e. c .before .before .before .before .before .if1 .left (c .before .before .before .before .before .before .mode-of .ensures ∙ e)) (λ e. c .before .before .before .before .if2 .taken (c .before .before .before .before .before .before .mode-of .ensures ∙ e)) (c .before .before .seek-marked2 .ensures)
+seek-returns-7 : (t : ℕ) → seek-lts.Need-returns-7 (seek-calls t) (seek-at t) seek.Post
+seek-returns-7 t c = as-chosen (wanted (c .before .before .before .before .before .before .before .before .before .before .before .pre .1 .0) (c .before .before .before .before .before .before .before .before .before .before .before .pre .1 .1) (c .before .before .before .before .before .before .before .course-at .ensures) (c .before .before .before .before .before .course4 .given .1)) (c .before .before .seek .ensures)
 
 seek-choice-weight-by-requires : (t : ℕ) → seek-choice-lts.Need-weight-by-requires (seek-choice-calls t) (seek-choice-at t) seek-choice.Post
-seek-choice-weight-by-requires t c κs =
-    let s = c .before .before .before .before .before .before .before .before .before in
-    lower-spot (s .pre .1 .0 .spot) (omega (arith, c .before .before .before .before .before .before .first-child .ensures .1))
+seek-choice-weight-by-requires t c κs = choice-spot (c .before .before .before .pre .1)
 
-seek-choice-seek-marked-requires-3 : (t : ℕ) → seek-choice-lts.Need-seek-marked-requires-3 (seek-choice-calls t) (seek-choice-at t) seek-choice.Post
-seek-choice-seek-marked-requires-3 t c κs =
-    let s = c .before .before .before .before .before .before .before .before .before .before .before .before in
-    (omega (arith, s .pre .0), open-first-below (s .pre .1 .0) (s .pre .1 .1) (c .before .before .before .before .before .before .before .before .before .first-child .ensures .0) (c .before .before .before .before .before .before .before .before .second-child .ensures .0) (sym (c .before .before .before .before .before .before .mode-of .ensures) ∙ c .before .before .before .before .if2 .left) (c .before .before .weight-by .ensures) (c .before .if3 .taken))
+seek-choice-seek-marked-requires : (t : ℕ) → seek-choice-lts.Need-seek-marked-requires (seek-choice-calls t) (seek-choice-at t) seek-choice.Post
+seek-choice-seek-marked-requires t c κs = (omega (arith, c .before .before .before .before .before .before .pre .0), choice-first-below (c .before .before .before .before .before .before .pre .1) (c .before .before .weight-by .ensures) (c .before .if1 .taken))
 
-seek-choice-seek-marked-requires-4 : (t : ℕ) → seek-choice-lts.Need-seek-marked-requires-4 (seek-choice-calls t) (seek-choice-at t) seek-choice.Post
-seek-choice-seek-marked-requires-4 t c κs =
-    let s = c .before .before .before .before .before .before .before .before .before .before .before .before in
-    (omega (arith, s .pre .0), open-second-below (s .pre .1 .0) (s .pre .1 .1) (c .before .before .before .before .before .before .before .before .before .first-child .ensures .0) (c .before .before .before .before .before .before .before .before .second-child .ensures .0) (sym (c .before .before .before .before .before .before .mode-of .ensures) ∙ c .before .before .before .before .if2 .left) (c .before .before .weight-by .ensures) (c .before .if3 .left))
+seek-choice-seek-marked-requires-2 : (t : ℕ) → seek-choice-lts.Need-seek-marked-requires-2 (seek-choice-calls t) (seek-choice-at t) seek-choice.Post
+seek-choice-seek-marked-requires-2 t c κs = (omega (arith, c .before .before .before .before .before .before .pre .0), choice-second-below (c .before .before .before .before .before .before .pre .1) (c .before .before .weight-by .ensures) (c .before .if1 .left))
 
-seek-choice-same-length-3 : (t : ℕ) → seek-choice-lts.Need-same-length-3 (seek-choice-calls t) (seek-choice-at t) seek-choice.Post
-seek-choice-same-length-3 t c = c .before .before .seek-marked3 .kept .1 .1 .0
+seek-choice-same-length : (t : ℕ) → seek-choice-lts.Need-same-length (seek-choice-calls t) (seek-choice-at t) seek-choice.Post
+seek-choice-same-length t c = c .before .before .seek-marked .kept .1 .0
 
-seek-choice-returns-3 : (t : ℕ) → seek-choice-lts.Need-returns-3 (seek-choice-calls t) (seek-choice-at t) seek-choice.Post
-seek-choice-returns-3 t c =
-    let s = c .before .before .before .before .before .before .before .before .before .before .before .before .before .before .before in
-    open-first (s .pre .1 .0) (s .pre .1 .1) (c .before .before .before .before .before .before .before .before .before .before .before .before .first-child .ensures .0) (c .before .before .before .before .before .before .before .before .before .before .before .second-child .ensures .0) (sym (c .before .before .before .before .before .before .before .before .before .mode-of .ensures) ∙ c .before .before .before .before .before .before .before .if2 .left) (c .before .before .before .before .before .weight-by .ensures) (c .before .before .before .before .if3 .taken) (c .before .before .seek-marked3 .ensures)
+seek-choice-returns : (t : ℕ) → seek-choice-lts.Need-returns (seek-choice-calls t) (seek-choice-at t) seek-choice.Post
+seek-choice-returns t c = choice-first (c .before .before .before .before .before .before .before .before .before .pre .1) (c .before .before .before .before .before .weight-by .ensures) (c .before .before .before .before .if1 .taken) (c .before .before .seek-marked .ensures)
 
-seek-choice-same-length-4 : (t : ℕ) → seek-choice-lts.Need-same-length-4 (seek-choice-calls t) (seek-choice-at t) seek-choice.Post
-seek-choice-same-length-4 t c = c .before .before .seek-marked4 .kept .1 .1 .0
+seek-choice-same-length-2 : (t : ℕ) → seek-choice-lts.Need-same-length-2 (seek-choice-calls t) (seek-choice-at t) seek-choice.Post
+seek-choice-same-length-2 t c = c .before .before .seek-marked2 .kept .1 .0
 
-seek-choice-returns-4 : (t : ℕ) → seek-choice-lts.Need-returns-4 (seek-choice-calls t) (seek-choice-at t) seek-choice.Post
-seek-choice-returns-4 t c =
-    let s = c .before .before .before .before .before .before .before .before .before .before .before .before .before .before .before in
-    open-second (s .pre .1 .0) (s .pre .1 .1) (c .before .before .before .before .before .before .before .before .before .before .before .before .first-child .ensures .0) (c .before .before .before .before .before .before .before .before .before .before .before .second-child .ensures .0) (sym (c .before .before .before .before .before .before .before .before .before .mode-of .ensures) ∙ c .before .before .before .before .before .before .before .if2 .left) (c .before .before .before .before .before .weight-by .ensures) (c .before .before .before .before .if3 .left) (c .before .before .seek-marked4 .ensures)
+seek-choice-returns-2 : (t : ℕ) → seek-choice-lts.Need-returns-2 (seek-choice-calls t) (seek-choice-at t) seek-choice.Post
+seek-choice-returns-2 t c = choice-second (c .before .before .before .before .before .before .before .before .before .pre .1) (c .before .before .before .before .before .weight-by .ensures) (c .before .before .before .before .if1 .left) (c .before .before .seek-marked2 .ensures)
 
-seek-held-first-child-requires : (t : ℕ) → seek-held-lts.Need-first-child-requires (seek-held-calls t) (seek-held-at t) seek-held.Post
-seek-held-first-child-requires t c κs = search needs
-
-seek-held-count-left-requires : (t : ℕ) → seek-held-lts.Need-count-left-requires (seek-held-calls t) (seek-held-at t) seek-held.Post
-seek-held-count-left-requires t c κs =
-    let s = c .before .before .before .before .before in
-    lower-spot (s .pre .1 .0 .spot) (omega (arith, c .first-child .ensures .1))
+seek-held-count-std-requires : (t : ℕ) → seek-held-lts.Need-count-std-requires (seek-held-calls t) (seek-held-at t) seek-held.Post
+seek-held-count-std-requires t c κs = held-spot (c .before .before .before .before .pre .1)
 
 seek-held-seek-second-requires : (t : ℕ) → seek-held-lts.Need-seek-second-requires (seek-held-calls t) (seek-held-at t) seek-held.Post
-seek-held-seek-second-requires t c κs =
-    let s = c .before .before .before .before .before .before .before in
-    (omega (arith, s .pre .0), held-follows (s .pre .1 .0) (s .pre .1 .1 .0) (s .pre .1 .1 .1) (c .before .before .first-child .ensures .0) (c .before .count-left .ensures))
+seek-held-seek-second-requires t c κs = (omega (arith, c .before .before .before .before .before .before .pre .0), held-wanted (c .before .before .before .before .before .before .pre .1) (c .before .count-std .ensures))
 
 seek-held-same-length : (t : ℕ) → seek-held-lts.Need-same-length (seek-held-calls t) (seek-held-at t) seek-held.Post
-seek-held-same-length t c = c .before .before .seek-second .kept .1 .1 .0
+seek-held-same-length t c = c .before .before .seek-second .kept .1 .0
 
 seek-held-returns : (t : ℕ) → seek-held-lts.Need-returns (seek-held-calls t) (seek-held-at t) seek-held.Post
-seek-held-returns t c =
-    let s = c .before .before .before .before .before .before .before .before .before .before in
-    held-chosen (s .pre .1 .0) (s .pre .1 .1 .0) (s .pre .1 .1 .1) (c .before .before .seek-second .ensures)
+seek-held-returns t c = held-chosen (c .before .before .before .before .before .before .before .before .before .pre .1) (c .before .before .seek-second .ensures)
 
 seek-marked-set-mode-requires : (t : ℕ) → seek-marked-lts.Need-set-mode-requires (seek-marked-calls t) (seek-marked-at t) seek-marked.Post
-seek-marked-set-mode-requires t c κs =
-    let s = c .before .before .before in
-    s .pre .1 .spot .room
+seek-marked-set-mode-requires t c κs = c .before .before .before .pre .1 .spot .room
 
 seek-marked-seek-requires : (t : ℕ) → seek-marked-lts.Need-seek-requires (seek-marked-calls t) (seek-marked-at t) seek-marked.Post
-seek-marked-seek-requires t c κs =
-    let s = c .before .before .before .before .before .before .before in
-    let b = s .pre .1 in
-    let l = kid-lower (s .args .ns .now) (b .spot .node .sound .tree) (b .kid) in
-    (omega (arith, s .pre .0), (below-spot _ (c .before .before .before .set-mode .ensures) b, (b .closes, below-room _ (c .before .before .before .set-mode .ensures) b)))
+seek-marked-seek-requires t c κs = let b = c .before .before .before .before .before .before .before .pre .1 in let l = kid-lower (c .before .before .before .before .before .before .before .args .ns .now) (b .spot .node .sound .tree) (b .kid) in (omega (arith, c .before .before .before .before .before .before .before .pre .0), (below-spot _ (c .before .before .before .set-mode .ensures) b, (b .closes, below-room _ (c .before .before .before .set-mode .ensures) b)))
 
 seek-marked-same-length : (t : ℕ) → seek-marked-lts.Need-same-length (seek-marked-calls t) (seek-marked-at t) seek-marked.Post
-seek-marked-same-length t c = c .before .before .seek .kept .1 .1 .0 ∙ c .before .before .before .before .before .before .set-mode .kept .0
+seek-marked-same-length t c = c .before .before .seek .kept .1 .0 ∙ c .before .before .before .before .before .before .set-mode .kept .0
 
 seek-marked-returns : (t : ℕ) → seek-marked-lts.Need-returns (seek-marked-calls t) (seek-marked-at t) seek-marked.Post
-seek-marked-returns t c =
-    let s = c .before .before .before .before .before .before .before .before .before .before in
-    below-marked _ (c .before .before .before .before .before .before .set-mode .ensures) (s .pre .1) (c .before .before .seek .ensures)
-
-seek-parallel-first-child-requires : (t : ℕ) → seek-parallel-lts.Need-first-child-requires (seek-parallel-calls t) (seek-parallel-at t) seek-parallel.Post
-seek-parallel-first-child-requires t c κs = search needs
-
-seek-parallel-second-child-requires : (t : ℕ) → seek-parallel-lts.Need-second-child-requires (seek-parallel-calls t) (seek-parallel-at t) seek-parallel.Post
-seek-parallel-second-child-requires t c κs = search needs
+seek-marked-returns t c = below-chosen _ (c .before .before .before .before .before .before .set-mode .ensures) (c .before .before .before .before .before .before .before .before .before .before .pre .1) (c .before .before .seek .ensures)
 
 seek-parallel-word-at-requires : (t : ℕ) → seek-parallel-lts.Need-word-at-requires (seek-parallel-calls t) (seek-parallel-at t) seek-parallel.Post
-seek-parallel-word-at-requires t c κs =
-    let s = c .before .before .before .before .before in
-    lower-spot (s .pre .1 .0 .spot) (omega (arith, c .before .before .first-child .ensures .1))
+seek-parallel-word-at-requires t c κs = lower-spot (c .before .before .before .pre .1 .spot) (parallel-first (c .before .before .before .pre .1))
 
 seek-parallel-word-at-requires-2 : (t : ℕ) → seek-parallel-lts.Need-word-at-requires-2 (seek-parallel-calls t) (seek-parallel-at t) seek-parallel.Post
-seek-parallel-word-at-requires-2 t c κs =
-    let s = c .before .before .before .before .before .before .before in
-    lower-spot (s .pre .1 .0 .spot) (omega (arith, c .before .before .before .second-child .ensures .1))
+seek-parallel-word-at-requires-2 t c κs = lower-spot (c .before .before .before .before .before .pre .1 .spot) (parallel-second (c .before .before .before .before .before .pre .1))
 
 seek-parallel-first-ending-requires : (t : ℕ) → seek-parallel-lts.Need-first-ending-requires (seek-parallel-calls t) (seek-parallel-at t) seek-parallel.Post
-seek-parallel-first-ending-requires t c κs =
-    let s = c .before .before .before .before .before .before .before .before in
-    s .pre .1 .0 .closes
+seek-parallel-first-ending-requires t c κs = c .before .before .before .before .before .before .pre .1 .closes
 
 seek-parallel-beside-requires : (t : ℕ) → seek-parallel-lts.Need-beside-requires (seek-parallel-calls t) (seek-parallel-at t) seek-parallel.Post
-seek-parallel-beside-requires t c κs =
-    let s = c .before .before .before .before .before .before .before .before .before .before in
-    (s .pre .1 .0 .closes, c .before .first-ending .ensures .small)
+seek-parallel-beside-requires t c κs = (c .before .before .before .before .before .before .before .before .pre .1 .closes, c .before .first-ending .ensures .small)
 
 seek-parallel-seek-requires : (t : ℕ) → seek-parallel-lts.Need-seek-requires (seek-parallel-calls t) (seek-parallel-at t) seek-parallel.Post
-seek-parallel-seek-requires t c κs =
-    let s = c .before .before .before .before .before .before .before .before .before .before .before in
-    (omega (arith, s .pre .0, c .before .before .before .before .before .before .before .before .first-child .ensures .1), (lower-spot (s .pre .1 .0 .spot) (omega (arith, c .before .before .before .before .before .before .before .before .first-child .ensures .1)), (c .before .before .first-ending .ensures .small, par-first-room (s .pre .1 .0) (s .pre .1 .1) (c .before .before .before .before .before .before .before .before .first-child .ensures .0) (c .before .before .before .before .before .before .before .second-child .ensures .0) (c .before .before .before .before .before .word-at .ensures) (c .before .before .before .word-at2 .ensures) (c .before .before .first-ending .ensures) (c .beside .ensures))))
+seek-parallel-seek-requires t c κs = let l = parallel-first (c .before .before .before .before .before .before .before .before .before .pre .1) in (omega (arith, c .before .before .before .before .before .before .before .before .before .pre .0, l), (lower-spot (c .before .before .before .before .before .before .before .before .before .pre .1 .spot) l, (c .before .before .first-ending .ensures .small, par-first-room (c .before .before .before .before .before .before .before .before .before .pre .1) (c .before .before .before .before .before .word-at .ensures) (c .before .before .before .word-at2 .ensures) (c .before .before .first-ending .ensures) (c .beside .ensures))))
 
 seek-parallel-weight-within-requires : (t : ℕ) → seek-parallel-lts.Need-weight-within-requires (seek-parallel-calls t) (seek-parallel-at t) seek-parallel.Post
 seek-parallel-weight-within-requires t c κs = search needs
 
 seek-parallel-second-ending-requires : (t : ℕ) → seek-parallel-lts.Need-second-ending-requires (seek-parallel-calls t) (seek-parallel-at t) seek-parallel.Post
-seek-parallel-second-ending-requires t c κs =
-    let s = c .before .before .before .before .before .before .before .before .before .before .before .before .before .before .before in
-    (s .pre .1 .0 .closes, c .before .before .before .before .before .before .first-ending .ensures .small)
+seek-parallel-second-ending-requires t c κs = (c .before .before .before .before .before .before .before .before .before .before .before .before .before .pre .1 .closes, c .before .before .before .before .before .before .first-ending .ensures .small)
 
 seek-parallel-seek-requires-2 : (t : ℕ) → seek-parallel-lts.Need-seek-requires-2 (seek-parallel-calls t) (seek-parallel-at t) seek-parallel.Post
-seek-parallel-seek-requires-2 t c κs =
-    let s = c .before .before .before .before .before .before .before .before .before .before .before .before .before .before .before .before .before in
-    (omega (arith, s .pre .0, c .before .before .before .before .before .before .before .before .before .before .before .before .before .second-child .ensures .1), (same-room (lower-spot (s .pre .1 .0 .spot) (omega (arith, c .before .before .before .before .before .before .before .before .before .before .before .before .before .second-child .ensures .1))) (c .before .before .before .before .before .seek .kept .1 .1 .0), (c .before .second-ending .ensures .small, par-second-room (s .pre .1 .0) (s .pre .1 .1) (c .before .before .before .before .before .before .before .before .before .before .before .before .before .before .first-child .ensures .0) (c .before .before .before .before .before .before .before .before .before .before .before .before .before .second-child .ensures .0) (c .before .before .before .before .before .before .before .before .before .before .before .word-at .ensures) (c .before .before .before .before .before .before .before .before .before .word-at2 .ensures) (c .before .before .before .before .before .before .before .before .first-ending .ensures) (c .before .before .before .before .before .before .beside .ensures) (c .before .before .before .before .before .seek .ensures) (c .before .before .weight-within .ensures) (c .before .second-ending .ensures))))
+seek-parallel-seek-requires-2 t c κs = let l = parallel-second (c .before .before .before .before .before .before .before .before .before .before .before .before .before .before .before .pre .1) in (omega (arith, c .before .before .before .before .before .before .before .before .before .before .before .before .before .before .before .pre .0, l), (same-room (lower-spot (c .before .before .before .before .before .before .before .before .before .before .before .before .before .before .before .pre .1 .spot) l) (c .before .before .before .before .before .seek .kept .1 .0), (c .before .second-ending .ensures .small, par-second-room (c .before .before .before .before .before .before .before .before .before .before .before .before .before .before .before .pre .1) (c .before .before .before .before .before .before .before .before .before .before .before .word-at .ensures) (c .before .before .before .before .before .before .before .before .before .word-at2 .ensures) (c .before .before .before .before .before .before .before .before .first-ending .ensures) (c .before .before .before .before .before .before .beside .ensures) (c .before .before .before .before .before .seek .ensures) (c .before .before .weight-within .ensures) (c .before .second-ending .ensures))))
 
 seek-parallel-sum-requires : (t : ℕ) → seek-parallel-lts.Need-sum-requires (seek-parallel-calls t) (seek-parallel-at t) seek-parallel.Post
 seek-parallel-sum-requires t c κs = search needs
 
 seek-parallel-same-length : (t : ℕ) → seek-parallel-lts.Need-same-length (seek-parallel-calls t) (seek-parallel-at t) seek-parallel.Post
-seek-parallel-same-length t c = c .before .before .before .before .before .seek2 .kept .1 .1 .0 ∙ c .before .before .before .before .before .before .before .before .before .before .before .seek .kept .1 .1 .0
+seek-parallel-same-length t c = c .before .before .before .before .before .seek2 .kept .1 .0 ∙ c .before .before .before .before .before .before .before .before .before .before .before .seek .kept .1 .0
 
 seek-parallel-returns : (t : ℕ) → seek-parallel-lts.Need-returns (seek-parallel-calls t) (seek-parallel-at t) seek-parallel.Post
-seek-parallel-returns t c =
-    let s = c .before .before .before .before .before .before .before .before .before .before .before .before .before .before .before .before .before .before .before .before .before .before .before in
-    rw (c .before .before .sum .ensures) (par-chosen (s .pre .1 .0) (s .pre .1 .1) (c .before .before .before .before .before .before .before .before .before .before .before .before .before .before .before .before .before .before .before .before .first-child .ensures .0) (c .before .before .before .before .before .before .before .before .before .before .before .before .before .before .before .before .before .before .before .second-child .ensures .0) (c .before .before .before .before .before .before .before .before .before .before .before .before .before .before .before .before .before .word-at .ensures) (c .before .before .before .before .before .before .before .before .before .before .before .before .before .before .before .word-at2 .ensures) (c .before .before .before .before .before .before .before .before .before .before .before .before .before .before .first-ending .ensures) (c .before .before .before .before .before .before .before .before .before .before .before .before .beside .ensures) (c .before .before .before .before .before .before .before .before .before .before .before .seek .ensures) (c .before .before .before .before .before .before .before .before .weight-within .ensures) (c .before .before .before .before .before .before .before .second-ending .ensures) (c .before .before .before .before .before .seek2 .ensures))
-
-seek-running-first-child-requires : (t : ℕ) → seek-running-lts.Need-first-child-requires (seek-running-calls t) (seek-running-at t) seek-running.Post
-seek-running-first-child-requires t c κs = search needs
+seek-parallel-returns t c = rw (c .before .before .sum .ensures) (par-chosen (c .before .before .before .before .before .before .before .before .before .before .before .before .before .before .before .before .before .before .before .before .before .pre .1) (c .before .before .before .before .before .before .before .before .before .before .before .before .before .before .before .before .before .word-at .ensures) (c .before .before .before .before .before .before .before .before .before .before .before .before .before .before .before .word-at2 .ensures) (c .before .before .before .before .before .before .before .before .before .before .before .before .before .before .first-ending .ensures) (c .before .before .before .before .before .before .before .before .before .before .before .before .beside .ensures) (c .before .before .before .before .before .before .before .before .before .before .before .seek .ensures) (c .before .before .before .before .before .before .before .before .weight-within .ensures) (c .before .before .before .before .before .before .before .second-ending .ensures) (c .before .before .before .before .before .seek2 .ensures))
 
 seek-running-own-weight-requires : (t : ℕ) → seek-running-lts.Need-own-weight-requires (seek-running-calls t) (seek-running-at t) seek-running.Post
-seek-running-own-weight-requires t c κs =
-    let s = c .before .before .before .before in
-    lower-spot (s .pre .1 .0 .spot) (omega (arith, c .before .first-child .ensures .1))
+seek-running-own-weight-requires t c κs = running-first (c .before .before .before .pre .1)
 
 seek-running-seek-marked-requires : (t : ℕ) → seek-running-lts.Need-seek-marked-requires (seek-running-calls t) (seek-running-at t) seek-running.Post
-seek-running-seek-marked-requires t c κs =
-    let s = c .before .before .before .before .before .before .before in
-    (omega (arith, s .pre .0), own-below (s .pre .1 .0) (s .pre .1 .1 .0) (s .pre .1 .1 .1) (c .before .before .before .before .first-child .ensures .0) (c .before .before .own-weight .ensures) (c .before .if1 .taken))
+seek-running-seek-marked-requires t c κs = (omega (arith, c .before .before .before .before .before .before .pre .0), own-below (c .before .before .before .before .before .before .pre .1) (c .before .before .own-weight .ensures) (c .before .if1 .taken))
 
 seek-running-same-length : (t : ℕ) → seek-running-lts.Need-same-length (seek-running-calls t) (seek-running-at t) seek-running.Post
-seek-running-same-length t c = c .before .before .seek-marked .kept .1 .1 .0
+seek-running-same-length t c = c .before .before .seek-marked .kept .1 .0
 
 seek-running-returns : (t : ℕ) → seek-running-lts.Need-returns (seek-running-calls t) (seek-running-at t) seek-running.Post
-seek-running-returns t c =
-    let s = c .before .before .before .before .before .before .before .before .before .before in
-    own-chosen (s .pre .1 .0) (s .pre .1 .1 .0) (s .pre .1 .1 .1) (c .before .before .before .before .before .before .before .first-child .ensures .0) (c .before .before .before .before .before .own-weight .ensures) (c .before .before .before .before .if1 .taken) (c .before .before .seek-marked .ensures)
-
-seek-running-second-child-requires : (t : ℕ) → seek-running-lts.Need-second-child-requires (seek-running-calls t) (seek-running-at t) seek-running.Post
-seek-running-second-child-requires t c κs = search needs
+seek-running-returns t c = own-chosen (c .before .before .before .before .before .before .before .before .before .pre .1) (c .before .before .before .before .before .own-weight .ensures) (c .before .before .before .before .if1 .taken) (c .before .before .seek-marked .ensures)
 
 seek-running-weight-before-requires : (t : ℕ) → seek-running-lts.Need-weight-before-requires (seek-running-calls t) (seek-running-at t) seek-running.Post
-seek-running-weight-before-requires t c κs =
-    let s = c .before .before .before .before .before .before .before .before in
-    lower-spot (s .pre .1 .0 .spot) (omega (arith, c .second-child .ensures .1))
+seek-running-weight-before-requires t c κs = running-second (c .before .before .before .before .before .before .pre .1)
 
 seek-running-seek-requires : (t : ℕ) → seek-running-lts.Need-seek-requires (seek-running-calls t) (seek-running-at t) seek-running.Post
-seek-running-seek-requires t c κs =
-    let s = c .before .before .before .before .before .before .before .before .before .before in
-    (omega (arith, s .pre .0, c .before .before .before .before .before .before .before .first-child .ensures .1), (both-spot (s .pre .1 .0) (s .pre .1 .1 .0) (s .pre .1 .1 .1) (c .before .before .before .before .before .before .before .first-child .ensures .0) (c .before .before .before .before .before .own-weight .ensures) (c .before .before .before .before .if1 .left) (c .before .before .second-child .ensures .0) (c .before .weight-before .ensures), (omega arith, both-room (s .pre .1 .0) (s .pre .1 .1 .0) (s .pre .1 .1 .1) (c .before .before .before .before .before .before .before .first-child .ensures .0) (c .before .before .before .before .before .own-weight .ensures) (c .before .before .before .before .if1 .left) (c .before .before .second-child .ensures .0) (c .before .weight-before .ensures))))
+seek-running-seek-requires t c κs = let l = running-lower (c .before .before .before .before .before .before .before .before .pre .1) in (omega (arith, c .before .before .before .before .before .before .before .before .pre .0, l), (running-first (c .before .before .before .before .before .before .before .before .pre .1), (omega arith, both-room (c .before .before .before .before .before .before .before .before .pre .1) (c .before .before .before .before .own-weight .ensures) (c .before .before .before .if1 .left) (c .before .weight-before .ensures))))
 
 seek-running-seek-second-requires : (t : ℕ) → seek-running-lts.Need-seek-second-requires (seek-running-calls t) (seek-running-at t) seek-running.Post
-seek-running-seek-second-requires t c κs =
-    let s = c .before .before .before .before .before .before .before .before .before .before .before .before .before .before in
-    (omega (arith, s .pre .0), both-follows (s .pre .1 .0) (s .pre .1 .1 .0) (s .pre .1 .1 .1) (c .before .before .before .before .before .before .before .before .before .before .before .first-child .ensures .0) (c .before .before .before .before .before .before .before .before .before .own-weight .ensures) (c .before .before .before .before .before .before .before .before .if1 .left) (c .before .before .before .before .before .before .second-child .ensures .0) (c .before .before .before .before .before .weight-before .ensures) (c .before .before .before .seek .ensures) (c .before .before .before .seek .kept .1 .1 .0))
+seek-running-seek-second-requires t c κs = (omega (arith, c .before .before .before .before .before .before .before .before .before .before .before .before .pre .0), both-wanted (c .before .before .before .before .before .before .before .before .before .before .before .before .pre .1) (c .before .before .before .before .before .before .before .before .own-weight .ensures) (c .before .before .before .before .before .before .before .if1 .left) (c .before .before .before .before .before .weight-before .ensures) (c .before .before .before .seek .ensures) (c .before .before .before .seek .kept .1 .0))
 
 seek-running-same-length-2 : (t : ℕ) → seek-running-lts.Need-same-length-2 (seek-running-calls t) (seek-running-at t) seek-running.Post
-seek-running-same-length-2 t c = c .before .before .seek-second .kept .1 .1 .0 ∙ c .before .before .before .before .before .before .seek .kept .1 .1 .0
+seek-running-same-length-2 t c = c .before .before .seek-second .kept .1 .0 ∙ c .before .before .before .before .before .before .seek .kept .1 .0
 
 seek-running-returns-2 : (t : ℕ) → seek-running-lts.Need-returns-2 (seek-running-calls t) (seek-running-at t) seek-running.Post
-seek-running-returns-2 t c =
-    let s = c .before .before .before .before .before .before .before .before .before .before .before .before .before .before .before .before .before in
-    both-chosen (s .pre .1 .0) (s .pre .1 .1 .0) (s .pre .1 .1 .1) (c .before .before .before .before .before .before .before .before .before .before .before .before .before .before .first-child .ensures .0) (c .before .before .before .before .before .before .before .before .before .before .before .before .own-weight .ensures) (c .before .before .before .before .before .before .before .before .before .before .before .if1 .left) (c .before .before .before .before .before .before .before .before .before .second-child .ensures .0) (c .before .before .before .before .before .before .before .before .weight-before .ensures) (c .before .before .before .before .before .before .seek .ensures) (c .before .before .seek-second .ensures)
+seek-running-returns-2 t c = both-chosen (c .before .before .before .before .before .before .before .before .before .before .before .before .before .before .before .pre .1) (c .before .before .before .before .before .before .before .before .before .before .before .own-weight .ensures) (c .before .before .before .before .before .before .before .before .before .before .if1 .left) (c .before .before .before .before .before .before .before .before .weight-before .ensures) (c .before .before .before .before .before .before .seek .ensures) (c .before .before .seek-second .ensures)
 
 seek-second-weight-inside-requires : (t : ℕ) → seek-second-lts.Need-weight-inside-requires (seek-second-calls t) (seek-second-at t) seek-second.Post
 seek-second-weight-inside-requires t c κs = search needs
 
-seek-second-second-child-requires : (t : ℕ) → seek-second-lts.Need-second-child-requires (seek-second-calls t) (seek-second-at t) seek-second.Post
-seek-second-second-child-requires t c κs = search needs
-
 seek-second-seek-marked-requires : (t : ℕ) → seek-second-lts.Need-seek-marked-requires (seek-second-calls t) (seek-second-at t) seek-second.Post
-seek-second-seek-marked-requires t c κs =
-    let s = c .before .before .before .before .before in
-    (omega (arith, s .pre .0), second-below (s .pre .1) (c .before .second-child .ensures .0) (c .before .before .weight-inside .ensures))
+seek-second-seek-marked-requires t c κs = (omega (arith, c .before .before .before .before .pre .0), second-below (c .before .before .before .before .pre .1) (c .before .weight-inside .ensures))
 
 seek-second-moves-before-requires : (t : ℕ) → seek-second-lts.Need-moves-before-requires (seek-second-calls t) (seek-second-at t) seek-second.Post
 seek-second-moves-before-requires t c κs = search needs
 
 seek-second-same-length : (t : ℕ) → seek-second-lts.Need-same-length (seek-second-calls t) (seek-second-at t) seek-second.Post
-seek-second-same-length t c = c .before .before .before .before .before .seek-marked .kept .1 .1 .0
+seek-second-same-length t c = c .before .before .before .before .before .seek-marked .kept .1 .0
 
 seek-second-returns : (t : ℕ) → seek-second-lts.Need-returns (seek-second-calls t) (seek-second-at t) seek-second.Post
-seek-second-returns t c =
-    let s = c .before .before .before .before .before .before .before .before .before .before .before in
-    rw (c .before .before .moves-before .ensures) (second-followed (s .pre .1) (c .before .before .before .before .before .before .before .second-child .ensures .0) (c .before .before .before .before .before .before .before .before .weight-inside .ensures) (c .before .before .before .before .before .seek-marked .ensures))
+seek-second-returns t c = rw (c .before .before .moves-before .ensures) (second-chosen (c .before .before .before .before .before .before .before .before .before .before .pre .1) (c .before .before .before .before .before .before .before .weight-inside .ensures) (c .before .before .before .before .before .seek-marked .ensures))
 
 pub +seek+seek-choice+seek-held+seek-marked+seek-parallel+seek-running+seek-second-spec :
     {M : Type 1} → statement M
-+seek+seek-choice+seek-held+seek-marked+seek-parallel+seek-running+seek-second-spec = close μ-seek μ-seek-choice μ-seek-held μ-seek-marked μ-seek-parallel μ-seek-running μ-seek-second (λ t. seek-lts.spec (seek-calls t) (seek-at t) seek.Post (seek-kind-at-requires t) (seek-seek-pair-requires t) (seek-mode-of-requires t) (seek-seek-running-requires t) (seek-seek-held-requires t) (seek-seek-choice-requires t) (seek-seek-parallel-requires t) (seek-same-length t) (seek-returns t) (seek-same-length-2 t) (seek-returns-2 t) (seek-same-length-3 t) (seek-returns-3 t) (seek-same-length-4 t) (seek-returns-4 t) (seek-same-length-5 t) (seek-returns-5 t) (seek-returns-6 t)) (λ t. seek-choice-lts.spec (seek-choice-calls t) (seek-choice-at t) seek-choice.Post (seek-choice-first-child-requires t) (seek-choice-second-child-requires t) (seek-choice-mode-of-requires t) (seek-choice-seek-marked-requires t) (seek-choice-same-length t) (seek-choice-returns t) (seek-choice-seek-marked-requires-2 t) (seek-choice-same-length-2 t) (seek-choice-returns-2 t) (seek-choice-weight-by-requires t) (seek-choice-seek-marked-requires-3 t) (seek-choice-seek-marked-requires-4 t) (seek-choice-same-length-3 t) (seek-choice-returns-3 t) (seek-choice-same-length-4 t) (seek-choice-returns-4 t)) (λ t. seek-held-lts.spec (seek-held-calls t) (seek-held-at t) seek-held.Post (seek-held-first-child-requires t) (seek-held-count-left-requires t) (seek-held-seek-second-requires t) (seek-held-same-length t) (seek-held-returns t)) (λ t. seek-marked-lts.spec (seek-marked-calls t) (seek-marked-at t) seek-marked.Post (seek-marked-set-mode-requires t) (seek-marked-seek-requires t) (seek-marked-same-length t) (seek-marked-returns t)) (λ t. seek-parallel-lts.spec (seek-parallel-calls t) (seek-parallel-at t) seek-parallel.Post (seek-parallel-first-child-requires t) (seek-parallel-second-child-requires t) (seek-parallel-word-at-requires t) (seek-parallel-word-at-requires-2 t) (seek-parallel-first-ending-requires t) (seek-parallel-beside-requires t) (seek-parallel-seek-requires t) (seek-parallel-weight-within-requires t) (seek-parallel-second-ending-requires t) (seek-parallel-seek-requires-2 t) (seek-parallel-sum-requires t) (seek-parallel-same-length t) (seek-parallel-returns t)) (λ t. seek-running-lts.spec (seek-running-calls t) (seek-running-at t) seek-running.Post (seek-running-first-child-requires t) (seek-running-own-weight-requires t) (seek-running-seek-marked-requires t) (seek-running-same-length t) (seek-running-returns t) (seek-running-second-child-requires t) (seek-running-weight-before-requires t) (seek-running-seek-requires t) (seek-running-seek-second-requires t) (seek-running-same-length-2 t) (seek-running-returns-2 t)) λ t. seek-second-lts.spec (seek-second-calls t) (seek-second-at t) seek-second.Post (seek-second-weight-inside-requires t) (seek-second-second-child-requires t) (seek-second-seek-marked-requires t) (seek-second-moves-before-requires t) (seek-second-same-length t) (seek-second-returns t)
++seek+seek-choice+seek-held+seek-marked+seek-parallel+seek-running+seek-second-spec = close μ-seek μ-seek-choice μ-seek-held μ-seek-marked μ-seek-parallel μ-seek-running μ-seek-second (λ t. seek-lts.spec (seek-calls t) (seek-at t) seek.Post (seek-course-at-requires t) (seek-enum-told t) (seek-enum-known-course t) (seek-seek-pair-requires t) (seek-enum-known-course-2 t) (seek-enum-told-2 t) (seek-seek-running-requires t) (seek-enum-told-3 t) (seek-seek-choice-requires t) (seek-enum-told-4 t) (seek-seek-parallel-requires t) (seek-enum-known-course-3 t) (seek-seek-held-requires t) (seek-enum-known-course-4 t) (seek-seek-requires t) (seek-same-length t) (seek-returns t) (seek-same-length-2 t) (seek-returns-2 t) (seek-same-length-3 t) (seek-returns-3 t) (seek-same-length-4 t) (seek-returns-4 t) (seek-same-length-5 t) (seek-returns-5 t) (seek-same-length-6 t) (seek-returns-6 t) (seek-same-length-7 t) (seek-returns-7 t)) (λ t. seek-choice-lts.spec (seek-choice-calls t) (seek-choice-at t) seek-choice.Post (seek-choice-weight-by-requires t) (seek-choice-seek-marked-requires t) (seek-choice-seek-marked-requires-2 t) (seek-choice-same-length t) (seek-choice-returns t) (seek-choice-same-length-2 t) (seek-choice-returns-2 t)) (λ t. seek-held-lts.spec (seek-held-calls t) (seek-held-at t) seek-held.Post (seek-held-count-std-requires t) (seek-held-seek-second-requires t) (seek-held-same-length t) (seek-held-returns t)) (λ t. seek-marked-lts.spec (seek-marked-calls t) (seek-marked-at t) seek-marked.Post (seek-marked-set-mode-requires t) (seek-marked-seek-requires t) (seek-marked-same-length t) (seek-marked-returns t)) (λ t. seek-parallel-lts.spec (seek-parallel-calls t) (seek-parallel-at t) seek-parallel.Post (seek-parallel-word-at-requires t) (seek-parallel-word-at-requires-2 t) (seek-parallel-first-ending-requires t) (seek-parallel-beside-requires t) (seek-parallel-seek-requires t) (seek-parallel-weight-within-requires t) (seek-parallel-second-ending-requires t) (seek-parallel-seek-requires-2 t) (seek-parallel-sum-requires t) (seek-parallel-same-length t) (seek-parallel-returns t)) (λ t. seek-running-lts.spec (seek-running-calls t) (seek-running-at t) seek-running.Post (seek-running-own-weight-requires t) (seek-running-seek-marked-requires t) (seek-running-same-length t) (seek-running-returns t) (seek-running-weight-before-requires t) (seek-running-seek-requires t) (seek-running-seek-second-requires t) (seek-running-same-length-2 t) (seek-running-returns-2 t)) λ t. seek-second-lts.spec (seek-second-calls t) (seek-second-at t) seek-second.Post (seek-second-weight-inside-requires t) (seek-second-seek-marked-requires t) (seek-second-moves-before-requires t) (seek-second-same-length t) (seek-second-returns t)
