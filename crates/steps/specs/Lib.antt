@@ -1,6 +1,6 @@
 -- Definitions.
 pub mod Turns
 -- Theorems.
+pub mod AfterLaws
 pub mod NodeLaws
-pub mod KindLaws
 pub mod TurnLaws

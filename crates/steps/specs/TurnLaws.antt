@@ -1,398 +1,441 @@
--- One lemma for each way in which the code hands a step down or makes it. Each takes what the code has learnt, in the code's
--- order, and concludes Turned, or Stepped where nothing is handed down. Assumes nothing.
-use Prim.Native.Nat.{ℕ, _*_, _-_, _<_, _≤_}
-use mathlib.Core.Path.{_≡_, refl, sym, _∙_, ap, subst, subst₂}
-use mathlib.Core.Bool.{Bool, cond}
+-- How the step of a node is handed down, by what is left of the node: to the first or the second of two live parts, to the one part
+-- that is left, into a block or out of it. What has no live part makes its step itself, or has none. Assumes nothing.
+use Prim.Native.Nat.{ℕ, _<_, _≤_, _-_}
+use mathlib.Core.Path.{_≡_, refl, sym, _∙_, ap, subst}
+use mathlib.Core.Bool.{true, false, true≢false, _&&_}
 use mathlib.Core.List.{List}
-use mathlib.Core.Logic.{_≢_}
 use native.Mathlib.Omega.{arith}
 use lib.Dec.{T}
-use lib.ListN.{length, getD, set}
-use borrow.Author.Tests.{lt-ltb, le-ltb}
-use Rattle.calculus.specs.Term.{done, failed}
-use Rattle.calculus.specs.Successors.{comps, csteps}
-use Rattle.flow.specs.Kinds.{Kind, Event, Blk, Pair, CSeq, kindOf, kind, one-of, two-of, shape}
-use Rattle.flow.specs.Nodes.{Kid, Tree}
+use lib.ListN.{length, set}
+use Rattle.calculus.specs.Term.{leaf, Std, Cmp, done, failed, skip, throw, yield, seq, par, hnd, blk, pair, cseq, cpar, held}
+use Rattle.calculus.specs.Successors.{steps, csteps, comps}
+use Rattle.calculus.specs.Members.{and-left, and-right}
+use Rattle.flow.specs.declared.Simple.{Simple}
+use Rattle.flow.specs.declared.Simple.the-variants.{Skip, Throw, Yield}
+use Rattle.flow.specs.declared.Operator.{Operator}
+use Rattle.flow.specs.declared.Operator.the-variants.{Sequence, Choice, Parallel}
+use Rattle.flow.specs.declared.Two.{Two}
+use Rattle.flow.specs.declared.Node.{Node}
+use Rattle.flow.specs.Kinds.{node, shape}
+use Rattle.flow.specs.Nodes.{Kid}
+use Rattle.flow.specs.Draws.{basic, paired, standard, compensable}
 use Rattle.tallies.specs.Capped.{cap}
-use Rattle.tallies.specs.Counts.{weight, sum-of}
 use Rattle.tallies.specs.Formulas.{movesG, holdG}
+use Rattle.tallies.specs.Counts.{sum-of, moves, weight}
 use Rattle.tallies.specs.Places.{At, Finds}
+use Rattle.tallies.specs.StepLaws.{at-ev, no-skip-step, no-throw-step, no-yield-step, at-seq-first, at-hnd-first, at-alt-first, at-par-first, seq-room, at-seq-second, hnd-room, at-hnd-second, alt-room, at-alt-second, par-room, at-par-second, at-blk-first, blk-room, blk-rest, at-blk-second, at-pair, pair-room, at-held, held-room, at-cseq-first, at-calt-first, at-cpar-first, cseq-room, cseq-rest, at-cseq-second, calt-room, at-calt-second, cpar-room, at-cpar-second}
 use Rattle.tallies.specs.declared.View.{View}
-use Rattle.states.specs.State.{part, modes, counts}
-use Rattle.states.specs.Stored.{stored}
-use Rattle.states.specs.KindFacts.{one-kid}
-use Rattle.states.specs.Roles.{Role, plain, running, undoing, many, ok}
-use Rattle.states.specs.Contracts.{Spot, Kept, Both, Sets, Chosen, Counted, Ready, Stepped, weight-of}
-use Rattle.states.specs.ChildLaws.{set-sets, sets-none, kept-set, same-part, spot-down, same-room, mode-after, kept-up, beside-part, beside-stored, kid-one, kid-two, one-off-two, two-off-one, both-of}
-use Rattle.counting.specs.Sides.{live, pairL}
-use Rattle.steps.specs.Turns.{role-of, Turned, Twofold, Twofold-inner, first-mode, second-mode}
-use Rattle.steps.specs.NodeLaws.{Like, like-same, own-count, node-room, node-right, goes-of, turned, turned-first, turned-second}
-use Rattle.steps.specs.KindLaws.{Two, two-kind, as-live, both-live, sequence-drawn, both-right, first-goes, second-room, second-goes, ByFirst, BySecond, first-alone, second-alone, Inner, inner-kind, left-first-alone, left-second-alone, left-back, left-beside, back-like, beside-like, back-right, beside-right, back-first-goes, beside-first-goes, back-room, back-second-goes, beside-room, beside-second-goes, pair-right, pair-first-room, pair-goes, left-pair-right, left-pair-room, left-pair-goes, out-like, inside-right, out-right, inside-goes, out-room, out-goes, leave-room, leave-rest, leave-goes, hold-room, hold-rest, hold-goes, event-goes, no-plain, no-running, no-undoing, no-left-pair}
-
--- The number of a kind ---------------------------------------------------------------------------------------------------------
-
-module _ {ns : List ℕ} {i : ℕ} where
-  two : {k : ℕ} → Twofold ns i k → Two k
-  two {k} s = two-kind k (s .low) (s .high) (s .no-block) (s .no-pair)
-
-  two-is : {k : ℕ} → Twofold ns i k → kind ns i ≡ kindOf k
-  two-is s = ap kindOf (sym (s .is))
-
-  twofold-both : {k : ℕ} → Twofold ns i k → Both ns i
-  twofold-both s = both-of (s .is) (s .low) (s .high) (s .no-block)
-
-  inner : {k : ℕ} → Twofold-inner ns i k → Inner k
-  inner {k} s = inner-kind k (s .low) (s .high)
-
-  inner-is : {k : ℕ} → Twofold-inner ns i k → kind ns i ≡ kindOf k
-  inner-is s = ap kindOf (sym (s .is))
-
-  inner-both : {k : ℕ} → Twofold-inner ns i k → Both ns i
-  inner-both s = let l = s .low in both-of (s .is) (omega arith) (s .high) (λ e. omega arith)
-
--- the role of kinds 5 to 8, and of kinds 11 to 13
-pub role-plain : {k : ℕ} → k < 10 → role-of k ≡ plain
-role-plain {k} h = ap (λ b. cond b plain running) (lt-ltb k 10 h)
-
-pub role-running : {k : ℕ} → 10 ≤ k → role-of k ≡ running
-role-running {k} h = ap (λ b. cond b plain running) (le-ltb k 10 h)
-
--- One part is live -------------------------------------------------------------------------------------------------------------
-
-module _ {ns : List ℕ} {a : ℕ} {r : Role} {c t : List ℕ} {i k : ℕ} (h : Ready ns a r c t i k) {n : Kind} (p : kind ns i ≡ n) (b : Both ns i) where
-  by-first : ByFirst r n (modes t i) → {f : ℕ} → f ≡ one-of ns i → Turned ns a r r c t i k t f k
-  by-first s e =
-      let d = s .like in
-      subst (λ z. Turned ns a r r c t i k t z k) (sym e)
-      (turned-first h p d b r (sets-none refl) d (s .good _ _ _ (node-right h p d)) k (s .room a _ _ _ k (node-room h p d)) (λ x u. s .goes a _ _ _ k x u))
-
-  by-second : BySecond r n (modes t i) → {g : ℕ} → g ≡ two-of ns i → Turned ns a r r c t i k t g k
-  by-second s e =
-      let d = s .like in
-      subst (λ z. Turned ns a r r c t i k t z k) (sym e)
-      (turned-second h p d b r (sets-none refl) d (s .good _ _ _ (node-right h p d)) k (s .room a _ _ _ k (node-room h p d)) (λ y u. s .goes a _ _ _ k y u))
-
--- Standard and running parts of two --------------------------------------------------------------------------------------------
-
-module _ {ns : List ℕ} {a n : ℕ} {c t : List ℕ} {i k : ℕ} (h : Ready ns a (role-of n) c t i k) (s : Twofold ns i n) where
-  pub first-only : live n (modes t i) ≡ 1 → {f : ℕ} → f ≡ one-of ns i → Turned ns a (role-of n) (role-of n) c t i k t f k
-  first-only v = by-first h (two-is s) (twofold-both s) (first-alone (two s) (modes t i) v)
-
-  pub second-only : live n (modes t i) ≡ 2 → {g : ℕ} → g ≡ two-of ns i → Turned ns a (role-of n) (role-of n) c t i k t g k
-  second-only v = by-second h (two-is s) (twofold-both s) (second-alone (two s) (modes t i) v)
-
-  pub neither-alone : live n (modes t i) ≢ 1 → live n (modes t i) ≢ 2 → live n (modes t i) ≡ 0
-  neither-alone u v = both-live (two s) (modes t i) u v
-
-  -- both are live
-  module _ (v : live n (modes t i) ≡ 0) where
-    drawn : Like (role-of n) (kindOf n) (modes t i) 0
-    drawn = subst (λ z. Like (role-of n) (kindOf n) (modes t i) z) v (as-live (two s) (modes t i))
-
-    both-good : T (ok (role-of n) (stored ns a (modes t) (counts c) (one-of ns i))) × T (ok (role-of n) (stored ns a (modes t) (counts c) (two-of ns i)))
-    both-good = both-right (two s) _ _ _ (node-right h (two-is s) drawn)
-
-    first-count : counts c (one-of ns i) ≡ many (role-of n) a (part ns (modes t) (one-of ns i))
-    first-count = own-count ns (h .spot .node .sound .tree) a (modes t) (counts c) (one-of ns i) (role-of n) (both-good .0)
-
-    module _ {f : ℕ} (e : f ≡ one-of ns i) {x : ℕ} (d : x ≡ counts c f) {m : ℕ} {t′ : List ℕ} where
-      pub open-first : k < x → m ≡ first-mode n → t′ ≡ set t i m → Turned ns a (role-of n) (role-of n) c t i k t′ f k
-      open-first l q w =
-          let y : x ≡ many (role-of n) a (part ns (modes t) (one-of ns i)) = d ∙ ap (counts c) e ∙ first-count in
-          subst (λ z. Turned ns a (role-of n) (role-of n) c t i k t′ z k) (sym e)
-          (turned-first h (two-is s) drawn (twofold-both s) (role-of n) (set-sets (h .spot .room) w) (like-same (role-of n) (kindOf n) q)
-          (both-good .0) k (omega arith) (λ z u. first-goes a (one-of ns i) (two s) _ _ k z u))
-
-      pub open-second : x ≤ k → n ≢ 11 → m ≡ second-mode n → t′ ≡ set t i m → {g : ℕ} → g ≡ two-of ns i → Turned ns a (role-of n) (role-of n) c t i k t′ g (k - x)
-      open-second l j q w e′ =
-          let y : x ≡ many (role-of n) a (part ns (modes t) (one-of ns i)) = d ∙ ap (counts c) e ∙ first-count in
-          let z = node-room h (two-is s) drawn in
-          subst (λ z. Turned ns a (role-of n) (role-of n) c t i k t′ z (k - x)) (sym e′)
-          (turned-second h (two-is s) drawn (twofold-both s) (role-of n) (set-sets (h .spot .room) w) (like-same (role-of n) (kindOf n) q)
-          (both-good .1) (k - x) (second-room a (one-of ns i) _ _ x k (two s) j y z l) (λ g u. second-goes a (one-of ns i) _ _ x k (two s) j y z l g u))
-
--- PP;QQ moves on ---------------------------------------------------------------------------------------------------------------
-
-pub on-drawn : (m : ℕ) {n : ℕ} → n ≡ 11 → live n m ≡ 0 → m ≡ 0
-on-drawn m e v = sequence-drawn m (subst (λ z. live z m ≡ 0) e v)
-
-module _ {ns : List ℕ} {a : ℕ} {c t : List ℕ} {i k : ℕ} (h : Ready ns a running c t i k) (is : getD ns (3 * i) 0 ≡ 11) (v : modes t i ≡ 0) where
-  on-kind : kind ns i ≡ CSeq
-  on-kind = ap kindOf is
-
-  on-like : Like running CSeq (modes t i) 0
-  on-like = like-same running CSeq v
-
-  on-both : Both ns i
-  on-both = both-of (sym is) (omega arith) (omega arith) (λ e. omega arith)
-
-  on-good : T (ok running (stored ns a (modes t) (counts c) (one-of ns i))) × T (ok running (stored ns a (modes t) (counts c) (two-of ns i)))
-  on-good = both-right Two.is11 _ _ _ (node-right h on-kind on-like)
-
-  abbrev on-tree : Tree (shape ns)
-  on-tree = h .spot .node .sound .tree
-
-  abbrev on-one : Kid (shape ns) i (one-of ns i)
-  on-one = kid-one ns on-tree on-both
-
-  abbrev on-two : Kid (shape ns) i (two-of ns i)
-  on-two = kid-two ns on-tree on-both
-
-  module _ {f : ℕ} (e : f ≡ one-of ns i) {s : ℕ} (e′ : s ≡ two-of ns i) {x : ℕ} (dx : x ≡ counts c f) {y : ℕ} (dy : y ≡ counts c s) {t₁ : List ℕ} (w : t₁ ≡ set t i 1) (g : x ≤ k) where
-    on-first : x ≡ many running a (part ns (modes t) (one-of ns i))
-    on-first = dx ∙ ap (counts c) e ∙ own-count ns on-tree a (modes t) (counts c) (one-of ns i) running (on-good .0)
-
-    on-second : y ≡ many running a (part ns (modes t) (two-of ns i))
-    on-second = dy ∙ ap (counts c) e′ ∙ own-count ns on-tree a (modes t) (counts c) (two-of ns i) running (on-good .1)
-
-    on-sets : Sets t i 1 t₁
-    on-sets = set-sets (h .spot .room) w
-
-    pub on-spot : Spot ns t₁ f
-    on-spot = subst (λ z. Spot ns t₁ z) (sym e) (spot-down ns on-tree on-one on-sets (h .spot))
-
-    on-same : part ns (modes t₁) f ≡ part ns (modes t) (one-of ns i)
-    on-same = ap (part ns (modes t₁)) e ∙ same-part ns on-tree on-one on-sets
-
-    pub on-room : k - x < weight-of ns t₁ a f done (holdG y)
-    on-room = subst (λ z. k - x < cap (sum-of (weight a (holdG y)) (comps (z .run) done))) (sym on-same) (hold-room a (one-of ns i) _ _ x k on-first g (node-room h on-kind on-like) y on-second)
-
-    module _ {t₂ : List ℕ} {rest many-steps : ℕ} {able : Bool} (ch : Chosen ns t₁ a f done (holdG y) (k - x) t₂ rest many-steps able) (long : length t₂ ≡ length t₁) where
-      on-kept : Kept ns (one-of ns i) (modes t₁) (modes t₂)
-      on-kept = subst (λ z. Kept ns z (modes t₁) (modes t₂)) e (ch .kept)
-
-      on-found : Finds (weight a (holdG y)) (comps (part ns (modes t) (one-of ns i) .run) done) (k - x) (part ns (modes t₂) (one-of ns i) .left) rest
-      on-found = subst₂ (λ u z. Finds (weight a (holdG y)) (comps (u .run) done) (k - x) (part ns (modes t₂) z .left) rest) on-same e (ch .sought .found)
-
-      on-mode : Sets t₂ i 1 t₂
-      on-mode = sets-none (mode-after ns on-tree on-one on-sets t₂ on-kept)
-
-      on-beside : part ns (modes t₂) (two-of ns i) ≡ part ns (modes t) (two-of ns i)
-      on-beside = beside-part ns on-tree on-one on-sets t₂ on-kept on-two (one-off-two ns on-tree on-both)
-
-      on-turned : Turned ns a running running c t i k t₂ (two-of ns i) rest
-      on-turned = record {
-        lower = on-tree .lower i (two-of ns i) on-two;
-        ready = record {
-          spot = spot-down ns on-tree on-two on-mode (same-room (h .spot) (long ∙ on-sets .long));
-          right = subst (λ z. T (ok running z)) (sym (beside-stored ns on-tree on-one on-sets t₂ on-kept on-two (one-off-two ns on-tree on-both) a c)) (on-good .1);
-          room = subst (λ z. rest < many running a z) (sym on-beside) (hold-rest a (one-of ns i) _ _ x k on-first g (node-room h on-kind on-like) y on-second on-found);
-        };
-        back = λ t₃ z. record {
-          goes = goes-of h on-kind on-like t₃ (mode-after ns on-tree on-two on-mode t₃ (z .kept)) (like-same running CSeq refl)
-              (hold-goes a (one-of ns i) _ _ x k on-first g (node-room h on-kind on-like) y on-second on-found (part ns (modes t₃) (one-of ns i)) (part ns (modes t₃) (two-of ns i))
-              (ap (λ u. u .left) (beside-part ns on-tree on-two on-mode t₃ (z .kept) on-one (two-off-one ns on-tree on-both)))
-              (subst (λ u. At (csteps (u .run) a) rest (part ns (modes t₃) (two-of ns i) .run)) on-beside (z .goes)));
-          kept = λ j n. kept-up ns on-tree on-two on-mode t₃ (z .kept) j n ∙ kept-up ns on-tree on-one on-sets t₂ on-kept j n;
-        };
-      }
-
-      pub turned-on : Turned ns a running running c t i k t₂ s rest
-      turned-on = subst (λ z. Turned ns a running running c t i k t₂ z rest) (sym e′) on-turned
-
--- Compensations of two parts ---------------------------------------------------------------------------------------------------
-
-module _ {ns : List ℕ} {a n : ℕ} {c t : List ℕ} {i k : ℕ} (h : Ready ns a undoing c t i k) (s : Twofold-inner ns i n) where
-  pub left-first-only : pairL n (modes t i) ≡ 1 → {f : ℕ} → f ≡ one-of ns i → Turned ns a undoing undoing c t i k t f k
-  left-first-only v = by-first h (inner-is s) (inner-both s) (left-first-alone (inner s) (modes t i) v)
-
-  pub left-second-only : pairL n (modes t i) ≡ 2 → {g : ℕ} → g ≡ two-of ns i → Turned ns a undoing undoing c t i k t g k
-  left-second-only v = by-second h (inner-is s) (inner-both s) (left-second-alone (inner s) (modes t i) v)
-
-  pub left-in-turn : n ≡ 11 → pairL n (modes t i) ≢ 1 → modes t i ≢ 2
-  left-in-turn e v = left-back (modes t i) (subst (λ z. pairL z (modes t i) ≢ 1) e v)
-
-  pub left-sides : pairL n (modes t i) ≢ 1 → pairL n (modes t i) ≢ 2 → n ≢ 11 → getD ns (3 * i) 0 ≡ 13
-  left-sides v u j = sym (s .is) ∙ left-beside (inner s) (modes t i) v u j
-
-module _ {ns : List ℕ} {a : ℕ} {c t : List ℕ} {i k : ℕ} (h : Ready ns a undoing c t i k) where
-  module _ (is : getD ns (3 * i) 0 ≡ 11) (v : modes t i ≢ 2) where
-    back-both : Both ns i
-    back-both = both-of (sym is) (omega arith) (omega arith) (λ e. omega arith)
-
-    back-good : T (ok undoing (stored ns a (modes t) (counts c) (two-of ns i))) × T (ok undoing (stored ns a (modes t) (counts c) (one-of ns i)))
-    back-good = back-right _ _ _ (node-right h (ap kindOf is) (back-like (modes t i) v))
-
-    module _ {g : ℕ} (e : g ≡ two-of ns i) {x : ℕ} (d : x ≡ counts c g) where
-      back-count : x ≡ many undoing a (part ns (modes t) (two-of ns i))
-      back-count = d ∙ ap (counts c) e ∙ own-count ns (h .spot .node .sound .tree) a (modes t) (counts c) (two-of ns i) undoing (back-good .0)
-
-      pub back-first : k < x → Turned ns a undoing undoing c t i k t g k
-      back-first l =
-          let y = back-count in
-          let p = back-like (modes t i) v in
-          subst (λ z. Turned ns a undoing undoing c t i k t z k) (sym e)
-          (turned-second h (ap kindOf is) p back-both undoing (sets-none refl) p (back-good .0) k (omega arith) (λ z u. back-first-goes a (one-of ns i) _ _ k z u))
-
-      pub back-second : x ≤ k → {t′ : List ℕ} → t′ ≡ set t i 2 → {f : ℕ} → f ≡ one-of ns i → Turned ns a undoing undoing c t i k t′ f (k - x)
-      back-second l {t′} w e′ =
-          let p = back-like (modes t i) v in
-          let z = node-room h (ap kindOf is) p in
-          subst (λ z. Turned ns a undoing undoing c t i k t′ z (k - x)) (sym e′)
-          (turned-first h (ap kindOf is) p back-both undoing (set-sets (h .spot .room) w) (like-same undoing CSeq refl) (back-good .1) (k - x)
-          (back-room a (one-of ns i) _ _ k x l back-count z) (λ f u. back-second-goes a (one-of ns i) _ _ k x l back-count z f u))
-
-  module _ (is : getD ns (3 * i) 0 ≡ 13) where
-    sides-both : Both ns i
-    sides-both = both-of (sym is) (omega arith) (omega arith) (λ e. omega arith)
-
-    sides-good : T (ok undoing (stored ns a (modes t) (counts c) (one-of ns i))) × T (ok undoing (stored ns a (modes t) (counts c) (two-of ns i)))
-    sides-good = beside-right _ _ _ (node-right h (ap kindOf is) (beside-like (modes t i)))
-
-    module _ {f : ℕ} (e : f ≡ one-of ns i) {x : ℕ} (d : x ≡ counts c f) where
-      sides-count : x ≡ many undoing a (part ns (modes t) (one-of ns i))
-      sides-count = d ∙ ap (counts c) e ∙ own-count ns (h .spot .node .sound .tree) a (modes t) (counts c) (one-of ns i) undoing (sides-good .0)
-
-      pub sides-first : k < x → Turned ns a undoing undoing c t i k t f k
-      sides-first l =
-          let y = sides-count in
-          let p = beside-like (modes t i) in
-          subst (λ z. Turned ns a undoing undoing c t i k t z k) (sym e)
-          (turned-first h (ap kindOf is) p sides-both undoing (sets-none refl) p (sides-good .0) k (omega arith) (λ z u. beside-first-goes a (one-of ns i) _ _ k z u))
-
-      pub sides-second : x ≤ k → {g : ℕ} → g ≡ two-of ns i → Turned ns a undoing undoing c t i k t g (k - x)
-      sides-second l e′ =
-          let p = beside-like (modes t i) in
-          let z = node-room h (ap kindOf is) p in
-          subst (λ z. Turned ns a undoing undoing c t i k t z (k - x)) (sym e′)
-          (turned-second h (ap kindOf is) p sides-both undoing (sets-none refl) p (sides-good .1) (k - x)
-          (beside-room a (one-of ns i) _ _ k x l sides-count z) (λ g u. beside-second-goes a (one-of ns i) _ _ k x l sides-count z g u))
-
--- Pairs ------------------------------------------------------------------------------------------------------------------------
-
-module _ {ns : List ℕ} {a : ℕ} {c t : List ℕ} {i k : ℕ} where
-  pub pair-turned : Ready ns a running c t i k → getD ns (3 * i) 0 ≡ 10 → {f : ℕ} → f ≡ one-of ns i → Turned ns a running plain c t i k t f k
-  pair-turned h is e =
-      let b : Both ns i = both-of (sym is) (omega arith) (omega arith) (λ e. omega arith) in
-      let p : Like running Pair (modes t i) (modes t i) = like-same running Pair refl in
-      subst (λ z. Turned ns a running plain c t i k t z k) (sym e)
-      (turned-first h (ap kindOf is) p b plain (sets-none refl) p (pair-right (modes t i) _ _ _ (node-right h (ap kindOf is) p)) k
-      (pair-first-room a (one-of ns i) (modes t i) _ _ k (node-room h (ap kindOf is) p)) (λ z u. pair-goes a (one-of ns i) (modes t i) _ _ k z u))
-
-  pub left-pair-turned : Ready ns a undoing c t i k → getD ns (3 * i) 0 ≡ 10 → modes t i ≡ 1 → {g : ℕ} → g ≡ two-of ns i → Turned ns a undoing plain c t i k t g k
-  left-pair-turned h is v e =
-      let b : Both ns i = both-of (sym is) (omega arith) (omega arith) (λ e. omega arith) in
-      let p : Like undoing Pair (modes t i) 1 = like-same undoing Pair v in
-      subst (λ z. Turned ns a undoing plain c t i k t z k) (sym e)
-      (turned-second h (ap kindOf is) p b plain (sets-none refl) p (left-pair-right _ _ _ (node-right h (ap kindOf is) p)) k
-      (left-pair-room a (one-of ns i) _ _ k (node-room h (ap kindOf is) p)) (λ z u. left-pair-goes a (one-of ns i) _ _ k z u))
-
--- Blocks -----------------------------------------------------------------------------------------------------------------------
-
-module _ {ns : List ℕ} {a : ℕ} {c t : List ℕ} {i k : ℕ} (h : Ready ns a plain c t i k) (is : getD ns (3 * i) 0 ≡ 9) where
-  abbrev blk-tree : Tree (shape ns)
-  blk-tree = h .spot .node .sound .tree
-
-  blk-one : Kid (shape ns) i (one-of ns i)
-  blk-one = one-kid ns blk-tree i (omega arith) (omega arith)
-
-  pub out-turned : {f : ℕ} → f ≡ one-of ns i → modes t i ≢ 0 → Turned ns a plain undoing c t i k t f k
-  out-turned e v =
-      let p = out-like (modes t i) v in
-      subst (λ z. Turned ns a plain undoing c t i k t z k) (sym e)
-      (turned h (ap kindOf is) p undoing (sets-none refl) p blk-one (out-right _ _ _ (node-right h (ap kindOf is) p)) k
-      (out-room a (one-of ns i) _ _ k (node-room h (ap kindOf is) p)) (λ t″ s u. out-goes a (one-of ns i) _ _ k _ _ u))
-
-  module _ {f : ℕ} (e : f ≡ one-of ns i) (v : modes t i ≡ 0) {x : ℕ} (d : x ≡ counts c f) where
-    inside-like : Like plain Blk (modes t i) 0
-    inside-like = like-same plain Blk v
-
-    inside-good : T (ok running (stored ns a (modes t) (counts c) (one-of ns i)))
-    inside-good = inside-right _ _ _ (node-right h (ap kindOf is) inside-like)
-
-    inside-count : x ≡ many running a (part ns (modes t) (one-of ns i))
-    inside-count = d ∙ ap (counts c) e ∙ own-count ns blk-tree a (modes t) (counts c) (one-of ns i) running inside-good
-
-    pub inside-turned : k < x → Turned ns a plain running c t i k t f k
-    inside-turned l =
-        let y = inside-count in
-        subst (λ z. Turned ns a plain running c t i k t z k) (sym e)
-        (turned h (ap kindOf is) inside-like running (sets-none refl) inside-like blk-one inside-good k (omega arith) (λ t″ s u. inside-goes a (one-of ns i) _ _ k _ _ u))
-
-    -- it fails inside, and a compensation is chosen
-    module _ {t₁ : List ℕ} (w : t₁ ≡ set t i 1) (g : x ≤ k) where
-      leave-sets : Sets t i 1 t₁
-      leave-sets = set-sets (h .spot .room) w
-
-      pub leave-start : Spot ns t₁ f
-      leave-start = subst (λ z. Spot ns t₁ z) (sym e) (spot-down ns blk-tree blk-one leave-sets (h .spot))
-
-      leave-same : part ns (modes t₁) f ≡ part ns (modes t) (one-of ns i)
-      leave-same = ap (part ns (modes t₁)) e ∙ same-part ns blk-tree blk-one leave-sets
-
-      pub leaves-room : k - x < weight-of ns t₁ a f failed movesG
-      leaves-room = subst (λ z. k - x < cap (sum-of (weight a movesG) (comps (z .run) failed))) (sym leave-same) (leave-room a (one-of ns i) _ _ x k inside-count g (node-room h (ap kindOf is) inside-like))
-
-      module _ {t₂ : List ℕ} {rest many-steps : ℕ} {able : Bool} (ch : Chosen ns t₁ a f failed movesG (k - x) t₂ rest many-steps able) (long : length t₂ ≡ length t₁) where
-        leave-kept : Kept ns (one-of ns i) (modes t₁) (modes t₂)
-        leave-kept = subst (λ z. Kept ns z (modes t₁) (modes t₂)) e (ch .kept)
-
-        leave-found : Finds (weight a movesG) (comps (part ns (modes t) (one-of ns i) .run) failed) (k - x) (part ns (modes t₂) (one-of ns i) .left) rest
-        leave-found = subst₂ (λ u z. Finds (weight a movesG) (comps (u .run) failed) (k - x) (part ns (modes t₂) z .left) rest) leave-same e (ch .sought .found)
-
-        leave-mode : Sets t₂ i 1 t₂
-        leave-mode = sets-none (mode-after ns blk-tree blk-one leave-sets t₂ leave-kept)
-
-        leave-spot : Spot ns t₂ (one-of ns i)
-        leave-spot = spot-down ns blk-tree blk-one leave-mode (same-room (h .spot) (long ∙ leave-sets .long))
-
-        pub leaves-spot : Spot ns t₂ f
-        leaves-spot = subst (λ z. Spot ns t₂ z) (sym e) leave-spot
-
-        pub leaves-turned : {b b′ : List ℕ} {y : View} → Counted ns a undoing t₂ f b b′ y → Turned ns a plain undoing b′ t i k t₂ (one-of ns i) rest
-        leaves-turned {b} {b′} {y} m = record {
-          lower = blk-tree .lower i (one-of ns i) blk-one;
-          ready = record {
-            spot = leave-spot;
-            right = subst (λ z. T (stored ns a (modes t₂) (counts b′) z .left)) e (m .right);
-            room = leave-rest a (one-of ns i) _ _ x k inside-count g (node-room h (ap kindOf is) inside-like) leave-found;
-          };
-          back = λ t₃ z. record {
-            goes = goes-of h (ap kindOf is) inside-like t₃ (mode-after ns blk-tree blk-one leave-mode t₃ (z .kept)) (like-same plain Blk refl)
-                (leave-goes a (one-of ns i) _ _ x k inside-count g (node-room h (ap kindOf is) inside-like) leave-found (part ns (modes t₃) (one-of ns i)) (part ns (modes t₃) (two-of ns i)) (z .goes));
-            kept = λ j n. kept-up ns blk-tree blk-one leave-mode t₃ (z .kept) j n ∙ kept-up ns blk-tree blk-one leave-sets t₂ leave-kept j n;
-          };
-        }
-
--- Events, and parts without steps ----------------------------------------------------------------------------------------------
-
-module _ {ns : List ℕ} {a : ℕ} {c t : List ℕ} {i k : ℕ} where
-  pub event-stepped : Ready ns a plain c t i k → getD ns (3 * i) 0 ≡ 1 → {t′ : List ℕ} → t′ ≡ set t i 1 → Stepped ns a plain t i k t′
-  event-stepped h is {t′} w =
-      let p : Like plain Event (modes t i) (modes t i) = like-same plain Event refl in
-      let s : Sets t i 1 t′ = set-sets (h .spot .room) w in
+use Rattle.tallies.specs.declared.Weight.{Weight}
+use Rattle.states.specs.declared.Sense.{Sense}
+use Rattle.states.specs.declared.Sense.the-variants.{Drawn, Undoing}
+use Rattle.states.specs.declared.Standing.{Standing}
+use Rattle.states.specs.declared.Standing.the-variants as standing
+use Rattle.states.specs.declared.Course.{Course}
+use Rattle.states.specs.declared.Course.the-variants as course
+use Rattle.states.specs.declared.Role.{Role}
+use Rattle.states.specs.declared.Role.the-variants.{Plain, Running}
+use Rattle.states.specs.declared.Sub.{Sub}
+use Rattle.states.specs.declared.Picked.{Picked}
+use Rattle.states.specs.Standings.{only, stand, course-of}
+use Rattle.states.specs.State.{Part, std-of, run-of, part, modes, counts}
+use Rattle.states.specs.Stored.{std-right, run-right}
+use Rattle.states.specs.Rests.{Twins, Rests, CRests, stand-rests, course-rests}
+use Rattle.states.specs.Roles.{get, nexts, many, ok}
+use Rattle.states.specs.Contracts.{Spot, Sets, Scene, scene, part-at, stored-at, weight-of, ask, Chosen, Counted, Ready, Stepped}
+use Rattle.states.specs.ChildLaws.{set-sets, sets-none, same-room, kept-set, kid-lower, same-part, spot-down, mode-after, kept-up, beside-part, beside-stored}
+use Rattle.steps.specs.declared.Turn.{Turn}
+use Rattle.steps.specs.Turns.{move, Turned, event-taken, compensating, holding, moved-on, gone, stand-in, course-in, first-mode, second-mode, halves, Forked, in-first, in-second, Stance, stance-of, stance-term}
+use Rattle.steps.specs.AfterLaws.{After, CAfter, stand-after, course-after}
+use Rattle.steps.specs.NodeLaws.{own-count, tree-of, step-room, parts-right, step-goes, handed, handed-by}
+
+-- Node numbers are small ------------------------------------------------------------------------------------------------------
+
+module _ {s : Scene} {r : Role} {c : List ℕ} {i k : ℕ} (h : Ready s r c i k) where
+  number-small : {j : ℕ} → Kid (shape (s .ns)) i j → j < 64
+  number-small kid = let n = h .spot .node in omega (arith, n .inside, n .sound .few, kid-lower (s .ns) (n .sound .tree) kid)
+
+  twins-small : {p : Two} → Twins (s .ns) i p → (p .first < 64) × (p .second < 64)
+  twins-small tw = (number-small (tw .one), number-small (tw .other))
+
+-- Two live parts -------------------------------------------------------------------------------------------------------------
+
+module _ {s : Scene} {r : Role} {c : List ℕ} {i k : ℕ} (h : Ready s r c i k) {x : Stance r} (e : stance-of r (node (s .ns) i) (modes (s .t) i) ≡ x)
+    {p : Two} (tw : Twins (s .ns) i p) (right : T (ok r (stored-at s c (p .first)) && ok r (stored-at s c (p .second)))) where
+  first-right : T (ok r (stored-at s c (p .first)))
+  first-right = and-left (ok r (stored-at s c (p .first))) (ok r (stored-at s c (p .second))) right
+
+  second-right : T (ok r (stored-at s c (p .second)))
+  second-right = and-right (ok r (stored-at s c (p .first))) (ok r (stored-at s c (p .second))) right
+
+  pub first-count : counts c (p .first) ≡ many r (s .a) (part-at s (p .first))
+  first-count = own-count (s .ns) (tree-of h e) (s .a) (modes (s .t)) (counts c) (p .first) r first-right
+
+  module _ {m : ℕ} {t′ : List ℕ} (w : Sets (s .t) i m t′) {x′ : Stance r} (e′ : stance-of r (node (s .ns) i) m ≡ x′) where
+    to-first : k < counts c (p .first)
+        → ((at : ℕ → Part) → at (p .second) ≡ part-at s (p .second) → At (nexts r (get r (part-at s (p .first))) (s .a)) k (get r (at (p .first)))
+            → At (nexts r (stance-term r x (part-at s)) (s .a)) k (stance-term r x′ at))
+        → Turned s c (move r i k) t′ (move r (p .first) k)
+    to-first l goes = handed-by h e r (tw .one) w e′ first-right (subst (λ z. k < z) first-count l) (λ at same u. goes at (same (p .second) (tw .other) (tw .free)) u)
+
+    to-second : k - counts c (p .first) < many r (s .a) (part-at s (p .second))
+        → ((at : ℕ → Part) → at (p .first) ≡ part-at s (p .first) → At (nexts r (get r (part-at s (p .second))) (s .a)) (k - counts c (p .first)) (get r (at (p .second)))
+            → At (nexts r (stance-term r x (part-at s)) (s .a)) k (stance-term r x′ at))
+        → Turned s c (move r i k) t′ (move r (p .second) (k - counts c (p .first)))
+    to-second room goes = handed-by h e r (tw .other) w e′ second-right room (λ at same u. goes at (same (p .first) (tw .one) (λ j y z. tw .free j z y)) u)
+
+-- what is left of two parts after a step of the first, and after one of the second
+abbrev first-standing : Operator → Two → Sense → Standing
+first-standing Sequence p v = standing.Both Sequence p
+first-standing Choice p v = only (p .first) v
+first-standing Parallel p v = standing.Both Parallel p
+
+abbrev second-standing : Operator → Two → Sense → Standing
+second-standing Sequence p v = only (p .second) v
+second-standing Choice p v = only (p .second) v
+second-standing Parallel p v = standing.Both Parallel p
+
+module _ (v : Sense) (n : Node) (m : ℕ) {p : Two} where
+  first-stands : (o : Operator) → stand v n m ≡ standing.Both o p → stand v n (first-mode o m) ≡ first-standing o p v
+  unfolding first-mode
+  first-stands Sequence e = e
+  first-stands Choice e = subst (After v n) e (stand-after v n m) .0
+  first-stands Parallel e = e
+
+  second-stands : (o : Operator) → stand v n m ≡ standing.Both o p → stand v n (second-mode o (gone v) m) ≡ second-standing o p v
+  unfolding second-mode
+  second-stands Sequence e = subst (After v n) e (stand-after v n m)
+  second-stands Choice e = subst (After v n) e (stand-after v n m) .1
+  second-stands Parallel e = e
+
+-- the parts before are those of b, and those after of at
+module _ (a : ℕ) (v : Sense) (p : Two) (b at : ℕ → Part) (k : ℕ) where
+  abbrev std-one : Std
+  std-one = b (p .first) .std v
+
+  abbrev std-other : Std
+  std-other = b (p .second) .std v
+
+  both-first : (o : Operator) → at (p .second) ≡ b (p .second) → At (steps std-one a) k (at (p .first) .std v) → At (steps (standard o std-one std-other) a) k (std-of (first-standing o p v) v at)
+  unfolding std-of
+  both-first Sequence e u = subst (λ z. At (steps (seq std-one std-other) a) k (seq (at (p .first) .std v) (z .std v))) (sym e) (at-seq-first a std-one std-other u)
+  both-first Choice e u = at-alt-first a std-one std-other u
+  both-first Parallel e u = subst (λ z. At (steps (par std-one std-other) a) k (par (at (p .first) .std v) (z .std v))) (sym e) (at-par-first a std-one std-other u)
+
+  hnd-first : at (p .second) ≡ b (p .second) → At (steps std-one a) k (at (p .first) .std v) → At (steps (hnd std-one std-other) a) k (std-of (standing.Handler p) v at)
+  unfolding std-of
+  hnd-first e u = subst (λ z. At (steps (hnd std-one std-other) a) k (hnd (at (p .first) .std v) (z .std v))) (sym e) (at-hnd-first a std-one std-other u)
+
+  module _ {n : ℕ} (d : n ≡ cap (length (steps std-one a))) (g : n ≤ k) where
+    both-room : (o : Operator) → k < cap (length (steps (standard o std-one std-other) a)) → k - n < cap (length (steps std-other a))
+    unfolding moves
+    both-room Sequence h = seq-room a std-one std-other d h g
+    both-room Choice h = alt-room a std-one std-other d h g
+    both-room Parallel h = par-room a std-one std-other d h g
+
+    both-second : (o : Operator) → k < cap (length (steps (standard o std-one std-other) a)) → at (p .first) ≡ b (p .first)
+        → At (steps std-other a) (k - n) (at (p .second) .std v) → At (steps (standard o std-one std-other) a) k (std-of (second-standing o p v) v at)
+    unfolding std-of moves
+    both-second Sequence h e u = at-seq-second a std-one std-other d h g u
+    both-second Choice h e u = at-alt-second a std-one std-other d h g u
+    both-second Parallel h e u = subst (λ z. At (steps (par std-one std-other) a) k (par (z .std v) (at (p .second) .std v))) (sym e) (at-par-second a std-one std-other d h g u)
+
+module _ {s : Scene} {v : Sense} {c : List ℕ} {i k : ℕ} (h : Ready s (Plain v) c i k) {p : Two} where
+  both-twins : {o : Operator} → stand-in s v i ≡ standing.Both o p → Twins (s .ns) i p
+  both-twins e = subst (Rests (s .ns) i) e (stand-rests (s .ns) i (tree-of h e) v (modes (s .t) i))
+
+  handler-twins : stand-in s v i ≡ standing.Handler p → Twins (s .ns) i p
+  handler-twins e = subst (Rests (s .ns) i) e (stand-rests (s .ns) i (tree-of h e) v (modes (s .t) i))
+
+  pub both-small : {o : Operator} → stand-in s v i ≡ standing.Both o p → p .first < 64
+  both-small e = number-small h (both-twins e .one)
+
+  pub handler-small : stand-in s v i ≡ standing.Handler p → p .first < 64
+  handler-small e = number-small h (handler-twins e .one)
+
+  pub both-turned : {t′ : List ℕ} {y : Turn} {o : Operator} → stand-in s v i ≡ standing.Both o p → Forked c (s .t) i k (halves o p (gone v)) t′ y
+      → Turned s c (move (Plain v) i k) t′ (move (Plain v) (y .node) (y .at))
+  unfolding std-of std-right
+  both-turned {o = o} e (in-first l w) =
+      let tw = both-twins e in
+      to-first h e tw (parts-right h e) w (first-stands v (node (s .ns) i) (modes (s .t) i) o e) l (λ at d u. both-first (s .a) v p (part-at s) at k o d u)
+  both-turned {o = o} e (in-second g w) =
+      let tw = both-twins e in
+      let n = first-count h e tw (parts-right h e) in
+      to-second h e tw (parts-right h e) w (second-stands v (node (s .ns) i) (modes (s .t) i) o e) (both-room (s .a) v p (part-at s) (part-at s) k n g o (step-room h e))
+      (λ at d u. both-second (s .a) v p (part-at s) at k n g o (step-room h e) d u)
+
+  -- a handler goes on as a sequence does
+  pub handler-turned : {t′ : List ℕ} {y : Turn} → stand-in s v i ≡ standing.Handler p → Forked c (s .t) i k (halves Sequence p moved-on) t′ y
+      → Turned s c (move (Plain v) i k) t′ (move (Plain v) (y .node) (y .at))
+  unfolding std-of std-right first-mode second-mode moves
+  handler-turned e (in-first l w) =
+      let tw = handler-twins e in
+      to-first h e tw (parts-right h e) w e l (λ at d u. hnd-first (s .a) v p (part-at s) at k d u)
+  handler-turned e (in-second g w) =
+      let tw = handler-twins e in
+      let n = first-count h e tw (parts-right h e) in
+      to-second h e tw (parts-right h e) w (subst (After v (node (s .ns) i)) e (stand-after v (node (s .ns) i) (modes (s .t) i)))
+      (hnd-room (s .a) (part-at s (p .first) .std v) (part-at s (p .second) .std v) n (step-room h e) g)
+      (λ at d u. at-hnd-second (s .a) (part-at s (p .first) .std v) (part-at s (p .second) .std v) n (step-room h e) g u)
+
+-- Compensable parts ----------------------------------------------------------------------------------------------------------
+
+-- what is left of two running parts after a step of the first
+abbrev first-course : Operator → Two → Course
+first-course Sequence p = course.Both Sequence p
+first-course Choice p = course.As (p .first)
+first-course Parallel p = course.Both Parallel p
+
+first-runs : (n : Node) (m : ℕ) {p : Two} (o : Operator) → course-of n m ≡ course.Both o p → course-of n (first-mode o m) ≡ first-course o p
+unfolding first-mode
+first-runs n m Sequence e = e
+first-runs n m Choice e = subst (CAfter n) e (course-after n m) .0
+first-runs n m Parallel e = e
+
+module _ (a : ℕ) (p : Two) (b at : ℕ → Part) (k : ℕ) where
+  abbrev run-one : Cmp
+  run-one = b (p .first) .run
+
+  abbrev run-other : Cmp
+  run-other = b (p .second) .run
+
+  run-first : (o : Operator) → at (p .second) ≡ b (p .second) → At (csteps run-one a) k (at (p .first) .run) → At (csteps (compensable o run-one run-other) a) k (run-of (first-course o p) at)
+  unfolding run-of
+  run-first Sequence e u = subst (λ z. At (csteps (cseq run-one run-other) a) k (cseq (at (p .first) .run) (z .run))) (sym e) (at-cseq-first a run-one run-other u)
+  run-first Choice e u = at-calt-first a run-one run-other u
+  run-first Parallel e u = subst (λ z. At (csteps (cpar run-one run-other) a) k (cpar (at (p .first) .run) (z .run))) (sym e) (at-cpar-first a run-one run-other u)
+
+module _ {s : Scene} {c : List ℕ} {i k : ℕ} (h : Ready s Running c i k) {p : Two} where
+  module _ {o : Operator} (e : course-in s i ≡ course.Both o p) where
+    pub run-twins : Twins (s .ns) i p
+    run-twins = subst (CRests (s .ns) i) e (course-rests (s .ns) i (tree-of h e) (modes (s .t) i))
+
+    pub run-small : (p .first < 64) × (p .second < 64)
+    run-small = twins-small h run-twins
+
+    both-right : T (stored-at s c (p .first) .run && stored-at s c (p .second) .run)
+    unfolding run-right
+    both-right = parts-right h e
+
+  pub into-first : {t′ : List ℕ} {y : Turn} {o : Operator} → course-in s i ≡ course.Both o p → Forked c (s .t) i k (halves o p holding) t′ y → y .second ≡ false
+      → Turned s c (move Running i k) t′ (move Running (y .node) (y .at))
+  unfolding run-of
+  into-first {o = o} e (in-first l w) b = to-first h e (run-twins e) (both-right e) w (first-runs (node (s .ns) i) (modes (s .t) i) o e) l (λ at d u. run-first (s .a) p (part-at s) at k o d u)
+  into-first e (in-second g w) b = absurd (true≢false b)
+
+  pub choice-turned : {t′ : List ℕ} {y : Turn} → course-in s i ≡ course.Both Choice p → Forked c (s .t) i k (halves Choice p holding) t′ y
+      → Turned s c (move Running i k) t′ (move Running (y .node) (y .at))
+  unfolding run-of second-mode
+  choice-turned e (in-first l w) = into-first e (in-first l w) refl
+  choice-turned e (in-second g w) =
+      let n = first-count h e (run-twins e) (both-right e) in
+      to-second h e (run-twins e) (both-right e) w (subst (CAfter (node (s .ns) i)) e (course-after (node (s .ns) i) (modes (s .t) i)) .1)
+      (calt-room (s .a) (part-at s (p .first) .run) (part-at s (p .second) .run) n (step-room h e) g)
+      (λ at d u. at-calt-second (s .a) (part-at s (p .first) .run) (part-at s (p .second) .run) n (step-room h e) g u)
+
+  pub parallel-turned : {t′ : List ℕ} {y : Turn} → course-in s i ≡ course.Both Parallel p → Forked c (s .t) i k (halves Parallel p holding) t′ y
+      → Turned s c (move Running i k) t′ (move Running (y .node) (y .at))
+  unfolding run-of second-mode
+  parallel-turned e (in-first l w) = into-first e (in-first l w) refl
+  parallel-turned e (in-second g w) =
+      let n = first-count h e (run-twins e) (both-right e) in
+      to-second h e (run-twins e) (both-right e) w e
+      (cpar-room (s .a) (part-at s (p .first) .run) (part-at s (p .second) .run) n (step-room h e) g)
+      (λ at d u. subst (λ z. At (csteps (cpar (part-at s (p .first) .run) (part-at s (p .second) .run)) (s .a)) k (cpar (z .run) (at (p .second) .run))) (sym d)
+      (at-cpar-second (s .a) (part-at s (p .first) .run) (part-at s (p .second) .run) n (step-room h e) g u))
+
+  -- PP;QQ goes on: one of PP's compensations is held, and QQ makes a step
+  module _ (e : course-in s i ≡ course.Both Sequence p) (g : counts c (p .first) ≤ k) {t₁ : List ℕ} (w : Sets (s .t) i holding t₁) where
+    abbrev pp : Cmp
+    pp = part-at s (p .first) .run
+
+    abbrev qq : Cmp
+    qq = part-at s (p .second) .run
+
+    abbrev per-step : Weight
+    per-step = holdG (counts c (p .second))
+
+    second-count : counts c (p .second) ≡ many Running (s .a) (part-at s (p .second))
+    second-count = own-count (s .ns) (tree-of h e) (s .a) (modes (s .t)) (counts c) (p .second) Running (second-right h e (run-twins e) (both-right e))
+
+    on-same : part (s .ns) (modes t₁) (p .first) ≡ part-at s (p .first)
+    on-same = same-part (s .ns) (tree-of h e) (run-twins e .one) w
+
+    on-left : k < cap (length (csteps (cseq pp qq) (s .a)))
+    unfolding run-of
+    on-left = step-room h e
+
+    on-room : k - counts c (p .first) < weight-of (scene (s .ns) t₁ (s .a)) (p .first) done per-step
+    on-room = subst (λ z. k - counts c (p .first) < cap (sum-of (weight (s .a) per-step) (comps (z .run) done))) (sym on-same)
+        (cseq-room (s .a) pp qq (first-count h e (run-twins e) (both-right e)) on-left g second-count)
+
+    module _ {t₂ : List ℕ} {y : Picked} (ch : Chosen (scene (s .ns) t₁ (s .a)) (p .first) (ask done per-step (k - counts c (p .first))) t₂ y) where
+      on-found : Finds (weight (s .a) per-step) (comps pp done) (k - counts c (p .first)) (part (s .ns) (modes t₂) (p .first) .std Undoing) (y .rest)
+      on-found = subst (λ z. Finds (weight (s .a) per-step) (comps (z .run) done) (k - counts c (p .first)) (part (s .ns) (modes t₂) (p .first) .std Undoing) (y .rest)) on-same (ch .sought .found)
+
+      on-beside : part (s .ns) (modes t₂) (p .second) ≡ part-at s (p .second)
+      on-beside = beside-part (s .ns) (tree-of h e) (run-twins e .one) w t₂ (ch .kept) (run-twins e .other) (run-twins e .free)
+
+      on-turned : length t₂ ≡ length t₁ → Turned s c (move Running i k) t₂ (move Running (p .second) (y .rest))
+      unfolding run-of
+      on-turned long =
+          let tw = run-twins e in
+          let n = first-count h e tw (both-right e) in
+          handed h e Running (tw .other)
+          (ap (course-of (node (s .ns) i)) (mode-after (s .ns) (tree-of h e) (tw .one) w t₂ (ch .kept)) ∙ subst (CAfter (node (s .ns) i)) e (course-after (node (s .ns) i) (modes (s .t) i)))
+          (kept-up (s .ns) (tree-of h e) (tw .one) w t₂ (ch .kept)) (long ∙ w .long)
+          (subst (λ z. T (z .run)) (sym (beside-stored (s .ns) (tree-of h e) (tw .one) w t₂ (ch .kept) (tw .other) (tw .free) (s .a) c)) (second-right h e tw (both-right e)))
+          (subst (λ z. y .rest < many Running (s .a) z) (sym on-beside) (cseq-rest (s .a) pp qq n on-left g second-count on-found))
+          (λ at beside u. subst (λ z. At (csteps (cseq pp qq) (s .a)) k (held (at (p .second) .run) (z .std Undoing))) (sym (beside (p .first) (λ j v z. tw .free j z v)))
+          (at-cseq-second (s .a) pp qq n on-left g second-count on-found (subst (λ z. At (csteps (z .run) (s .a)) (y .rest) (at (p .second) .run)) on-beside u)))
+
+  module _ (e : course-in s i ≡ course.Both Sequence p) where
+    pub held-spot : {t₁ : List ℕ} {y : Turn} → Forked c (s .t) i k (halves Sequence p holding) t₁ y → y .second ≡ true → Spot (s .ns) t₁ (p .first)
+    unfolding second-mode
+    held-spot (in-first l w) b = absurd (true≢false (sym b))
+    held-spot (in-second g w) b = spot-down (s .ns) (tree-of h e) (run-twins e .one) w (h .spot)
+
+    pub held-number : {t₁ : List ℕ} {y : Turn} → Forked c (s .t) i k (halves Sequence p holding) t₁ y → y .second ≡ true
+        → y .at < weight-of (scene (s .ns) t₁ (s .a)) (p .first) done (holdG (counts c (p .second)))
+    unfolding second-mode
+    held-number (in-first l w) b = absurd (true≢false (sym b))
+    held-number (in-second g w) b = on-room e g w
+
+    pub sequence-turned : {t₁ t₂ : List ℕ} {y : Turn} {z : Picked} → Forked c (s .t) i k (halves Sequence p holding) t₁ y → y .second ≡ true
+        → Chosen (scene (s .ns) t₁ (s .a)) (p .first) (ask done (holdG (counts c (p .second))) (y .at)) t₂ z → length t₂ ≡ length t₁
+        → Turned s c (move Running i k) t₂ (move Running (y .node) (z .rest))
+    unfolding second-mode
+    sequence-turned (in-first l w) b ch long = absurd (true≢false (sym b))
+    sequence-turned (in-second g w) b ch long = on-turned e g w ch long
+
+  pub pair-turned : course-in s i ≡ course.Pair p → Turned s c (move Running i k) (s .t) (move (Plain Drawn) (p .first) k)
+  unfolding run-of run-right moves
+  pair-turned e =
+      let tw = subst (CRests (s .ns) i) e (course-rests (s .ns) i (tree-of h e) (modes (s .t) i)) in
+      let q = part-at s (p .second) .std Drawn in
+      handed-by h e (Plain Drawn) (tw .one) (sets-none refl) e (parts-right h e) (pair-room (s .a) (part-at s (p .first) .std Drawn) q (step-room h e))
+      (λ at same u. subst (λ z. At (csteps (pair (part-at s (p .first) .std Drawn) q) (s .a)) k (pair (at (p .first) .std Drawn) (z .std Drawn))) (sym (same (p .second) (tw .other) (tw .free)))
+      (at-pair (s .a) (part-at s (p .first) .std Drawn) q u))
+
+  pub held-turned : course-in s i ≡ course.Held p → Turned s c (move Running i k) (s .t) (move Running (p .second) k)
+  unfolding run-of run-right
+  held-turned e =
+      let tw = subst (CRests (s .ns) i) e (course-rests (s .ns) i (tree-of h e) (modes (s .t) i)) in
+      let r = part-at s (p .first) .std Undoing in
+      handed-by h e Running (tw .other) (sets-none refl) e (parts-right h e) (held-room (s .a) (part-at s (p .second) .run) r (step-room h e))
+      (λ at same u. subst (λ z. At (csteps (held (part-at s (p .second) .run) r) (s .a)) k (held (at (p .second) .run) (z .std Undoing))) (sym (same (p .first) (tw .one) (λ j v z. tw .free j z v)))
+      (at-held (s .a) (part-at s (p .second) .run) r u))
+
+-- One live part --------------------------------------------------------------------------------------------------------------
+
+module _ {s : Scene} {c : List ℕ} {i k : ℕ} where
+  pub only-turned : {v : Sense} → Ready s (Plain v) c i k → {x : Sub} → stand-in s v i ≡ standing.As x
+      → Turned s c (move (Plain v) i k) (s .t) (move (Plain (x .sense)) (x .node) k)
+  unfolding std-of std-right
+  only-turned {v} h {x} e =
+      let kid = subst (Rests (s .ns) i) e (stand-rests (s .ns) i (tree-of h e) v (modes (s .t) i)) in
+      handed-by h e (Plain (x .sense)) kid (sets-none refl) e (parts-right h e) (step-room h e) (λ at same u. u)
+
+  pub as-turned : Ready s Running c i k → {d : ℕ} → course-in s i ≡ course.As d → Turned s c (move Running i k) (s .t) (move Running d k)
+  unfolding run-of run-right
+  as-turned h e =
+      let kid = subst (CRests (s .ns) i) e (course-rests (s .ns) i (tree-of h e) (modes (s .t) i)) in
+      handed-by h e Running kid (sets-none refl) e (parts-right h e) (step-room h e) (λ at same u. u)
+
+-- Blocks ---------------------------------------------------------------------------------------------------------------------
+
+module _ {s : Scene} {v : Sense} {c : List ℕ} {i k : ℕ} (h : Ready s (Plain v) c i k) {d : ℕ} (e : stand-in s v i ≡ standing.Block d) where
+  block-after : After v (node (s .ns) i) (standing.Block d)
+  block-after = subst (After v (node (s .ns) i)) e (stand-after v (node (s .ns) i) (modes (s .t) i))
+
+  block-drawn : v ≡ Drawn
+  block-drawn = block-after .0
+
+  pub block-ready : Ready s (Plain Drawn) c i k
+  block-ready = subst (λ z. Ready s (Plain z) c i k) block-drawn h
+
+  pub block-stands : stand-in s Drawn i ≡ standing.Block d
+  block-stands = subst (λ z. stand-in s z i ≡ standing.Block d) block-drawn e
+
+  pub block-stepped : {t′ : List ℕ} → Stepped s (Plain Drawn) i k t′ → Stepped s (Plain v) i k t′
+  block-stepped {t′} x = subst (λ z. Stepped s (Plain z) i k t′) (sym block-drawn) x
+
+  pub block-kid : Kid (shape (s .ns)) i d
+  block-kid = subst (Rests (s .ns) i) e (stand-rests (s .ns) i (tree-of h e) v (modes (s .t) i))
+
+  pub block-small : d < 64
+  block-small = number-small h block-kid
+
+  block-right : T (stored-at s c d .run)
+  unfolding std-right
+  block-right = parts-right h e
+
+  block-count : counts c d ≡ many Running (s .a) (part-at s d)
+  block-count = own-count (s .ns) (tree-of h e) (s .a) (modes (s .t)) (counts c) d Running block-right
+
+  pub inside-turned : k < counts c d → Turned s c (move (Plain v) i k) (s .t) (move Running d k)
+  unfolding std-of
+  inside-turned l = handed-by h e Running block-kid (sets-none refl) e block-right (subst (λ z. k < z) block-count l) (λ at same u. at-blk-first (s .a) (part-at s d .run) u)
+
+  -- it fails inside, and a compensation is chosen
+  module _ (g : counts c d ≤ k) {t₁ : List ℕ} (w : Sets (s .t) i compensating t₁) where
+    pub out-spot : Spot (s .ns) t₁ d
+    out-spot = spot-down (s .ns) (tree-of h e) block-kid w (h .spot)
+
+    out-same : part (s .ns) (modes t₁) d ≡ part-at s d
+    out-same = same-part (s .ns) (tree-of h e) block-kid w
+
+    out-left : k < cap (moves (s .a) (blk (part-at s d .run)))
+    unfolding std-of moves
+    out-left = step-room h e
+
+    pub out-room : k - counts c d < weight-of (scene (s .ns) t₁ (s .a)) d failed movesG
+    out-room = subst (λ z. k - counts c d < cap (sum-of (weight (s .a) movesG) (comps (z .run) failed))) (sym out-same) (blk-room (s .a) (part-at s d .run) block-count out-left g)
+
+    module _ {t₂ : List ℕ} {y : Picked} (ch : Chosen (scene (s .ns) t₁ (s .a)) d (ask failed movesG (k - counts c d)) t₂ y) (long : length t₂ ≡ length t₁) where
+      out-found : Finds (weight (s .a) movesG) (comps (part-at s d .run) failed) (k - counts c d) (part (s .ns) (modes t₂) d .std Undoing) (y .rest)
+      out-found = subst (λ z. Finds (weight (s .a) movesG) (comps (z .run) failed) (k - counts c d) (part (s .ns) (modes t₂) d .std Undoing) (y .rest)) out-same (ch .sought .found)
+
+      pub chosen-spot : Spot (s .ns) t₂ d
+      chosen-spot = same-room out-spot long
+
+      pub out-turned : {b b′ : List ℕ} {view : View} → Counted (scene (s .ns) t₂ (s .a)) (Plain Undoing) d b b′ view
+          → Turned s b′ (move (Plain v) i k) t₂ (move (Plain Undoing) d (y .rest))
+      unfolding std-of moves
+      out-turned m = handed h e (Plain Undoing) block-kid
+          (ap (stand v (node (s .ns) i)) (mode-after (s .ns) (tree-of h e) block-kid w t₂ (ch .kept)) ∙ block-after .1)
+          (kept-up (s .ns) (tree-of h e) block-kid w t₂ (ch .kept)) (long ∙ w .long) (m .right)
+          (blk-rest (s .a) (part-at s d .run) block-count out-left g out-found)
+          (λ at beside u. at-blk-second (s .a) (part-at s d .run) block-count out-left g out-found u)
+
+-- Events, and parts without steps --------------------------------------------------------------------------------------------
+
+module _ (a : ℕ) {k : ℕ} where
+  no-basic : (b : Simple) → k < cap (moves a (basic b)) → ⊥
+  no-basic Skip l = no-skip-step a l
+  no-basic Throw l = no-throw-step a l
+  no-basic Yield l = no-yield-step a l
+
+  no-paired : (b : Simple) → k < cap (length (csteps (paired b) a)) → ⊥
+  no-paired Skip l = no-skip-step a (pair-room a skip skip l)
+  no-paired Throw l = no-throw-step a (pair-room a throw skip l)
+  no-paired Yield l = no-yield-step a (pair-room a yield skip l)
+
+module _ {s : Scene} {c : List ℕ} {i k : ℕ} where
+  pub event-stepped : {v : Sense} → Ready s (Plain v) c i k → {x : ℕ} → stand-in s v i ≡ standing.Event x
+      → {t′ : List ℕ} → t′ ≡ set (s .t) i event-taken → Stepped s (Plain v) i k t′
+  unfolding std-of moves
+  event-stepped {v} h {x} e {t′} d =
+      let w : Sets (s .t) i event-taken t′ = set-sets (h .spot .room) d in
       record {
-        goes = goes-of h (ap kindOf is) p t′ (s .here) (like-same plain Event refl) (event-goes a (one-of ns i) _ _ _ _ (modes t i) (node-room h (ap kindOf is) p));
-        kept = kept-set ns s;
+        goes = step-goes h e t′ (ap (stand v (node (s .ns) i)) (w .here) ∙ subst (After v (node (s .ns) i)) e (stand-after v (node (s .ns) i) (modes (s .t) i))) (at-ev (leaf x) (s .a) (step-room h e));
+        kept = kept-set (s .ns) w;
       }
 
-  pub plain-idle : Ready ns a plain c t i k → {n : ℕ} → n ≡ getD ns (3 * i) 0 → n ≢ 1 → (5 ≤ n → n ≤ 9 → ⊥) → ⊥
-  plain-idle h {n} e u v = no-plain a (modes t i) (one-of ns i) _ _ k n u v (node-room h (ap kindOf (sym e)) (like-same plain (kindOf n) refl))
+  pub no-step : {v : Sense} → Ready s (Plain v) c i k → {b : Simple} → stand-in s v i ≡ standing.Basic b → ⊥
+  unfolding std-of moves
+  no-step h {b} e = no-basic (s .a) b (step-room h e)
 
-  pub running-idle : Ready ns a running c t i k → {n : ℕ} → n ≡ getD ns (3 * i) 0 → (10 ≤ n → n ≤ 13 → ⊥) → ⊥
-  running-idle h {n} e v = no-running a (modes t i) (one-of ns i) _ _ k n v (node-room h (ap kindOf (sym e)) (like-same running (kindOf n) refl))
-
-  pub undoing-idle : Ready ns a undoing c t i k → {n : ℕ} → n ≡ getD ns (3 * i) 0 → (10 ≤ n → n ≤ 13 → ⊥) → ⊥
-  undoing-idle h {n} e v = no-undoing a (modes t i) (one-of ns i) _ _ k n v (node-room h (ap kindOf (sym e)) (like-same undoing (kindOf n) refl))
-
-  pub pair-idle : Ready ns a undoing c t i k → getD ns (3 * i) 0 ≡ 10 → modes t i ≢ 1 → ⊥
-  pair-idle h is v = no-left-pair a (modes t i) (one-of ns i) _ _ k v (node-room h (ap kindOf is) (like-same undoing Pair refl))
-
--- Roles and nodes by other names -----------------------------------------------------------------------------------------------
-
-module _ {ns : List ℕ} {a : ℕ} {c t : List ℕ} {i k : ℕ} where
-  pub ready-plain : {n : ℕ} → n < 10 → Ready ns a plain c t i k → Ready ns a (role-of n) c t i k
-  ready-plain l h = subst (λ z. Ready ns a z c t i k) (sym (role-plain l)) h
-
-  pub ready-running : {n : ℕ} → 10 ≤ n → Ready ns a running c t i k → Ready ns a (role-of n) c t i k
-  ready-running l h = subst (λ z. Ready ns a z c t i k) (sym (role-running l)) h
-
-  module _ {t′ : List ℕ} {j l : ℕ} where
-    pub turned-plain : {n : ℕ} → n < 10 → Turned ns a (role-of n) (role-of n) c t i k t′ j l → Turned ns a plain plain c t i k t′ j l
-    turned-plain h x = subst (λ z. Turned ns a z z c t i k t′ j l) (role-plain h) x
-
-    pub turned-running : {n : ℕ} → 10 ≤ n → Turned ns a (role-of n) (role-of n) c t i k t′ j l → Turned ns a running running c t i k t′ j l
-    turned-running h x = subst (λ z. Turned ns a z z c t i k t′ j l) (role-running h) x
-
-    pub turned-at : {r q : Role} {f : ℕ} → f ≡ j → Turned ns a r q c t i k t′ j l → Turned ns a r q c t i k t′ f l
-    turned-at {r} {q} e x = subst (λ z. Turned ns a r q c t i k t′ z l) (sym e) x
+  pub no-run-step : Ready s Running c i k → {b : Simple} → course-in s i ≡ course.Basic b → ⊥
+  unfolding run-of
+  no-run-step h {b} e = no-paired (s .a) b (step-room h e)

@@ -1,42 +1,110 @@
 -- How a step of a node is handed down: by setting the node's mode, and perhaps choosing a compensation, it becomes a step of one
--- child, perhaps in another role. Definitions only; their laws are in NodeLaws, KindLaws and TurnLaws. Assumes nothing.
-use Prim.Native.Nat.{ℕ, _*_, _<_, _≤_}
-use mathlib.Core.Path.{_≡_}
-use mathlib.Core.Bool.{cond}
+-- child, perhaps in another role. Definitions only; their laws are in AfterLaws, NodeLaws and TurnLaws. Assumes nothing.
+use Prim.Native.Nat.{ℕ, _<_, _≤_, _-_}
+use mathlib.Core.Bool.{Bool, true, false}
 use mathlib.Core.List.{List}
-use mathlib.Core.Logic.{_≢_}
-use lib.Dec.{eqb, ltb}
-use lib.ListN.{getD}
-use Rattle.states.specs.Roles.{Role, plain, running}
-use Rattle.states.specs.Contracts.{Ready, Stepped}
+use Rattle.flow.specs.declared.Operator.{Operator}
+use Rattle.flow.specs.declared.Operator.the-variants.{Sequence, Choice, Parallel}
+use Rattle.flow.specs.declared.Two.{Two}
+use Rattle.flow.specs.declared.Node.{Node}
+use Rattle.flow.specs.Kinds.{node}
+use Rattle.states.specs.declared.Sense.{Sense}
+use Rattle.states.specs.declared.Sense.the-variants.{Drawn, Undoing}
+use Rattle.states.specs.declared.Standing.{Standing}
+use Rattle.states.specs.declared.Course.{Course}
+use Rattle.states.specs.declared.Role.{Role}
+use Rattle.states.specs.declared.Role.the-variants.{Plain, Running}
+use Rattle.states.specs.Standings.{first-taken, left-first, stand, course-of}
+use Rattle.states.specs.State.{Part, std-of, run-of, modes, counts}
+use Rattle.states.specs.Stored.{Right, std-right, run-right}
+use Rattle.states.specs.Roles.{Term}
+use Rattle.states.specs.Contracts.{Scene, scene, Sets, Ready, Stepped}
+use Rattle.steps.specs.declared.Turn.{Turn}
 
--- the role of a node that is no compensation, by the number of its kind
-abbrev pub role-of : ℕ → Role
-role-of k = cond (ltb k 10) plain running
+-- a step of node i in role r, at place k among its steps
+pub record Move : Type 0 where
+  pub role : Role
+  pub node : ℕ
+  pub place : ℕ
 
-module _ (ns : List ℕ) (a : ℕ) where
-  -- the step is handed down: from modes t′ on, the step of the lower node j at place l, by the counts c, makes it
-  pub record Turned (r q : Role) (c t : List ℕ) (i k : ℕ) (t′ : List ℕ) (j l : ℕ) : Type 0 where
-    pub lower : j < i
-    pub ready : Ready ns a q c t′ j l
-    pub back : (t″ : List ℕ) → Stepped ns a q t′ j l t″ → Stepped ns a r t i k t″
+abbrev pub move : Role → ℕ → ℕ → Move
+move r i k = record { role = r; node = i; place = k }
 
--- the number of node i's kind is k: 5 to 8 or 11 to 13, and 11 to 13
-pub record Twofold (ns : List ℕ) (i k : ℕ) : Type 0 where
-  pub is : k ≡ getD ns (3 * i) 0
-  pub low : 5 ≤ k
-  pub high : k ≤ 13
-  pub no-block : k ≢ 9
-  pub no-pair : k ≢ 10
+-- the step x is handed down: from modes t′ on, the step y of a lower node, by the counts c, makes it
+pub record Turned (s : Scene) (c : List ℕ) (x : Move) (t′ : List ℕ) (y : Move) : Type 0 where
+  pub lower : y .node < x .node
+  pub ready : Ready (scene (s .ns) t′ (s .a)) (y .role) c (y .node) (y .place)
+  pub back : (t″ : List ℕ) → Stepped (scene (s .ns) t′ (s .a)) (y .role) (y .node) (y .place) t″ → Stepped s (x .role) (x .node) (x .place) t″
 
-pub record Twofold-inner (ns : List ℕ) (i k : ℕ) : Type 0 where
-  pub is : k ≡ getD ns (3 * i) 0
-  pub low : 11 ≤ k
-  pub high : k ≤ 13
+-- what is left of node i
+abbrev pub stand-in : Scene → Sense → ℕ → Standing
+stand-in s v i = stand v (node (s .ns) i) (modes (s .t) i)
 
--- the mode of a part of two, both live, after a step in its first part and after one in its second
-unfoldable pub first-mode : ℕ → ℕ
-first-mode k = cond (eqb k 6) 1 (cond (eqb k 12) 1 0)
+abbrev pub course-in : Scene → ℕ → Course
+course-in s i = course-of (node (s .ns) i) (modes (s .t) i)
 
-unfoldable pub second-mode : ℕ → ℕ
-second-mode k = cond (eqb k 6) 2 (cond (eqb k 12) 2 (cond (eqb k 7) 0 (cond (eqb k 13) 0 1)))
+-- the modes that a step gives to a node, besides those by which it is left
+abbrev pub event-taken : ℕ
+event-taken = 1
+
+abbrev pub moved-on : ℕ
+moved-on = 1
+
+abbrev pub second-taken : ℕ
+second-taken = 2
+
+abbrev pub compensating : ℕ
+compensating = 1
+
+abbrev pub holding : ℕ
+holding = 1
+
+-- the mode of P;Q and of QQ's and then PP's compensation, once the second part has made a step
+abbrev pub gone : Sense → ℕ
+gone Drawn = moved-on
+gone Undoing = left-first
+
+-- the mode m of two live parts after a step of the first, and after one of the second; g is that of a sequence
+unfoldable pub first-mode : Operator → ℕ → ℕ
+first-mode Sequence m = m
+first-mode Choice m = first-taken
+first-mode Parallel m = m
+
+unfoldable pub second-mode : Operator → ℕ → ℕ → ℕ
+second-mode Sequence g m = g
+second-mode Choice g m = second-taken
+second-mode Parallel g m = m
+
+-- two live parts, how they are joined, and the mode of a sequence that has gone on
+pub record Halves : Type 0 where
+  pub operator : Operator
+  pub two : Two
+  pub gone : ℕ
+
+abbrev pub halves : Operator → Two → ℕ → Halves
+halves o p g = record { operator = o; two = p; gone = g }
+
+abbrev pub turn-to : ℕ → ℕ → Bool → Turn
+turn-to j l b = record { node = j; at = l; second = b }
+
+-- step k of node i, which has the parts f, is one of the first or one of the second; the node's mode is set for it
+pub data Forked (c t : List ℕ) (i k : ℕ) (f : Halves) (t′ : List ℕ) : Turn → Type 0 where
+  in-first : k < counts c (f .two .first) → Sets t i (first-mode (f .operator) (modes t i)) t′ → Forked c t i k f t′ (turn-to (f .two .first) k false)
+  in-second : counts c (f .two .first) ≤ k → Sets t i (second-mode (f .operator) (f .gone) (modes t i)) t′ → Forked c t i k f t′ (turn-to (f .two .second) (k - counts c (f .two .first)) true)
+
+-- what is left of a part in a role, and its term and counts from those of its live parts
+abbrev pub Stance : Role → Type 0
+Stance (Plain s) = Standing
+Stance Running = Course
+
+abbrev pub stance-of : (r : Role) → Node → ℕ → Stance r
+stance-of (Plain s) n m = stand s n m
+stance-of Running n m = course-of n m
+
+abbrev pub stance-term : (r : Role) → Stance r → (ℕ → Part) → Term r
+stance-term (Plain s) x at = std-of x s at
+stance-term Running x at = run-of x at
+
+abbrev pub stance-right : (r : Role) → Stance r → (ℕ → Right) → Bool
+stance-right (Plain s) x at = std-right x s at
+stance-right Running x at = run-right x at

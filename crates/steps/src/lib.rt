@@ -1,22 +1,31 @@
 // The k-th step of a part by the event: the modes in t are those of the state before, and become those of its k-th successor. A
-// step is found by the counts that the counting pass left. A node hands its step down to a child, at a place among the child's
+// step is found by the counts that the counting pass left. A node hands its step down to a live part, at a place among that part's
 // steps; standard and compensable nodes call each other, and child numbers fall.
+use flow::Operator;
+use flow::Two;
+use states::Course;
+use states::Picked;
+use states::Sense;
+use states::Standing;
 use tallies::Weight;
 ghost use mathlib.Core.Path.{_≡_};
-ghost use mathlib.Core.Logic.{_≢_};
-ghost use Prim.Native.Nat.{_*_, _<_, _≤_, _-_};
-ghost use lib.ListN.{getD};
-ghost use Rattle.flow.specs.Kinds.{one-of};
+ghost use Prim.Native.Nat.{_<_, _≤_};
+ghost use lib.ListN.{length};
+ghost use Rattle.calculus.specs.Term.{done};
+ghost use Rattle.tallies.specs.Formulas.{holdG};
+ghost use Rattle.states.specs.declared.Standing.the-variants as standing;
+ghost use Rattle.states.specs.declared.Course.the-variants as course;
+ghost use Rattle.states.specs.declared.Sense.the-variants.{Drawn, Undoing};
+ghost use Rattle.states.specs.declared.Role.the-variants.{Plain, Running};
 ghost use Rattle.states.specs.State.{modes, counts};
-ghost use Rattle.states.specs.Roles.{plain, running, undoing};
-ghost use Rattle.states.specs.Contracts.{Ready, Stepped};
-ghost use Rattle.counting.specs.Sides.{live};
-ghost use Rattle.steps.specs.Turns.{role-of, Turned, Twofold, Twofold-inner, first-mode, second-mode};
+ghost use Rattle.states.specs.Contracts.{Spot, Sets, scene, weight-of, ask, Chosen, Ready, Stepped};
+ghost use Rattle.steps.specs.Turns.{move, Turned, stand-in, course-in, gone, first-mode, second-mode, halves, Forked};
 
-// Where a step goes on: a child, and the place among the child's steps.
+// Where a step goes on: a live part, the place among its steps, and whether it is the second of two.
 struct Turn {
     node: usize,
     at: u32,
+    second: bool,
 }
 
 fn count_at(c: &[u32; 64], i: usize) -> u32
@@ -26,237 +35,205 @@ fn count_at(c: &[u32; 64], i: usize) -> u32
     c[i]
 }
 
-// The mode of a part of two, both live, after a step in its first part, and after one in its second.
-fn mode_first(kind: u16) -> u8
-    ensures { λ r. ⌜ r ≡ first-mode kind ⌝ }
+// The first of two live parts makes a step: a choice is made.
+fn enter_first(t: &mut [u8], i: usize, operator: Operator)
+    requires { ⌜ i < length (now t) ⌝ }
+    ensures { λ r. ⌜ Sets (now (t .entry)) i (first-mode operator (modes (now (t .entry)) i)) (now (t .exit)) ⌝ }
 {
-    match kind {
-        6 | 12 => 1,
-        _ => 0,
+    match operator {
+        Operator::Sequence => {}
+        Operator::Choice => states::set_mode(t, i, states::FIRST_TAKEN),
+        Operator::Parallel => {}
     }
 }
 
-fn mode_second(kind: u16) -> u8
-    ensures { λ r. ⌜ r ≡ second-mode kind ⌝ }
+// The second makes one: a choice is made, or a sequence goes on, and then its mode is `gone`.
+fn enter_second(t: &mut [u8], i: usize, operator: Operator, gone: u8)
+    requires { ⌜ i < length (now t) ⌝ }
+    ensures { λ r. ⌜ Sets (now (t .entry)) i (second-mode operator gone (modes (now (t .entry)) i)) (now (t .exit)) ⌝ }
 {
-    match kind {
-        6 | 12 => 2,
-        7 | 13 => 0,
-        _ => 1,
+    match operator {
+        Operator::Sequence => states::set_mode(t, i, gone),
+        Operator::Choice => states::set_mode(t, i, states::SECOND_TAKEN),
+        Operator::Parallel => {}
     }
 }
 
-// A standard or a running part of two.
-fn turn_two(ns: &[u16], a: u16, c: &[u32; 64], t: &mut [u8], i: usize, k: u32, kind: u16) -> Turn
-    requires { ⌜ Ready (now ns) a (role-of kind) (now c) (now t) i k ⌝ }
-    requires { ⌜ Twofold (now ns) i kind ⌝ }
-    ensures { λ r. ⌜ Turned (now (ns .entry)) a (role-of kind) (role-of kind) (now (c .entry)) (now (t .entry)) i k (now (t .exit)) (r .node) (r .at) ⌝ }
+// The mode of a sequence of standard parts that has gone on.
+fn gone_on(sense: Sense) -> u8
+    ensures { λ r. ⌜ r ≡ gone sense ⌝ }
 {
-    let side = counting::live_parts(kind, states::mode_of(t, i));
-    if side == counting::FIRST {
-        let f = states::first_child(ns, i);
-        Turn { node: f, at: k }
-    } else if side == counting::SECOND {
-        let s = states::second_child(ns, i);
-        Turn { node: s, at: k }
-    } else {
-        turn_open(ns, a, c, t, i, k, kind)
+    match sense {
+        Sense::Drawn => states::MOVED_ON,
+        Sense::Undoing => states::LEFT_FIRST,
     }
 }
 
-// Both parts are live.
-fn turn_open(ns: &[u16], a: u16, c: &[u32; 64], t: &mut [u8], i: usize, k: u32, kind: u16) -> Turn
-    requires { ⌜ Ready (now ns) a (role-of kind) (now c) (now t) i k ⌝ }
-    requires { ⌜ Twofold (now ns) i kind ⌝ }
-    requires { ⌜ live kind (modes (now t) i) ≡ 0 ⌝ }
-    ensures { λ r. ⌜ Turned (now (ns .entry)) a (role-of kind) (role-of kind) (now (c .entry)) (now (t .entry)) i k (now (t .exit)) (r .node) (r .at) ⌝ }
+// Two live parts: the first's steps come first.
+fn turn_two(
+    t: &mut [u8],
+    c: &[u32; 64],
+    i: usize,
+    operator: Operator,
+    two: Two,
+    gone: u8,
+    k: u32,
+) -> Turn
+    requires { ⌜ i < length (now t) ⌝ }
+    requires { ⌜ two .first < 64 ⌝ }
+    ensures { λ r. ⌜ Forked (now (c .entry)) (now (t .entry)) i k (halves operator two gone) (now (t .exit)) r ⌝ }
 {
-    let f = states::first_child(ns, i);
-    let n = count_at(c, f);
+    let n = count_at(c, two.first);
     if k < n {
-        states::set_mode(t, i, mode_first(kind));
-        Turn { node: f, at: k }
-    } else if kind == 11 {
-        turn_on(ns, a, c, t, i, k)
+        enter_first(t, i, operator);
+        Turn {
+            node: two.first,
+            at: k,
+            second: false,
+        }
     } else {
-        states::set_mode(t, i, mode_second(kind));
-        let s = states::second_child(ns, i);
-        let past = k - n;
-        Turn { node: s, at: past }
+        enter_second(t, i, operator, gone);
+        Turn {
+            node: two.second,
+            at: k - n,
+            second: true,
+        }
     }
 }
 
-// PP;QQ moves on: a compensation of PP's done ending is chosen and held, and QQ makes a step.
-fn turn_on(ns: &[u16], a: u16, c: &[u32; 64], t: &mut [u8], i: usize, k: u32) -> Turn
-    requires { ⌜ Ready (now ns) a running (now c) (now t) i k ⌝ }
-    requires { ⌜ getD (now ns) (3 * i) 0 ≡ 11 ⌝ }
-    requires { ⌜ modes (now t) i ≡ 0 ⌝ }
-    requires { ⌜ counts (now c) (one-of (now ns) i) ≤ k ⌝ }
-    ensures { λ r. ⌜ Turned (now (ns .entry)) a running running (now (c .entry)) (now (t .entry)) i k (now (t .exit)) (r .node) (r .at) ⌝ }
+// PP;QQ has gone on: a compensation of PP's done ending is chosen and held, and QQ makes the step, at the place answered.
+fn hold(ns: &[u16], t: &mut [u8], a: u16, c: &[u32; 64], two: Two, j: u32) -> Picked
+    requires { ⌜ Spot (now ns) (now t) (two .first) ⌝ }
+    requires { ⌜ two .second < 64 ⌝ }
+    requires { ⌜ j < weight-of (scene (now ns) (now t) a) (two .first) done (holdG (counts (now c) (two .second))) ⌝ }
+    ensures { λ r. ⌜ Chosen (scene (now (ns .entry)) (now (t .entry)) a) (two .first) (ask done (holdG (counts (now (c .entry)) (two .second))) j) (now (t .exit)) r ⌝ }
 {
-    let f = states::first_child(ns, i);
-    let s = states::second_child(ns, i);
-    let n = count_at(c, f);
-    let own = count_at(c, s);
-    states::set_mode(t, i, 1);
+    let own = count_at(c, two.second);
     let each = Weight {
         own,
         moves: 0,
         able: 0,
     };
-    let x = seek::seek(ns, a, t, f, tallies::RANK_DONE, each, k - n);
-    let rest = x.rest;
-    Turn { node: s, at: rest }
+    seek::seek(ns, t, a, two.first, tallies::RANK_DONE, each, j)
 }
 
-// A compensation of two parts.
-fn turn_left(ns: &[u16], a: u16, c: &[u32; 64], t: &mut [u8], i: usize, k: u32, kind: u16) -> Turn
-    requires { ⌜ Ready (now ns) a undoing (now c) (now t) i k ⌝ }
-    requires { ⌜ Twofold-inner (now ns) i kind ⌝ }
-    ensures { λ r. ⌜ Turned (now (ns .entry)) a undoing undoing (now (c .entry)) (now (t .entry)) i k (now (t .exit)) (r .node) (r .at) ⌝ }
+// Two running parts. Where PP;QQ goes on, a compensation of PP's done ending is chosen, to be held while QQ makes the step.
+fn turn_run(
+    ns: &[u16],
+    t: &mut [u8],
+    a: u16,
+    c: &[u32; 64],
+    i: usize,
+    operator: Operator,
+    two: Two,
+    k: u32,
+) -> Turn
+    requires { ⌜ Ready (scene (now ns) (now t) a) Running (now c) i k ⌝ }
+    requires { ⌜ course-in (scene (now ns) (now t) a) i ≡ course.Both operator two ⌝ }
+    ensures { λ r. ⌜ Turned (scene (now (ns .entry)) (now (t .entry)) a) (now (c .entry)) (move Running i k) (now (t .exit)) (move Running (r .node) (r .at)) ⌝ }
 {
-    let side = counting::left_parts(kind, states::mode_of(t, i));
-    if side == counting::FIRST {
-        let f = states::first_child(ns, i);
-        Turn { node: f, at: k }
-    } else if side == counting::SECOND {
-        let s = states::second_child(ns, i);
-        Turn { node: s, at: k }
-    } else if kind == 11 {
-        turn_back(ns, a, c, t, i, k)
-    } else {
-        turn_beside(ns, a, c, t, i, k)
-    }
-}
-
-// QQ's compensation, and then PP's.
-fn turn_back(ns: &[u16], a: u16, c: &[u32; 64], t: &mut [u8], i: usize, k: u32) -> Turn
-    requires { ⌜ Ready (now ns) a undoing (now c) (now t) i k ⌝ }
-    requires { ⌜ getD (now ns) (3 * i) 0 ≡ 11 ⌝ }
-    requires { ⌜ modes (now t) i ≢ 2 ⌝ }
-    ensures { λ r. ⌜ Turned (now (ns .entry)) a undoing undoing (now (c .entry)) (now (t .entry)) i k (now (t .exit)) (r .node) (r .at) ⌝ }
-{
-    let late = states::second_child(ns, i);
-    let early = states::first_child(ns, i);
-    let n = count_at(c, late);
-    if k < n {
-        Turn { node: late, at: k }
-    } else {
-        states::set_mode(t, i, 2);
-        let at = k - n;
-        Turn { node: early, at }
-    }
-}
-
-// The compensations of two sides.
-fn turn_beside(ns: &[u16], a: u16, c: &[u32; 64], t: &[u8], i: usize, k: u32) -> Turn
-    requires { ⌜ Ready (now ns) a undoing (now c) (now t) i k ⌝ }
-    requires { ⌜ getD (now ns) (3 * i) 0 ≡ 13 ⌝ }
-    ensures { λ r. ⌜ Turned (now (ns .entry)) a undoing undoing (now (c .entry)) (now (t .entry)) i k (now (t .entry)) (r .node) (r .at) ⌝ }
-{
-    let f = states::first_child(ns, i);
-    let n = count_at(c, f);
-    if k < n {
-        Turn { node: f, at: k }
-    } else {
-        let s = states::second_child(ns, i);
-        let rest = k - n;
-        Turn { node: s, at: rest }
+    let x = turn_two(t, c, i, operator, two, states::HELD, k);
+    match operator {
+        Operator::Sequence => {
+            if x.second {
+                let held = hold(ns, t, a, c, two, x.at);
+                let rest = held.rest;
+                Turn {
+                    node: x.node,
+                    at: rest,
+                    second: true,
+                }
+            } else {
+                x
+            }
+        }
+        Operator::Choice => x,
+        Operator::Parallel => x,
     }
 }
 
 // A block fails inside: a compensation that has a step is chosen, and its steps are counted into d.
 fn turn_out(
     ns: &[u16],
+    t: &mut [u8],
     a: u16,
     c: &[u32; 64],
-    t: &mut [u8],
     d: &mut [u32; 64],
     i: usize,
+    child: usize,
     k: u32,
 ) -> u32
-    requires { ⌜ Ready (now ns) a plain (now c) (now t) i k ⌝ }
-    requires { ⌜ getD (now ns) (3 * i) 0 ≡ 9 ⌝ }
-    requires { ⌜ modes (now t) i ≡ 0 ⌝ }
-    requires { ⌜ counts (now c) (one-of (now ns) i) ≤ k ⌝ }
-    ensures { λ r. ⌜ Turned (now (ns .entry)) a plain undoing (now (d .exit)) (now (t .entry)) i k (now (t .exit)) (one-of (now (ns .entry)) i) r ⌝ }
+    requires { ⌜ Ready (scene (now ns) (now t) a) (Plain Drawn) (now c) i k ⌝ }
+    requires { ⌜ stand-in (scene (now ns) (now t) a) Drawn i ≡ standing.Block child ⌝ }
+    requires { ⌜ counts (now c) child ≤ k ⌝ }
+    ensures { λ r. ⌜ Turned (scene (now (ns .entry)) (now (t .entry)) a) (now (d .exit)) (move (Plain Drawn) i k) (now (t .exit)) (move (Plain Undoing) child r) ⌝ }
 {
-    let f = states::first_child(ns, i);
-    let n = count_at(c, f);
-    states::set_mode(t, i, 1);
+    let n = count_at(c, child);
+    states::set_mode(t, i, states::COMPENSATING);
     let each = Weight {
         own: 0,
         moves: 1,
         able: 0,
     };
-    let x = seek::seek(ns, a, t, f, tallies::RANK_FAILED, each, k - n);
-    counting::count_left(ns, t, a, d, f);
+    let x = seek::seek(ns, t, a, child, tallies::RANK_FAILED, each, k - n);
+    counting::count_std(ns, t, a, d, child, Sense::Undoing);
     x.rest
 }
 
-pub fn step_std(ns: &[u16], a: u16, c: &[u32; 64], t: &mut [u8], i: usize, k: u32)
-    requires { ⌜ Ready (now ns) a plain (now c) (now t) i k ⌝ }
-    ensures { λ r. ⌜ Stepped (now (ns .entry)) a plain (now (t .entry)) i k (now (t .exit)) ⌝ }
+// The k-th step of a standard part.
+pub fn step_std(ns: &[u16], t: &mut [u8], a: u16, c: &[u32; 64], i: usize, sense: Sense, k: u32)
+    requires { ⌜ Ready (scene (now ns) (now t) a) (Plain sense) (now c) i k ⌝ }
+    ensures { λ r. ⌜ Stepped (scene (now (ns .entry)) (now (t .entry)) a) (Plain sense) i k (now (t .exit)) ⌝ }
 {
-    let kind = flow::kind_at(ns, i);
-    match kind {
-        1 => states::set_mode(t, i, 1),
-        5..=8 => {
-            let x = turn_two(ns, a, c, t, i, k, kind);
-            step_std(ns, a, c, t, x.node, x.at);
+    let stands = states::stand_at(ns, t, i, sense);
+    match stands {
+        Standing::Event(_) => states::set_mode(t, i, states::TAKEN),
+        Standing::Basic(_) => {}
+        Standing::Both(operator, two) => {
+            let x = turn_two(t, c, i, operator, two, gone_on(sense), k);
+            step_std(ns, t, a, c, x.node, sense, x.at);
         }
-        9 => step_block(ns, a, c, t, i, k),
-        _ => {}
+        Standing::Handler(two) => {
+            let x = turn_two(t, c, i, Operator::Sequence, two, states::MOVED_ON, k);
+            step_std(ns, t, a, c, x.node, sense, x.at);
+        }
+        Standing::Block(child) => step_block(ns, t, a, c, i, child, k),
+        Standing::As(sub) => {
+            let inner = sub.sense;
+            step_std(ns, t, a, c, sub.node, inner, k);
+        }
     }
 }
 
-fn step_block(ns: &[u16], a: u16, c: &[u32; 64], t: &mut [u8], i: usize, k: u32)
-    requires { ⌜ Ready (now ns) a plain (now c) (now t) i k ⌝ }
-    requires { ⌜ getD (now ns) (3 * i) 0 ≡ 9 ⌝ }
-    ensures { λ r. ⌜ Stepped (now (ns .entry)) a plain (now (t .entry)) i k (now (t .exit)) ⌝ }
+// Of a block: inside, or out of it by a compensation.
+fn step_block(ns: &[u16], t: &mut [u8], a: u16, c: &[u32; 64], i: usize, child: usize, k: u32)
+    requires { ⌜ Ready (scene (now ns) (now t) a) (Plain Drawn) (now c) i k ⌝ }
+    requires { ⌜ stand-in (scene (now ns) (now t) a) Drawn i ≡ standing.Block child ⌝ }
+    ensures { λ r. ⌜ Stepped (scene (now (ns .entry)) (now (t .entry)) a) (Plain Drawn) i k (now (t .exit)) ⌝ }
 {
-    let f = states::first_child(ns, i);
-    if states::mode_of(t, i) != 0 {
-        step_left(ns, a, c, t, f, k);
-    } else if k < count_at(c, f) {
-        step_run(ns, a, c, t, f, k);
+    if k < count_at(c, child) {
+        step_run(ns, t, a, c, child, k);
     } else {
         let mut d = [0u32; 64];
-        let l = turn_out(ns, a, c, t, &mut d, i, k);
-        step_left(ns, a, &d, t, f, l);
+        let at = turn_out(ns, t, a, c, &mut d, i, child, k);
+        step_std(ns, t, a, &d, child, Sense::Undoing, at);
     }
 }
 
-pub fn step_run(ns: &[u16], a: u16, c: &[u32; 64], t: &mut [u8], i: usize, k: u32)
-    requires { ⌜ Ready (now ns) a running (now c) (now t) i k ⌝ }
-    ensures { λ r. ⌜ Stepped (now (ns .entry)) a running (now (t .entry)) i k (now (t .exit)) ⌝ }
+// The k-th step of a compensable part that runs.
+pub fn step_run(ns: &[u16], t: &mut [u8], a: u16, c: &[u32; 64], i: usize, k: u32)
+    requires { ⌜ Ready (scene (now ns) (now t) a) Running (now c) i k ⌝ }
+    ensures { λ r. ⌜ Stepped (scene (now (ns .entry)) (now (t .entry)) a) Running i k (now (t .exit)) ⌝ }
 {
-    let kind = flow::kind_at(ns, i);
-    match kind {
-        10 => step_std(ns, a, c, t, states::first_child(ns, i), k),
-        11..=13 => {
-            let x = turn_two(ns, a, c, t, i, k, kind);
-            step_run(ns, a, c, t, x.node, x.at);
+    let runs = states::course_at(ns, t, i);
+    match runs {
+        Course::Basic(_) => {}
+        Course::Pair(two) => step_std(ns, t, a, c, two.first, Sense::Drawn, k),
+        Course::Both(operator, two) => {
+            let x = turn_run(ns, t, a, c, i, operator, two, k);
+            step_run(ns, t, a, c, x.node, x.at);
         }
-        _ => {}
-    }
-}
-
-pub fn step_left(ns: &[u16], a: u16, c: &[u32; 64], t: &mut [u8], i: usize, k: u32)
-    requires { ⌜ Ready (now ns) a undoing (now c) (now t) i k ⌝ }
-    ensures { λ r. ⌜ Stepped (now (ns .entry)) a undoing (now (t .entry)) i k (now (t .exit)) ⌝ }
-{
-    let kind = flow::kind_at(ns, i);
-    match kind {
-        10 => {
-            if states::mode_of(t, i) == 1 {
-                step_std(ns, a, c, t, states::second_child(ns, i), k);
-            }
-        }
-        11..=13 => {
-            let x = turn_left(ns, a, c, t, i, k, kind);
-            step_left(ns, a, c, t, x.node, x.at);
-        }
-        _ => {}
+        Course::Held(two) => step_run(ns, t, a, c, two.second, k),
+        Course::As(child) => step_run(ns, t, a, c, child, k),
     }
 }
