@@ -9,7 +9,7 @@ use mathlib.Core.Logic.{_≢_, inl, inr, _↔_}
 use Rattle.calculus.specs.Term.{Closing, done, withdrawn, failed, Std, Cmp, skip, throw, yield, ev, seq, alt, par, hnd, blk, pair, cseq, calt, cpar, held}
 use Rattle.calculus.specs.Traces.{Trace, tr, CTrace, ct, onto, onT, pairT, cthenT, heldT, CParT, both, BlkT, undone, closed, Tr, CTr}
 use Rattle.calculus.specs.RunsAreTraces.{some, csome, on-stop, pair-stop, cthen-stop}
-use Rattle.calculus.specs.Members.{other, Is, it, other-one, is}
+use Rattle.calculus.specs.Members.{other, Compared, alike, differ, compared}
 use Rattle.calculus.specs.Entered.{Enters, CEnters, skips, throws, yields, withdraws, takes, seq-stays, seq-enters, hnd-stays, hnd-enters, alt-left, alt-right, par-both, blk-stays, blk-enters, pair-leaves, pair-stays, cseq-stays, cseq-enters, held-both, calt-left, calt-right, cpar-both}
 
 -- From the entered form to the printed one ------------------------------------------------------------------------------------
@@ -48,11 +48,11 @@ module _ {u : Closing} {p q whole : Std}
     (stays : (s : List ℕ) (w : Closing) → Enters p (tr s w) → w ≢ u → Enters whole (tr s w))
     (enters : (s : List ℕ) (y : Trace) → Enters p (tr s u) → Enters q y → Enters whole (onto s y)) where
   on-entered : (x y : Trace) → Enters p x → Enters q y → Enters whole (onT u x y)
-  on-entered (tr s w) y e f = by (is w u)
+  on-entered (tr s w) y e f = by (compared w u)
     where
-      by : {b : Bool} → Is w u b → Enters whole (cond b (onto s y) (tr s w))
-      by (it i) = enters s y (subst (λ w. Enters p (tr s w)) i e) f
-      by (other-one n) = stays s w e n
+      by : {b : Bool} → Compared w u b → Enters whole (cond b (onto s y) (tr s w))
+      by (alike i) = enters s y (subst (λ w. Enters p (tr s w)) i e) f
+      by (differ n) = stays s w e n
 
 seq-entered : {p q : Std} (x y : Trace) → Enters p x → Enters q y → Enters (seq p q) (onT done x y)
 seq-entered = on-entered (λ s w. seq-stays) (λ s y e f. seq-enters e f refl)

@@ -7,7 +7,7 @@ use mathlib.Core.Bool.{Bool, true, false, cond}
 use mathlib.Core.List.{List, [], _∷_, _++_, append-assoc, append-nil}
 use Rattle.calculus.specs.Term.{Closing, done, withdrawn, failed, eqc, Leaf, Std, Cmp, skip, throw, ev, seq, alt, par, blk, pair, cseq, calt, cpar, join, skipp, throww, yieldd}
 use Rattle.calculus.specs.Traces.{Trace, tr, CTrace, ct, onto, onT, pairT, cthenT, Mix, mix-none, mix-left, mix-right, ParT, mixed, CParT, both, BlkT, undone, closed, lift, by, Tr, CTr}
-use Rattle.calculus.specs.Members.{other, Is, it, other-one, is, cond-other}
+use Rattle.calculus.specs.Members.{other, Compared, alike, differ, compared, cond-other}
 use Rattle.calculus.specs.RunsAreTraces.{some, csome, cthen-stop}
 use Rattle.calculus.specs.Laws.{Law, Same, CSame, seq-assoc, seq-unit-left, seq-unit-right, seq-throw, alt-comm, alt-assoc, alt-self, par-comm, par-assoc, par-unit, seq-alt-left, seq-alt-right, par-alt-left, par-alt-right, same, flip, then, in-seq, in-alt, in-par, in-hnd, in-blk, law, hnd-assoc, hnd-throw-right, hnd-throw-left, hnd-skip, blk-skipp, blk-throww, blk-yieldd, blk-calt, blk-throws, csame, cflip, cthen, in-pair, in-cseq, in-calt, in-cpar, claw}
 
@@ -111,21 +111,21 @@ onto-on u s (tr t v) z = by (eqc v u)
     by false = refl
 
 on-assoc : (u : Closing) (x y z : Trace) → onT u (onT u x y) z ≡ onT u x (onT u y z)
-on-assoc u (tr s w) y z = by (is w u)
+on-assoc u (tr s w) y z = by (compared w u)
   where
-    by : {b : Bool} → Is w u b → onT u (cond b (onto s y) (tr s w)) z ≡ cond b (onto s (onT u y z)) (tr s w)
-    by (it e) = onto-on u s y z
-    by (other-one n) = cond-other (onto s z) (tr s w) n
+    by : {b : Bool} → Compared w u b → onT u (cond b (onto s y) (tr s w)) z ≡ cond b (onto s (onT u y z)) (tr s w)
+    by (alike e) = onto-on u s y z
+    by (differ n) = cond-other (onto s z) (tr s w) n
 
 onto-none : (z : Trace) → onto [] z ≡ z
 onto-none (tr s w) = refl
 
 on-none : (u : Closing) (x : Trace) → onT u x (tr [] u) ≡ x
-on-none u (tr s w) = by (is w u)
+on-none u (tr s w) = by (compared w u)
   where
-    by : {b : Bool} → Is w u b → cond b (tr (s ++ []) u) (tr s w) ≡ tr s w
-    by (it e) = λ i. tr (append-nil s i) (sym e i)
-    by (other-one n) = refl
+    by : {b : Bool} → Compared w u b → cond b (tr (s ++ []) u) (tr s w) ≡ tr s w
+    by (alike e) = λ i. tr (append-nil s i) (sym e i)
+    by (differ n) = refl
 
 -- after a forward trace that stops, what would follow is not entered
 cthen-stays : {w : Closing} → w ≢ done → (s : List ℕ) (x : Trace) (y : CTrace) → cthenT (ct (tr s w) x) y ≡ ct (tr s w) x

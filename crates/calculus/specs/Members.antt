@@ -59,24 +59,24 @@ other-in u v h = by (eqc u v) (λ g. h (same u v g))
     by false k = tt
 
 -- the two outcomes of comparing closings
-pub data Is (w u : Closing) : Bool → Type 0 where
-  it : w ≡ u → Is w u true
-  other-one : w ≢ u → Is w u false
+pub data Compared (w u : Closing) : Bool → Type 0 where
+  alike : w ≡ u → Compared w u true
+  differ : w ≢ u → Compared w u false
 
-pub is : (w u : Closing) → Is w u (eqc w u)
-is w u = by (eqc w u) (same w u) (other w u)
+pub compared : (w u : Closing) → Compared w u (eqc w u)
+compared w u = by (eqc w u) (same w u) (other w u)
   where
-    by : (b : Bool) → (T b → w ≡ u) → (T (not b) → w ≢ u) → Is w u b
-    by true f g = it (f tt)
-    by false f g = other-one (g tt)
+    by : (b : Bool) → (T b → w ≡ u) → (T (not b) → w ≢ u) → Compared w u b
+    by true f g = alike (f tt)
+    by false f g = differ (g tt)
 
 module _ {A : Type 0} where
   pub cond-other : {w u : Closing} (x y : A) → w ≢ u → cond (eqc w u) x y ≡ y
-  cond-other {w} {u} x y n = by (is w u)
+  cond-other {w} {u} x y n = by (compared w u)
     where
-      by : {b : Bool} → Is w u b → cond b x y ≡ y
-      by (it e) = absurd (n e)
-      by (other-one k) = refl
+      by : {b : Bool} → Compared w u b → cond b x y ≡ y
+      by (alike e) = absurd (n e)
+      by (differ k) = refl
 
   pub cond-both : (P : A → Type 0) (b : Bool) (x y : A) → P x → P y → P (cond b x y)
   cond-both P true x y f g = f

@@ -7,7 +7,7 @@ use mathlib.Core.Bool.{Bool, true, false, cond}
 use mathlib.Core.List.{List, [], _∷_, _++_}
 use Rattle.calculus.specs.Term.{Closing, done, withdrawn, failed, eqc, Std, Cmp, skip, throw, yield, ev, seq, alt, par, hnd, blk, pair, cseq, calt, cpar, held, join}
 use Rattle.calculus.specs.Rules.{End, CEnd, Step, CStep, Run, closes, goes, Fwd, ccloses, cgoes, CRun, skip-ends, throw-ends, yield-ends, yield-yields, seq-on, seq-stops, hnd-on, hnd-stops, alt-left, alt-right, par-joins, blk-ends, blk-undoes, pair-ends, pair-stops, cseq-stops, cseq-on, held-ends, calt-left, calt-right, cpar-joins, ev-step, seq-first, seq-second, hnd-first, hnd-second, alt-first, alt-second, par-first, par-second, blk-first, blk-second, pair-step, cseq-first, cseq-second, held-step, calt-first, calt-second, cpar-first, cpar-second}
-use Rattle.calculus.specs.Members.{other, Is, it, other-one, is, cond-other, cond-both}
+use Rattle.calculus.specs.Members.{other, Compared, alike, differ, compared, cond-other, cond-both}
 use Rattle.calculus.specs.Onward.{Onward, seq-onward, hnd-onward}
 use Rattle.calculus.specs.Traces.{Trace, tr, CTrace, ct, onto, onT, pairT, cthenT, heldT, Mix, mix-none, mix-left, mix-right, ParT, mixed, CParT, both, BlkT, undone, closed, Tr, CTr}
 
@@ -88,11 +88,11 @@ fwd-par (mix-right m) r (cgoes h k) j = cgoes (cpar-second h) (fwd-par m r k j)
 -- the same over traces
 
 on-runs : {op : Std → Std → Std} {u : Closing} → Onward op u → (p q : Std) (x y : Trace) → Runs p x → Runs q y → Runs (op p q) (onT u x y)
-on-runs {op} {u} o p q (tr s w) (tr t v) r k = by (is w u)
+on-runs {op} {u} o p q (tr s w) (tr t v) r k = by (compared w u)
   where
-    by : {b : Bool} → Is w u b → Runs (op p q) (cond b (tr (s ++ t) v) (tr s w))
-    by (it e) = run-on o (subst (Run p s) e r) k
-    by (other-one n) = run-stop o n r
+    by : {b : Bool} → Compared w u b → Runs (op p q) (cond b (tr (s ++ t) v) (tr s w))
+    by (alike e) = run-on o (subst (Run p s) e r) k
+    by (differ n) = run-stop o n r
 
 par-runs : (p q : Std) {x y z : Trace} → ParT x y z → Runs p x → Runs q y → Runs (par p q) z
 par-runs p q (mixed m e) r k = run-par m r k e
