@@ -71,7 +71,7 @@ module _ {s : Scene} {r : Role} {c : List ℕ} {i k : ℕ} (h : Ready s r c i k)
     pub handed : {x′ : Stance r} {c′ : List ℕ} {l : ℕ} → stance-of r (node (s .ns) i) (modes t′ i) ≡ x′ → Kept (s .ns) i (modes (s .t)) (modes t′) → length t′ ≡ length (s .t)
         → T (ok q (stored (s .ns) (s .a) (modes t′) (counts c′) g)) → l < many q (s .a) (part (s .ns) (modes t′) g)
         → ((at : ℕ → Part) → ((j : ℕ) → ((n : ℕ) → Under (shape (s .ns)) g n → Under (shape (s .ns)) j n → ⊥) → at j ≡ part (s .ns) (modes t′) j)
-            → At (nexts q (get q (part (s .ns) (modes t′) g)) (s .a)) l (get q (at g)) → At (nexts r (stance-term r x (part-at s)) (s .a)) k (stance-term r x′ at))
+        → At (nexts q (get q (part (s .ns) (modes t′) g)) (s .a)) l (get q (at g)) → At (nexts r (stance-term r x (part-at s)) (s .a)) k (stance-term r x′ at))
         → Turned s c′ (move r i k) t′ (move q g l)
     handed e′ w long good room goes = record {
       lower = kid-lower (s .ns) tree-of kid;
@@ -87,7 +87,7 @@ module _ {s : Scene} {r : Role} {c : List ℕ} {i k : ℕ} (h : Ready s r c i k)
     pub handed-by : {m : ℕ} {x′ : Stance r} {l : ℕ} → Sets (s .t) i m t′ → stance-of r (node (s .ns) i) m ≡ x′
         → T (ok q (stored-at s c g)) → l < many q (s .a) (part-at s g)
         → ((at : ℕ → Part) → ((j : ℕ) → Kid (shape (s .ns)) i j → ((n : ℕ) → Under (shape (s .ns)) g n → Under (shape (s .ns)) j n → ⊥) → at j ≡ part-at s j)
-            → At (nexts q (get q (part-at s g)) (s .a)) l (get q (at g)) → At (nexts r (stance-term r x (part-at s)) (s .a)) k (stance-term r x′ at))
+        → At (nexts q (get q (part-at s g)) (s .a)) l (get q (at g)) → At (nexts r (stance-term r x (part-at s)) (s .a)) k (stance-term r x′ at))
         → Turned s c (move r i k) t′ (move q g l)
     handed-by {m} {x′} {l} w e′ good room goes =
         let same : part (s .ns) (modes t′) g ≡ part-at s g = same-part (s .ns) tree-of kid w in

@@ -73,13 +73,13 @@ module _ {s : Scene} {r : Role} {c : List ℕ} {i k : ℕ} (h : Ready s r c i k)
   module _ {m : ℕ} {t′ : List ℕ} (w : Sets (s .t) i m t′) {x′ : Stance r} (e′ : stance-of r (node (s .ns) i) m ≡ x′) where
     to-first : k < counts c (p .first)
         → ((at : ℕ → Part) → at (p .second) ≡ part-at s (p .second) → At (nexts r (get r (part-at s (p .first))) (s .a)) k (get r (at (p .first)))
-            → At (nexts r (stance-term r x (part-at s)) (s .a)) k (stance-term r x′ at))
+        → At (nexts r (stance-term r x (part-at s)) (s .a)) k (stance-term r x′ at))
         → Turned s c (move r i k) t′ (move r (p .first) k)
     to-first l goes = handed-by h e r (tw .one) w e′ first-right (subst (λ z. k < z) first-count l) (λ at same u. goes at (same (p .second) (tw .other) (tw .free)) u)
 
     to-second : k - counts c (p .first) < many r (s .a) (part-at s (p .second))
         → ((at : ℕ → Part) → at (p .first) ≡ part-at s (p .first) → At (nexts r (get r (part-at s (p .second))) (s .a)) (k - counts c (p .first)) (get r (at (p .second)))
-            → At (nexts r (stance-term r x (part-at s)) (s .a)) k (stance-term r x′ at))
+        → At (nexts r (stance-term r x (part-at s)) (s .a)) k (stance-term r x′ at))
         → Turned s c (move r i k) t′ (move r (p .second) (k - counts c (p .first)))
     to-second room goes = handed-by h e r (tw .other) w e′ second-right room (λ at same u. goes at (same (p .first) (tw .one) (λ j y z. tw .free j z y)) u)
 
