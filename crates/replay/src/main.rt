@@ -30,7 +30,7 @@ const FILLER: u8 = 165;
 fn four(a: u8, b: u8, c: u8, d: u8) -> u32
     ensures { λ r. ⌜ r ≡ a + 256 * b + 65536 * (c + 256 * d) ⌝ }
 {
-    flowfile::word(a, b) as u32 + 65536 * (flowfile::word(c, d) as u32)
+    format::number_from(a, b) as u32 + 65536 * (format::number_from(c, d) as u32)
 }
 
 fn fill(work: &mut [u8])
@@ -150,7 +150,7 @@ fn file_case() -> bool {
     if !fetch(&mut head, 2) {
         return bad_case();
     }
-    let n = flowfile::word(head[0], head[1]) as usize;
+    let n = format::number_from(head[0], head[1]) as usize;
     let mut file = [0u8; 65535];
     if !fetch(&mut file, n) {
         return bad_case();
@@ -171,8 +171,8 @@ fn judge_numbers(allowance: u32, room: usize, nodes: usize, records: usize) -> b
     }
     let mut ns = [0u16; 400];
     let mut rs = [0u16; 400];
-    flowfile::fill(&bytes, 0, nodes, &mut ns);
-    flowfile::fill(&bytes, 2 * nodes, records, &mut rs);
+    format::fill(&bytes, 0, nodes, &mut ns);
+    format::fill(&bytes, 2 * nodes, records, &mut rs);
     let mut work = [0u8; 40000];
     let mut out = [0u8; 64];
     let end = judge_lists(
@@ -192,8 +192,8 @@ fn judge_case() -> bool {
     }
     let allowance = four(head[0], head[1], head[2], head[3]);
     let room = four(head[4], head[5], head[6], head[7]) as usize;
-    let nodes = flowfile::word(head[8], head[9]) as usize;
-    let records = flowfile::word(head[10], head[11]) as usize;
+    let nodes = format::number_from(head[8], head[9]) as usize;
+    let records = format::number_from(head[10], head[11]) as usize;
     if MOST_WORK < room {
         return bad_case();
     }

@@ -14,12 +14,12 @@ use Rattle.program.proofs.judge_file.Reads as reads
 use Rattle.program.proofs.judge_file.Lts as lts
 use Rattle.program.proofs.judge_tables.Reads as judge-tables-reads
 use Rattle.program.proofs.wide.Reads as wide-reads
-use Rattle.flowfile.proofs.read.Reads as read-reads
+use Rattle.reader.proofs.read.Reads as read-reads
 
 -- the tables hold what the reader read
 held : (c : lts.After-wide2 (read-reads.Asked, read-reads.Learnt, wide-reads.Asked, wide-reads.Learnt, judge-tables-reads.Asked, judge-tables-reads.Learnt) reads.Pre reads.Post)
     → Held (now (c .before .before .before .before .before .before .before .before .before .before .before .args .file)) (c .before .before .before .before .before .before .before .read .last .1 .0) (c .before .before .before .before .before .before .before .read .last .1 .1 .0) (c .before .before .before .counts .given .0 .0)
-held c = file-read refl refl (c .before .before .before .before .before .before .before .read .ensures) (λ i. omega (arith, c .before .before .before .before .before .before .before .before .before .before .shared-slice-known .given i)) (c .before .before .before .counts .given .1)
+held c = file-read refl refl (c .before .before .before .before .before .before .before .read .ensures) (c .before .before .before .counts .given .1)
 
 slice-aggregate-read : tie.Need-slice-aggregate-read
 slice-aggregate-read c = search needs
