@@ -4,9 +4,9 @@
 use Prim.Native.Nat.{ℕ}
 use mathlib.Core.List.{List}
 use mathlib.Core.Path.{_≡_}
-use Rattle.flowfile.specs.declared.Reading.{Reading}
-use Rattle.flowfile.specs.declared.Reading.the-variants as read
-use Rattle.flowfile.specs.Reading.{reading}
+use Rattle.reader.specs.declared.Reading.{Reading}
+use Rattle.reader.specs.declared.Reading.the-variants as read
+use Rattle.reader.specs.Reading.{reading}
 use Rattle.judge.specs.declared.Answer.{Answer}
 use Rattle.judge.specs.declared.Answer.the-variants.{Refused}
 use Rattle.judge.specs.Judged.{told, judged}

@@ -1,9 +1,9 @@
 // A flow file judged as the program judges it, and the line that the program prints. What both are is defined in
 // specs/Program.antt.
-use flowfile::Reading;
 use judge::Answer;
 use line::Line;
 use line::VerdictWord;
+use reader::Reading;
 ghost use mathlib.Core.Path.{_≡_};
 ghost use Rattle.io.specs.Counts.{Counts};
 ghost use Rattle.judge.specs.Judged.{judged};
@@ -32,7 +32,7 @@ pub fn judge_file(file: &[u8]) -> Answer
 {
     let mut nodes = [0u16; 192];
     let mut records = [0u16; 256];
-    match flowfile::read(file, &mut nodes, &mut records) {
+    match reader::read(file, &mut nodes, &mut records) {
         Reading::Read(counts) => {
             let n = 3 * wide(counts.nodes);
             let k = wide(counts.records);

@@ -7,7 +7,7 @@ pub fn file_case() -> bool {
     if !input::fetch(&mut head, 2) {
         return input::bad_case();
     }
-    let n = flowfile::word(head[0], head[1]) as usize;
+    let n = format::number_from(head[0], head[1]) as usize;
     let mut file = [0u8; 65535];
     if !input::fetch(&mut file, n) {
         return input::bad_case();

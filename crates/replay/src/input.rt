@@ -9,7 +9,7 @@ ghost use lib.ListN.{length};
 pub fn four(a: u8, b: u8, c: u8, d: u8) -> u32
     ensures { λ r. ⌜ r ≡ a + 256 * b + 65536 * (c + 256 * d) ⌝ }
 {
-    flowfile::word(a, b) as u32 + 65536 * (flowfile::word(c, d) as u32)
+    format::number_from(a, b) as u32 + 65536 * (format::number_from(c, d) as u32)
 }
 
 // Reads so many bytes, and answers whether they were there.

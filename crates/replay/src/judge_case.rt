@@ -57,8 +57,8 @@ fn judge_numbers(allowance: u32, room: usize, nodes: usize, records: usize) -> b
     }
     let mut ns = [0u16; 400];
     let mut rs = [0u16; 400];
-    flowfile::fill(&bytes, 0, nodes, &mut ns);
-    flowfile::fill(&bytes, 2 * nodes, records, &mut rs);
+    format::fill(&bytes, 0, nodes, &mut ns);
+    format::fill(&bytes, 2 * nodes, records, &mut rs);
     let mut work = [0u8; 40000];
     let mut out = [0u8; 64];
     let end = judge_lists(
@@ -78,8 +78,8 @@ pub fn judge_case() -> bool {
     }
     let allowance = input::four(head[0], head[1], head[2], head[3]);
     let room = input::four(head[4], head[5], head[6], head[7]) as usize;
-    let nodes = flowfile::word(head[8], head[9]) as usize;
-    let records = flowfile::word(head[10], head[11]) as usize;
+    let nodes = format::number_from(head[8], head[9]) as usize;
+    let records = format::number_from(head[10], head[11]) as usize;
     if MOST_WORK < room {
         return input::bad_case();
     }

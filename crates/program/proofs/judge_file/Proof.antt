@@ -15,7 +15,7 @@ use Rattle.program.proofs.judge_file.Reads as reads
 use Rattle.program.proofs.judge_file.Lts as lts
 use Rattle.program.proofs.judge_tables.Reads as judge-tables-reads
 use Rattle.program.proofs.wide.Reads as wide-reads
-use Rattle.flowfile.proofs.read.Reads as read-reads
+use Rattle.reader.proofs.read.Reads as read-reads
 
 -- the tables hold what the reader read
 held : (c : lts.After-wide2 (read-reads.Asked, read-reads.Learnt, wide-reads.Asked, wide-reads.Learnt, judge-tables-reads.Asked, judge-tables-reads.Learnt) reads.Pre reads.Post)

@@ -17,14 +17,14 @@ bad-case-requires c κs = search needs
 returns : tie.Need-returns
 returns c = search needs
 
-array-read-word : tie.Need-array-read-word
-array-read-word c = search needs
+array-read-number-from : tie.Need-array-read-number-from
+array-read-number-from c = search needs
 
-array-read-word-2 : tie.Need-array-read-word-2
-array-read-word-2 c = search needs
+array-read-number-from-2 : tie.Need-array-read-number-from-2
+array-read-number-from-2 c = search needs
 
-word-requires : tie.Need-word-requires
-word-requires c κs = search needs
+number-from-requires : tie.Need-number-from-requires
+number-from-requires c κs = search needs
 
 cast-n : tie.Need-cast-n
 cast-n c = search needs
@@ -70,9 +70,9 @@ file-case-spec =
     fetch-requires
     bad-case-requires
     returns
-    array-read-word
-    array-read-word-2
-    word-requires
+    array-read-number-from
+    array-read-number-from-2
+    number-from-requires
     cast-n
     slice-aggregate-fetch-2
     fetch-requires-2

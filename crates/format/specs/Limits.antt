@@ -1,0 +1,47 @@
+-- Which flow files are within the limits of 01, "The flow file", and what it means that bytes stand at an offset of a file.
+-- What the numbers mean (4 to 9, 12, 13, 19, 20) is no limit: the grounds of Contents say that. Definitions only. Assumes nothing.
+use Prim.Native.Nat.{ℕ, _+_, _*_, _≤_, _<_}
+use mathlib.Core.List.{List, [], _∷_, _++_, List·Memᴰ}
+use mathlib.Core.Path.{_≡_}
+use lib.ListN.{length, getD, drop}
+use Rattle.format.specs.declared.Range.{Range}
+use Rattle.format.specs.Format.{Entry, File}
+use Rattle.format.specs.Sections.{step-length, machine-length, name-count, node-count, record-count}
+
+pub record InRange (g : Range) (n : ℕ) : Type 0 where
+  pub low : g .least ≤ n
+  pub high : n ≤ g .most
+
+-- "a step name (a length byte 1 to 40, then the bytes) and a machine name (0 to 40)"
+pub record GoodEntry (e : Entry) : Type 0 where
+  pub step-good : InRange step-length (length (e .step))
+  pub machine-good : InRange machine-length (length (e .machine))
+
+-- entries behind earlier ones: each of them good, and none equal to one before it
+pub data GoodEntries : List Entry → List Entry → Type 0 where
+  no-entries : {earlier : List Entry} → GoodEntries earlier []
+  one-entry : {earlier : List Entry} {e : Entry} {es : List Entry} → GoodEntry e → (List·Memᴰ e earlier → ⊥) → GoodEntries (earlier ++ (e ∷ [])) es → GoodEntries earlier (e ∷ es)
+
+pub record GoodNames (es : List Entry) : Type 0 where
+  pub counted : InRange name-count (length es)
+  pub entries : GoodEntries [] es
+
+-- whole nodes or records, as many as there may be
+pub record GoodNumbers (g : Range) (each : ℕ) (ns : List ℕ) : Type 0 where
+  pub n : ℕ
+  pub whole : length ns ≡ each * n
+  pub counted : InRange g n
+
+pub record WithinLimits (f : File) : Type 0 where
+  pub names : GoodNames (f .names)
+  pub nodes : GoodNumbers node-count 3 (f .nodes)
+  pub records : GoodNumbers record-count 1 (f .records)
+
+-- what is known of the bytes of a file
+abbrev pub Bytes : List ℕ → Type 0
+Bytes s = (i : ℕ) → getD s i 0 < 256
+
+-- the bytes xs stand in s at an offset
+pub record Stands (s : List ℕ) (at : ℕ) (xs : List ℕ) : Type 0 where
+  pub begins : drop at s ≡ xs ++ drop (at + length xs) s
+  pub inside : at + length xs ≤ length s

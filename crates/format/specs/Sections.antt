@@ -1,0 +1,115 @@
+-- How a flow file is gone through, item by item, in the order of 01, "The flow file": 15 to 18 on the names, 1 and 3 on the node
+-- count, 10 and 11 on the record count, and 15 wherever an item is cut. All places are byte offsets.
+-- Not here: what the numbers of a file mean (Contents), and what a refusal means in terms of the format. Definitions only.
+-- Assumes nothing.
+use Prim.Native.Nat.{ℕ, zero, suc, _+_, _*_}
+use mathlib.Core.Bool.{Bool, true, false, _&&_, _||_, cond}
+use mathlib.Core.List.{List, [], _∷_, _++_}
+use lib.Dec.{eqb, ltb}
+use lib.ListN.{getD}
+use Rattle.format.specs.declared.Range.{Range}
+use Rattle.format.specs.Format.{Entry, File}
+use Rattle.format.specs.Plan.{Plan, done, refuse, place, item, _>>=_}
+
+---- Items ----
+
+unfoldable pub byte : Plan ℕ
+byte = item 1 (λ b. done (getD b 0 0))
+
+-- "little-endian, 16 bits"
+unfoldable pub number : Plan ℕ
+number = item 2 (λ b. done (getD b 0 0 + 256 * getD b 1 0))
+
+-- a count or a length that is out of its range is refused at its own offset
+unfoldable pub ranged : Range → Plan ℕ → Plan ℕ
+unfolding _>>=_
+ranged g p = place (λ at. p >>= (λ n. cond (ltb n (g .least)) (refuse (g .few) at) (cond (ltb (g .most) n) (refuse (g .many) at) (done n))))
+
+-- "a length byte 1 to 40", and "0 to 40"; 17: "length out of range"
+abbrev pub step-length : Range
+step-length = record { least = 1; few = 17; most = 40; many = 17 }
+
+abbrev pub machine-length : Range
+machine-length = record { least = 0; few = 17; most = 40; many = 17 }
+
+-- 16: "over 256 names"
+abbrev pub name-count : Range
+name-count = record { least = 0; few = 16; most = 256; many = 16 }
+
+-- "1 and 3 on the node count, 10 and 11 on the record count"
+abbrev pub node-count : Range
+node-count = record { least = 1; few = 1; most = 64; many = 3 }
+
+abbrev pub record-count : Range
+record-count = record { least = 1; few = 10; most = 256; many = 11 }
+
+---- Names ----
+
+-- "a length byte .., then the bytes"
+unfoldable pub name : Range → Plan (List ℕ)
+unfolding _>>=_ ranged byte
+name g = ranged g byte >>= (λ n. item n (λ b. done b))
+
+-- "each entry a step name .. and a machine name"
+unfoldable pub entry : Plan Entry
+unfolding _>>=_ name
+entry = do
+  s ← name step-length
+  m ← name machine-length
+  done (record { step = s; machine = m })
+
+unfoldable pub same-bytes : List ℕ → List ℕ → Bool
+same-bytes [] [] = true
+same-bytes [] (b ∷ bs) = false
+same-bytes (a ∷ as′) [] = false
+same-bytes (a ∷ as′) (b ∷ bs) = eqb a b && same-bytes as′ bs
+
+-- "Two entries are the same only if both names are equal byte by byte."
+unfoldable pub same-entry : Entry → Entry → Bool
+unfolding same-bytes
+same-entry e g = same-bytes (e .step) (g .step) && same-bytes (e .machine) (g .machine)
+
+-- whether the entry is one of the earlier ones
+unfoldable pub met : Entry → List Entry → Bool
+unfolding same-entry
+met e [] = false
+met e (g ∷ gs) = same-entry g e || met e gs
+
+-- 18: "entry equal to an earlier one", at the entry
+unfoldable pub new-entry : List Entry → Plan Entry
+unfolding _>>=_ entry met
+new-entry earlier = place (λ at. entry >>= (λ e. cond (met e earlier) (refuse 18 at) (done e)))
+
+-- so many entries more, behind the earlier ones
+unfoldable pub entries : ℕ → List Entry → Plan (List Entry)
+unfolding _>>=_ new-entry
+entries zero earlier = done earlier
+entries (suc k) earlier = new-entry earlier >>= (λ e. entries k (earlier ++ (e ∷ [])))
+
+unfoldable pub names : Plan (List Entry)
+unfolding _>>=_ ranged number entries
+names = ranged name-count number >>= (λ n. entries n [])
+
+---- Nodes and records ----
+
+unfoldable pub numbers : ℕ → Plan (List ℕ)
+unfolding _>>=_ number
+numbers zero = done []
+numbers (suc k) = do
+  n ← number
+  ns ← numbers k
+  done (n ∷ ns)
+
+-- a count, and so many times `each` numbers
+unfoldable pub section : Range → ℕ → Plan (List ℕ)
+unfolding _>>=_ ranged number numbers
+section g each = ranged g number >>= (λ n. numbers (each * n))
+
+-- "Three sections in a fixed order"
+unfoldable pub layout : Plan File
+unfolding _>>=_ names section
+layout = do
+  es ← names
+  ns ← section node-count 3
+  rs ← section record-count 1
+  done (record { names = es; nodes = ns; records = rs })

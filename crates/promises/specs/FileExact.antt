@@ -1,0 +1,319 @@
+-- The plan of the flow file reads exactly the files of the format that are within the limits, and finds what they hold: sections
+-- that stand in a file are read back, and what is read stands there. Assumes nothing.
+use Prim.Native.Nat.{ℕ, zero, suc, _+_, _*_, _/_, _≤_}
+use mathlib.Core.List.{List, [], _∷_, _++_, append-assoc, append-nil}
+use mathlib.Core.Path.{_≡_, refl, ap, ap₂, sym, _∙_, subst}
+use native.Mathlib.Omega.{arith}
+use lib.ListN.{length, length-append}
+use Rattle.format.specs.declared.Range.{Range}
+use Rattle.format.specs.Format.{number-bytes, numbers-bytes, Entry, entry-bytes, entries-bytes, names-section, numbers-section, File, encode}
+use Rattle.format.specs.Plan.{Ran, got, bad, run}
+use Rattle.format.specs.Sections.{number, ranged, name-count, node-count, record-count, new-entry, entries, names, numbers, section, layout}
+use Rattle.format.specs.Limits.{InRange, GoodEntries, no-entries, one-entry, GoodNames, GoodNumbers, WithinLimits, Bytes, Stands}
+use Rattle.format.specs.Items.{numbers-at, number-at}
+use Rattle.format.specs.ItemLaws.{got-value, got-next, got-not-bad, number-got, number-there, NumberThere, ranged-got, ranged-there}
+use Rattle.format.specs.SectionLaws.{names-bad, names-from, numbers-got, new-entry-got, new-entry-there, entries-bad, entries-more, section-from, section-there}
+use Rattle.reader.specs.LayoutLaws.{layout-got, layout-runs}
+use Rattle.promises.specs.SameNames.{not-among, not-met}
+use Rattle.promises.specs.FileStands.{stands-nil, stands-move, stands-left, stands-right, stands-join, number-reads, number-stands, entry-reads, entry-stands}
+
+module _ (s : List ℕ) where
+  ---- Entries ----
+
+  -- entries that stand in s are passed, whatever is to come behind them
+  pub entries-pass : (at k : ℕ) {earlier es : List Entry} → GoodEntries earlier es → Stands s at (entries-bytes es)
+      → run s at (entries (length es + k) earlier) ≡ run s (at + length (entries-bytes es)) (entries k (earlier ++ es))
+  unfolding entries entries-bytes
+  entries-pass at k {earlier} no-entries h =
+      let e : at ≡ at + 0 = omega arith in
+      let z : 0 + k ≡ k = omega arith in
+      ap (λ (n : ℕ). run s at (entries n earlier)) z ∙ ap₂ (λ (n : ℕ) (gs : List Entry). run s n (entries k gs)) e (sym (append-nil earlier))
+  entries-pass at k (one-entry {earlier} {e} {es} g n f) h =
+      let a = entry-reads s at e g (stands-left s at (entry-bytes e) (entries-bytes es) h) in
+      let b = stands-right s at (entry-bytes e) (entries-bytes es) h in
+      let l : (at + length (entry-bytes e)) + length (entries-bytes es) ≡ at + length (entry-bytes e ++ entries-bytes es) =
+      omega (arith, length-append (entry-bytes e) (entries-bytes es)) in
+      let c : suc (length es) + k ≡ suc (length es + k) = omega arith in
+      ap (λ (m : ℕ). run s at (entries m earlier)) c
+      ∙ entries-more s at earlier (length es + k) (new-entry-got s at earlier a (not-among e earlier n))
+      ∙ entries-pass (at + length (entry-bytes e)) k f b
+      ∙ ap₂ (λ (m : ℕ) (gs : List Entry). run s m (entries k gs)) l (append-assoc earlier (e ∷ []) es)
+
+  pub entries-read : (at : ℕ) {earlier es : List Entry} → GoodEntries earlier es → Stands s at (entries-bytes es)
+      → run s at (entries (length es) earlier) ≡ got (earlier ++ es) (at + length (entries-bytes es))
+  unfolding entries run
+  entries-read at {earlier} {es} f h =
+      let z : length es ≡ length es + 0 = omega arith in
+      ap (λ (n : ℕ). run s at (entries n earlier)) z ∙ entries-pass at 0 f h
+
+  pub record EntriesStand (k : ℕ) (earlier : List Entry) (at : ℕ) (es : List Entry) (next : ℕ) : Type 0 where
+    pub later : List Entry
+    pub is : es ≡ earlier ++ later
+    pub sized : length later ≡ k
+    pub follow : GoodEntries earlier later
+    pub stands : Stands s at (entries-bytes later)
+    pub ends : next ≡ at + length (entries-bytes later)
+
+  pub entries-stand : (k at : ℕ) (earlier : List Entry) {es : List Entry} {next : ℕ} → at ≤ length s → run s at (entries k earlier) ≡ got es next
+      → EntriesStand k earlier at es next
+  unfolding entries run entries-bytes
+  entries-stand zero at earlier l e =
+      record {
+        later = [];
+        is = sym (got-value e) ∙ sym (append-nil earlier);
+        sized = refl;
+        follow = no-entries;
+        stands = stands-nil s l;
+        ends = omega (arith, got-next e);
+      }
+  entries-stand (suc k) at earlier {es} {next} l e = by (λ a g l′ e′. entries-stand k a g l′ e′) (run s at (new-entry earlier)) refl
+    where
+      by : ((a : ℕ) (g : List Entry) → a ≤ length s → run s a (entries k g) ≡ got es next → EntriesStand k g a es next) → (x : Ran Entry)
+          → run s at (new-entry earlier) ≡ x → EntriesStand (suc k) earlier at es next
+      by rec (got g m) q =
+          let t = new-entry-there s at earlier q in
+          let w = entry-stands s at (t .read) in
+          let r = rec m (earlier ++ (g ∷ [])) (omega (arith, w .ends, w .stands .inside)) (sym (entries-more s at earlier k q) ∙ e) in
+          record {
+            later = g ∷ r .later;
+            is = r .is ∙ append-assoc earlier (g ∷ []) (r .later);
+            sized = ap suc (r .sized);
+            follow = one-entry (w .good) (not-met g earlier (t .new)) (r .follow);
+            stands = stands-join s at (entry-bytes g) (entries-bytes (r .later)) (w .ends) (w .stands) (r .stands);
+            ends = omega (arith, r .ends, w .ends, length-append (entry-bytes g) (entries-bytes (r .later)));
+          }
+      by rec (bad n p) q = got-not-bad e (entries-bad s at earlier k q)
+
+  ---- Numbers ----
+
+  pub numbers-bytes-length : (ns : List ℕ) → length (numbers-bytes ns) ≡ 2 * length ns
+  unfolding numbers-bytes number-bytes
+  numbers-bytes-length [] = refl
+  numbers-bytes-length (n ∷ ns) = omega (arith, numbers-bytes-length ns)
+
+  values-are : (at : ℕ) (ns : List ℕ) → Stands s at (numbers-bytes ns) → numbers-at s (length ns) at ≡ ns
+  unfolding numbers-at numbers-bytes number-bytes
+  values-are at [] h = refl
+  values-are at (n ∷ ns) h =
+      let a = stands-left s at (number-bytes n) (numbers-bytes ns) h in
+      ap₂ _∷_ (got-value (sym (number-got s at (a .inside)) ∙ number-reads s at n a)) (values-are (at + 2) ns (stands-right s at (number-bytes n) (numbers-bytes ns) h))
+
+  pub numbers-read : (at : ℕ) (ns : List ℕ) → Stands s at (numbers-bytes ns) → run s at (numbers (length ns)) ≡ got ns (at + length (numbers-bytes ns))
+  numbers-read at ns h =
+      let l : at + 2 * length ns ≡ at + length (numbers-bytes ns) = omega (arith, numbers-bytes-length ns) in
+      numbers-got s (length ns) at (omega (arith, h .inside, numbers-bytes-length ns)) ∙ ap₂ got (values-are at ns h) l
+
+  values-stand : Bytes s → (k at : ℕ) → at + 2 * k ≤ length s → Stands s at (numbers-bytes (numbers-at s k at))
+  unfolding numbers-at numbers-bytes number-bytes
+  values-stand b zero at h = stands-nil s (omega arith)
+  values-stand b (suc k) at h =
+      let t : NumberThere s at (number-at s at) (at + 2) = record { is = refl; ends = refl; inside = omega arith } in
+      stands-join s at (number-bytes (number-at s at)) (numbers-bytes (numbers-at s k (at + 2))) refl (number-stands s b at (number-at s at) (at + 2) t)
+      (values-stand b k (at + 2) (omega arith))
+
+  ---- The sections ----
+
+  pub number-bytes-length : (n : ℕ) → length (number-bytes n) ≡ 2
+  unfolding number-bytes
+  number-bytes-length n = refl
+
+  -- a count that stands in s, in its range, is read
+  pub count-reads : (at : ℕ) (g : Range) (v : ℕ) → Stands s at (number-bytes v) → InRange g v → run s at (ranged g number) ≡ got v (at + 2)
+  count-reads at g v h r = ranged-got s at g number (number-reads s at v h) (r .low) (r .high)
+
+  -- a section of numbers: how many there are, and that they stand behind their count
+  pub section-reads : (at : ℕ) (g : Range) (each : ℕ) (ns : List ℕ) → length ns ≡ each * (length ns / each) → InRange g (length ns / each)
+      → Stands s at (numbers-section each ns) → run s at (section g each) ≡ got ns (at + length (numbers-section each ns))
+  unfolding numbers-section
+  section-reads at g each ns w r h =
+      let n = length ns / each in
+      let l = number-bytes-length n in
+      let a = stands-left s at (number-bytes n) (numbers-bytes ns) h in
+      let b = stands-move s (numbers-bytes ns) (ap (λ (k : ℕ). at + k) l) (stands-right s at (number-bytes n) (numbers-bytes ns) h) in
+      section-from s at g each (count-reads at g n a r) ∙ ap (λ (k : ℕ). run s (at + 2) (numbers k)) (sym w) ∙ numbers-read (at + 2) ns b
+      ∙ ap (got ns) (omega (arith, length-append (number-bytes n) (numbers-bytes ns)))
+
+  pub record SectionStands (g : Range) (each at : ℕ) (ns : List ℕ) (next : ℕ) : Type 0 where
+    pub n : ℕ
+    pub whole : length ns ≡ each * n
+    pub counted : InRange g n
+    pub count-stands : Stands s at (number-bytes n)
+    pub numbers-stand : Stands s (at + 2) (numbers-bytes ns)
+    pub ends : next ≡ at + 2 + 2 * (each * n)
+
+  pub section-stands : Bytes s → (at : ℕ) (g : Range) (each : ℕ) {ns : List ℕ} {next : ℕ} → run s at (section g each) ≡ got ns next → SectionStands g each at ns next
+  section-stands b at g each {ns} {next} e =
+      let t = section-there s at g each e in
+      let u : NumberThere s at (t .n) (at + 2) = record { is = t .counted; ends = refl; inside = omega (arith, t .ends, t .inside) } in
+      record {
+        n = t .n;
+        whole = t .sized;
+        counted = record { low = t .low; high = t .high };
+        count-stands = number-stands s b at (t .n) (at + 2) u;
+        numbers-stand = subst (λ (xs : List ℕ). Stands s (at + 2) (numbers-bytes xs)) (sym (t .is)) (values-stand b (each * t .n) (at + 2) (omega (arith, t .ends, t .inside)));
+        ends = t .ends;
+      }
+
+  -- the whole section, where so many numbers make n
+  pub section-whole : {g : Range} {each at : ℕ} {ns : List ℕ} {next : ℕ} (t : SectionStands g each at ns next) → length ns / each ≡ t .n
+      → Stands s at (numbers-section each ns) × (next ≡ at + length (numbers-section each ns))
+  unfolding numbers-section
+  section-whole {g} {each} {at} {ns} {next} t d =
+      let n = length ns / each in
+      let l = number-bytes-length n in
+      let c : Stands s at (number-bytes n) = subst (λ (k : ℕ). Stands s at (number-bytes k)) (sym d) (t .count-stands) in
+      let w : next ≡ at + 2 + 2 * length ns = t .ends ∙ ap (λ (k : ℕ). at + 2 + 2 * k) (sym (t .whole)) in (
+        stands-join s at (number-bytes n) (numbers-bytes ns) (omega arith) c (t .numbers-stand),
+        omega (arith, length-append (number-bytes n) (numbers-bytes ns), numbers-bytes-length ns),
+      )
+
+  pub names-read : {es : List Entry} → GoodNames es → Stands s 0 (names-section es) → run s 0 names ≡ got es (length (names-section es))
+  unfolding names-section number-bytes
+  names-read {es} f h =
+      let a = stands-left s 0 (number-bytes (length es)) (entries-bytes es) h in
+      let b = stands-right s 0 (number-bytes (length es)) (entries-bytes es) h in
+      names-from s (count-reads 0 name-count (length es) a (f .counted)) ∙ entries-read 2 (f .entries) b
+      ∙ ap (got es) (sym (length-append (number-bytes (length es)) (entries-bytes es)))
+
+  -- good names stand at the start of s, and end at an offset
+  pub record NamesStand (es : List Entry) (next : ℕ) : Type 0 where
+    pub good : GoodNames es
+    pub stands : Stands s 0 (names-section es)
+    pub ends : next ≡ length (names-section es)
+
+  pub names-stand : Bytes s → {es : List Entry} {next : ℕ} → run s 0 names ≡ got es next → NamesStand es next
+  unfolding names-section number-bytes
+  names-stand b {es} {next} e = by (run s 0 (ranged name-count number)) refl
+    where
+      by : (x : Ran ℕ) → run s 0 (ranged name-count number) ≡ x → NamesStand es next
+      by (got v m) q =
+          let t = ranged-there s 0 name-count number q in
+          let w = number-there s 0 (t .read) in
+          let r = entries-stand v m [] (omega (arith, w .ends, w .inside)) (sym (names-from s q) ∙ e) in
+          let n : length es ≡ v = ap length (r .is) ∙ r .sized in
+          let c : Stands s 0 (number-bytes (length es)) = subst (λ (k : ℕ). Stands s 0 (number-bytes k)) (sym n) (number-stands s b 0 v m w) in
+          let d : Stands s m (entries-bytes es) = subst (λ (gs : List Entry). Stands s m (entries-bytes gs)) (sym (r .is)) (r .stands) in
+          record {
+            good =
+                record {
+                  counted = record { low = omega arith; high = omega (arith, t .high) };
+                  entries = subst (λ (gs : List Entry). GoodEntries [] gs) (sym (r .is)) (r .follow);
+                };
+            stands = stands-join s 0 (number-bytes (length es)) (entries-bytes es) (w .ends) c d;
+            ends =
+                r .ends ∙ ap₂ (λ (k : ℕ) (gs : List Entry). k + length (entries-bytes gs)) (w .ends) (sym (r .is))
+                ∙ sym (length-append (number-bytes (length es)) (entries-bytes es));
+          }
+      by (bad n p) q = got-not-bad e (names-bad s q)
+
+  ---- The file ----
+
+  -- what is known of good numbers: three to a node, one to a record
+  pub nodes-whole : {g : Range} {ns : List ℕ} → GoodNumbers g 3 ns → (length ns ≡ 3 * (length ns / 3)) × InRange g (length ns / 3)
+  nodes-whole {g} {ns} w =
+      let d : w .n ≡ length ns / 3 = omega (arith, w .whole) in
+      (omega (arith, w .whole), subst (InRange g) d (w .counted))
+
+  pub records-whole : {g : Range} {ns : List ℕ} → GoodNumbers g 1 ns → (length ns ≡ 1 * (length ns / 1)) × InRange g (length ns / 1)
+  records-whole {g} {ns} w =
+      let d : w .n ≡ length ns / 1 = omega (arith, w .whole) in
+      (omega (arith, w .whole), subst (InRange g) d (w .counted))
+
+  -- names and nodes stand at the start of s, and end at an offset
+  pub record NodesStand (es : List Entry) (ns : List ℕ) (next : ℕ) : Type 0 where
+    pub names-good : GoodNames es
+    pub nodes-good : GoodNumbers node-count 3 ns
+    pub stands : Stands s 0 (names-section es ++ numbers-section 3 ns)
+    pub ends : next ≡ length (names-section es ++ numbers-section 3 ns)
+
+  -- the runs of names and nodes that stand in s
+  pub nodes-read : {es : List Entry} {ns : List ℕ} → GoodNames es → GoodNumbers node-count 3 ns → Stands s 0 (names-section es ++ numbers-section 3 ns)
+      → (run s 0 names ≡ got es (length (names-section es)))
+      × (run s (length (names-section es)) (section node-count 3) ≡ got ns (length (names-section es ++ numbers-section 3 ns)))
+  nodes-read {es} {ns} g w h =
+      let a = stands-left s 0 (names-section es) (numbers-section 3 ns) h in
+      let b = stands-right s 0 (names-section es) (numbers-section 3 ns) h in
+      let e : 0 + length (names-section es) ≡ length (names-section es) = omega arith in
+      let v = nodes-whole w in (
+        names-read g a,
+        section-reads (length (names-section es)) node-count 3 ns (v .0) (v .1) (stands-move s (numbers-section 3 ns) e b)
+            ∙ ap (got ns) (sym (length-append (names-section es) (numbers-section 3 ns))),
+      )
+
+  pub nodes-stand : Bytes s → {es : List Entry} {ns : List ℕ} {from next : ℕ} → run s 0 names ≡ got es from → run s from (section node-count 3) ≡ got ns next → NodesStand es ns next
+  nodes-stand b {es} {ns} {from} {next} p q =
+      let a = names-stand b p in
+      let t = section-stands b from node-count 3 q in
+      let c = section-whole t (omega (arith, t .whole)) in
+      let e : from ≡ 0 + length (names-section es) = omega (arith, a .ends) in
+      record {
+        names-good = a .good;
+        nodes-good = record { n = t .n; whole = t .whole; counted = t .counted };
+        stands = stands-join s 0 (names-section es) (numbers-section 3 ns) e (a .stands) (c .0);
+        ends = omega (arith, a .ends, c .1, length-append (names-section es) (numbers-section 3 ns));
+      }
+
+  -- a file of the format within the limits stands at the start of s, and ends at an offset
+  pub record FileStands (f : File) (end : ℕ) : Type 0 where
+    pub within : WithinLimits f
+    pub stands : Stands s 0 (encode f)
+    pub ends : end ≡ length (encode f)
+
+  -- the parts of a file that stands in s, each read
+  pub record Parts (f : File) : Type 0 where
+    pub from : ℕ
+    pub mid : ℕ
+    pub names-stand-at : Stands s 0 (names-section (f .names))
+    pub names-run : run s 0 names ≡ got (f .names) from
+    pub nodes-stand-at : Stands s from (numbers-section 3 (f .nodes))
+    pub nodes-run : run s from (section node-count 3) ≡ got (f .nodes) mid
+    pub records-stand-at : Stands s mid (numbers-section 1 (f .records))
+    pub records-run : run s mid (section record-count 1) ≡ got (f .records) (length (encode f))
+
+  pub layout-parts : (f : File) → WithinLimits f → Stands s 0 (encode f) → Parts f
+  unfolding encode
+  layout-parts f w h =
+      let es = names-section (f .names) in
+      let ns = numbers-section 3 (f .nodes) in
+      let rs = numbers-section 1 (f .records) in
+      let a = stands-left s 0 (es ++ ns) rs (subst (λ (xs : List ℕ). Stands s 0 xs) (sym (append-assoc es ns rs)) h) in
+      let c = stands-right s 0 (es ++ ns) rs (subst (λ (xs : List ℕ). Stands s 0 xs) (sym (append-assoc es ns rs)) h) in
+      let r = nodes-read (w .names) (w .nodes) a in
+      let v = records-whole (w .records) in
+      let e1 : 0 + length es ≡ length es = omega arith in
+      let e2 : 0 + length (es ++ ns) ≡ length (es ++ ns) = omega arith in
+      let records = stands-move s rs e2 c in
+      record {
+        from = length es;
+        mid = length (es ++ ns);
+        names-stand-at = stands-left s 0 es ns a;
+        names-run = r .0;
+        nodes-stand-at = stands-move s ns e1 (stands-right s 0 es ns a);
+        nodes-run = r .1;
+        records-stand-at = records;
+        records-run =
+            section-reads (length (es ++ ns)) record-count 1 (f .records) (v .0) (v .1) records
+            ∙ ap (got (f .records)) (sym (length-append (es ++ ns) rs) ∙ ap length (append-assoc es ns rs));
+      }
+
+  -- a file that stands in s is read
+  pub layout-reads : (f : File) → WithinLimits f → Stands s 0 (encode f) → run s 0 layout ≡ got f (length (encode f))
+  layout-reads f w h = let p = layout-parts f w h in layout-got s (p .names-run) (p .nodes-run) (p .records-run)
+
+  -- a file that is read stands in s
+  pub layout-stands : Bytes s → {f : File} {end : ℕ} → run s 0 layout ≡ got f end → FileStands f end
+  unfolding encode
+  layout-stands b {f} {end} e =
+      let l = layout-runs s e in
+      let es = names-section (f .names) in
+      let ns = numbers-section 3 (f .nodes) in
+      let rs = numbers-section 1 (f .records) in
+      let a = nodes-stand b (l .names-run) (l .nodes-run) in
+      let t = section-stands b (l .mid) record-count 1 (l .records-run) in
+      let c = section-whole t (omega (arith, t .whole)) in
+      let q : l .mid ≡ 0 + length (es ++ ns) = omega (arith, a .ends) in
+      record {
+        within = record { names = a .names-good; nodes = a .nodes-good; records = record { n = t .n; whole = t .whole; counted = t .counted } };
+        stands = subst (λ (xs : List ℕ). Stands s 0 xs) (append-assoc es ns rs) (stands-join s 0 (es ++ ns) rs q (a .stands) (c .0));
+        ends = omega (arith, a .ends, c .1, length-append (es ++ ns) rs, ap length (append-assoc es ns rs));
+      }

@@ -1,0 +1,51 @@
+-- What the functions on the way to `read` answer: the refusal in a layout or a check, where the numbers of a file stand, and what
+-- `lay_out` answers. Definitions only. Assumes nothing.
+use Prim.Native.Nat.{ℕ, _+_, _*_, _≤_, _<_}
+use mathlib.Core.List.{List}
+use mathlib.Core.Path.{_≡_}
+use lib.ListN.{length}
+use Rattle.flow.specs.declared.Refusal.{Refusal}
+use Rattle.flow.specs.declared.Check.{Check}
+use Rattle.flow.specs.declared.Check.the-variants as check
+use Rattle.format.specs.Format.{File}
+use Rattle.format.specs.Plan.{got, bad, run}
+use Rattle.format.specs.Sections.{names, section, node-count, record-count, layout}
+use Rattle.format.specs.Items.{refusal-of}
+use Rattle.reader.specs.declared.Offsets.{Offsets}
+use Rattle.reader.specs.declared.Layout.{Layout}
+use Rattle.reader.specs.declared.Layout.the-variants.{At, Bad}
+use Rattle.reader.specs.Reading.{counts-of}
+
+unfoldable pub layout-refusal : Layout → Refusal
+layout-refusal (At o) = refusal-of 0 0
+layout-refusal (Bad r) = r
+
+unfoldable pub check-refusal : Check → Refusal
+check-refusal check.Fine = refusal-of 0 0
+check-refusal (check.Refused r) = r
+
+-- the numbers of so many nodes and records stand at their offsets
+pub record Inside (s : List ℕ) (o : Offsets) : Type 0 where
+  pub some-nodes : 1 ≤ o .counts .nodes
+  pub few-nodes : o .counts .nodes ≤ 64
+  pub few-records : o .counts .records ≤ 256
+  pub nodes-inside : o .nodes + 2 * (3 * o .counts .nodes) ≤ length s
+  pub records-inside : o .records + 2 * o .counts .records ≤ length s
+
+-- the sections of f are read one after the other, the numbers of two of them behind their counts, to the end of the file
+pub record Placed (s : List ℕ) (f : File) (o : Offsets) : Type 0 where
+  pub from : ℕ
+  pub mid : ℕ
+  pub names-run : run s 0 names ≡ got (f .names) from
+  pub nodes-run : run s from (section node-count 3) ≡ got (f .nodes) mid
+  pub records-run : run s mid (section record-count 1) ≡ got (f .records) (o .end)
+  pub counts-are : o .counts ≡ counts-of f
+  pub nodes-are-at : o .nodes ≡ from + 2
+  pub records-are-at : o .records ≡ mid + 2
+  pub ends : o .end ≡ length s
+
+-- the offsets of the sections, or the refusal up to 21
+pub data Lays (s : List ℕ) : Layout → Type 0 where
+  lays-bad : {r : Refusal} → run s 0 layout ≡ bad (r .number) (r .place) → Lays s (Bad r)
+  lays-long : {f : File} {end : ℕ} → run s 0 layout ≡ got f end → end < length s → Lays s (Bad (refusal-of 21 end))
+  lays-at : {o : Offsets} (f : File) → Placed s f o → Lays s (At o)
