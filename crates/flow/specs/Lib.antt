@@ -3,14 +3,13 @@ pub mod Nodes
 pub mod Kinds
 pub mod Records
 pub mod Refusals
-pub mod Given
+pub mod Earliest
 pub mod Forms
 pub mod Draws
 -- Theorems.
 pub mod Tests
 pub mod EachKind
 pub mod FirstRefusal
-pub mod ExactlyWhen
 pub mod Children
 pub mod Closings
 pub mod FineTable

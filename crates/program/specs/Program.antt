@@ -29,11 +29,11 @@ answer-of-file file = answered (reading file 192 256 .answer) (reading file 192 
 
 ---- The line ----
 
-abbrev pub word-of : judge.Word → Word
-word-of judge.Word.accepted = word.Accepted
-word-of judge.Word.rejected = word.Rejected
-word-of judge.Word.undecided = word.Undecided
-word-of judge.Word.refused = word.Refused
+abbrev pub word-of : judge.VerdictWord → Word
+word-of judge.VerdictWord.accepted = word.Accepted
+word-of judge.VerdictWord.rejected = word.Rejected
+word-of judge.VerdictWord.undecided = word.Undecided
+word-of judge.VerdictWord.refused = word.Refused
 
 -- "the verdict word, refusal number or 0, place, count"
 unfoldable pub line-for : Answer → Line
