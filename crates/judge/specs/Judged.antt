@@ -10,6 +10,7 @@ use lib.Dec.{ltb}
 use lib.ListN.{length, drop, replicate}
 use Rattle.calculus.specs.Search.{Verdict}
 use Rattle.calculus.specs.Search as search
+use Rattle.flow.specs.declared.Refusal.{Refusal}
 use Rattle.flow.specs.declared.Check.{Check}
 use Rattle.flow.specs.declared.Check.the-variants.{Fine}
 use Rattle.flow.specs.declared.Check.the-variants as check
@@ -71,15 +72,15 @@ answer-of (Verdict.accepted place count) = Accepted (record { place = place; cou
 answer-of (Verdict.rejected place count) = Rejected (record { place = place; count = count })
 answer-of (Verdict.undecided place count) = Undecided (record { place = place; count = count })
 
--- a refusal, or else the answer
-unfoldable pub unless-refused : Check → Answer → Answer
-unless-refused Fine a = a
-unless-refused (check.Refused r) a = Refused r
+-- what comes of a refusal, or else of no refusal
+unfoldable pub unless-refused : {A : Type 0} → Check → (Refusal → A) → A → A
+unless-refused Fine refuse other = other
+unless-refused (check.Refused r) refuse other = refuse r
 
 -- the answer, by the nodes, the records, how many work bytes are lent, and the allowance
 unfoldable pub judged : List ℕ → List ℕ → ℕ → ℕ → Answer
 judged ns rs room allowance =
-    unless-refused (judge-check ns rs room) (answer-of (search.judge (flow-of ns) (records rs) allowance))
+    unless-refused (judge-check ns rs room) Refused (answer-of (search.judge (flow-of ns) (records rs) allowance))
 
 ---- What becomes of the work bytes ----
 
@@ -88,12 +89,8 @@ unfoldable pub cleared : ℕ → List ℕ → List ℕ
 cleared n work = replicate n 0 ++ drop n work
 
 -- 01: "After a refusal all are unchanged."
-unfoldable pub unless-refused-bytes : Check → List ℕ → List ℕ → List ℕ
-unless-refused-bytes Fine after before = after
-unless-refused-bytes (check.Refused r) after before = before
-
 unfoldable pub work-after : List ℕ → List ℕ → List ℕ → List ℕ
-work-after ns rs work = unless-refused-bytes (judge-check ns rs (length work)) (cleared (room-wanted ns rs) work) work
+work-after ns rs work = unless-refused (judge-check ns rs (length work)) (λ r. work) (cleared (room-wanted ns rs) work)
 
 ---- The contracts ----
 

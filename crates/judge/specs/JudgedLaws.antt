@@ -39,7 +39,7 @@ use Rattle.judge.specs.declared.Role.{Role}
 use Rattle.judge.specs.declared.Role.the-variants.{Standard, Running}
 use Rattle.judge.specs.declared.Out.{Out}
 use Rattle.judge.specs.declared.Out.the-variants.{Spent, Back}
-use Rattle.judge.specs.Judged.{room-wanted, too-short, judge-check, answer-of, unless-refused, judged, cleared, unless-refused-bytes, work-after, Searched, Judged}
+use Rattle.judge.specs.Judged.{room-wanted, too-short, judge-check, answer-of, unless-refused, judged, cleared, work-after, Searched, Judged}
 use Rattle.judge.specs.Visits.{state, out-of, stretches, Ready, Used, Visited}
 use Rattle.judge.specs.Settled.{role-of, Within, answer-to}
 
@@ -164,16 +164,16 @@ module _ (ns rs : List ℕ) where
 module _ (ns rs : List ℕ) (room allowance : ℕ) where
   pub fine-is : judge-check ns rs room ≡ Fine → judged ns rs room allowance ≡ answer-of (search.judge (flow-of ns) (records rs) allowance)
   unfolding judged unless-refused
-  fine-is e = ap (λ (c : Check). unless-refused c (answer-of (search.judge (flow-of ns) (records rs) allowance))) e
+  fine-is e = ap (λ (c : Check). unless-refused c Refused (answer-of (search.judge (flow-of ns) (records rs) allowance))) e
 
 module _ (ns rs work : List ℕ) where
   pub refused-bytes : (r : Refusal) → judge-check ns rs (length work) ≡ check.Refused r → work-after ns rs work ≡ work
-  unfolding work-after unless-refused-bytes
-  refused-bytes r e = ap (λ (c : Check). unless-refused-bytes c (cleared (room-wanted ns rs) work) work) e
+  unfolding work-after unless-refused
+  refused-bytes r e = ap (λ (c : Check). unless-refused c (λ r. work) (cleared (room-wanted ns rs) work)) e
 
   pub fine-bytes : judge-check ns rs (length work) ≡ Fine → work-after ns rs work ≡ cleared (room-wanted ns rs) work
-  unfolding work-after unless-refused-bytes
-  fine-bytes e = ap (λ (c : Check). unless-refused-bytes c (cleared (room-wanted ns rs) work) work) e
+  unfolding work-after unless-refused
+  fine-bytes e = ap (λ (c : Check). unless-refused c (λ r. work) (cleared (room-wanted ns rs) work)) e
 
 ---- The check, as the code comes to it ----
 
@@ -347,7 +347,7 @@ module _ (ns rs : List ℕ) (allowance : ℕ) (work : List ℕ) where
   pub judge-refuses : (r : Refusal) → judge-check ns rs (length work) ≡ check.Refused r → Judged ns rs allowance work (Refused r) work
   unfolding judged unless-refused
   judge-refuses r e = record {
-    answers = sym (ap (λ (c : Check). unless-refused c (answer-of (search.judge (flow-of ns) (records rs) allowance))) e);
+    answers = sym (ap (λ (c : Check). unless-refused c Refused (answer-of (search.judge (flow-of ns) (records rs) allowance))) e);
     leaves = sym (refused-bytes ns rs work r e);
   }
 

@@ -1,5 +1,5 @@
 -- The tests of the refusal table mean the conditions that Plain puts in words: 5, 7, 8 and 9 of a node (`wrong-field-means` and so
--- on), and 13 with its place, in both directions (`closings-when`, `closings-fine-when`). Assumes nothing.
+-- on), and 13 with its place, in both directions (`wrong-closings-means`, `closings-when`, `closings-fine-when`). Assumes nothing.
 use Prim.Native.Nat.{ℕ, zero, suc, _-_, _<_, _≤_}
 use mathlib.Core.Path.{_≡_, refl, sym, ap, _∙_, subst}
 use mathlib.Core.Bool.{Bool, true, false, not, xor, _&&_, _||_, cond}
@@ -16,7 +16,7 @@ use Rattle.flow.specs.declared.Check.the-variants.{Fine, Refused}
 use Rattle.flow.specs.Nodes.{Kid, kid1, kid2}
 use Rattle.flow.specs.Kinds.{kids, is-event, is-standard, of-standard, kind, one-of, two-of, shape}
 use Rattle.flow.specs.Records.{most-events, is-event-number, is-closing-number}
-use Rattle.flow.specs.Refusals.{count, has-one, has-two, wrong-field, taken, wrong-sort, child-taken, nobodys-child, closings-wanted, closed, after-closings, refused, closings-check}
+use Rattle.flow.specs.Refusals.{count, has-one, has-two, wrong-field, taken, wrong-sort, child-taken, nobodys-child, closings-wanted, closed, wrong-closings, after-closings, refused, closings-check}
 use Rattle.flow.specs.Tests.{is-true}
 use Rattle.flow.specs.FineTable.{kid-taken, taken-kid}
 use Rattle.flow.specs.Closings.{event-closed, event-place, closings-fine, closings-refused, wanted-some}
@@ -329,9 +329,12 @@ module _ (ns rs : List ℕ) where
   abbrev wanted : ℕ
   wanted = closings-wanted ns
 
+  place-is : {place : ℕ} → WrongClosings rs wanted place → (closed rs wanted ≡ false) × (after-closings rs wanted ≡ place)
+  place-is (goes-on {k} x h) = let s = nth-at rs wanted k x in (s .early h, s .place)
+  place-is (too-few h) = few-at rs wanted h
+
   refused-at : {place : ℕ} → WrongClosings rs wanted place → closings-check ns rs ≡ refused 13 place
-  refused-at (goes-on {k} x h) = let s = nth-at rs wanted k x in closings-refused ns rs (suc k) (s .early h) (sym (s .place))
-  refused-at (too-few h) = let s = few-at rs wanted h in closings-refused ns rs (length rs) (s .0) (sym (s .1))
+  refused-at {place} w = let q = place-is w in closings-refused ns rs place (q .0) (sym (q .1))
 
   fine-at : {k : ℕ} → NthClosing rs wanted k → suc k ≡ length rs → closings-check ns rs ≡ Fine
   fine-at {k} x h = closings-fine ns rs (nth-at rs wanted k x .last h)
@@ -349,6 +352,19 @@ module _ (ns rs : List ℕ) where
           → ((k : ℕ) × (suc k ≡ length rs) × NthClosing rs wanted k) ⊎ ((place : ℕ) × WrongClosings rs wanted place)
       by (inl x) = on (x .0) (x .2) (eq-or-lt-of-le (x .1))
       by (inr l) = inr (length rs, too-few l)
+
+  -- 13, as it stands in the order, with its place
+  pub wrong-closings-means : (place : ℕ) → (T (wrong-closings ns rs) × (place ≡ after-closings rs wanted)) ↔ WrongClosings rs wanted place
+  unfolding wrong-closings
+  wrong-closings-means place = (λ q. by (q .0) (q .1) by-closings, of)
+    where
+      by : T (not (closed rs wanted)) → place ≡ after-closings rs wanted
+          → ((k : ℕ) × (suc k ≡ length rs) × NthClosing rs wanted k) ⊎ ((p : ℕ) × WrongClosings rs wanted p) → WrongClosings rs wanted place
+      by t e (inl x) = absurd (T-not (closed rs wanted) t (subst T (sym (nth-at rs wanted (x .0) (x .2) .last (x .1))) tt))
+      by t e (inr x) = subst (WrongClosings rs wanted) (sym (place-is (x .1) .1) ∙ sym e) (x .1)
+
+      of : WrongClosings rs wanted place → T (not (closed rs wanted)) × (place ≡ after-closings rs wanted)
+      of w = let q = place-is w in (subst (λ (b : Bool). T (not b)) (sym (q .0)) tt, sym (q .1))
 
   -- 13 is given at a place exactly when it is the first after the closings that the root needs, or they are too few and it is the
   -- number of records

@@ -12,7 +12,7 @@ use Rattle.flow.specs.Nodes.{fold}
 use Rattle.flow.specs.Records.{record-of, is-event-number, is-closing-number}
 use Rattle.flow.specs.Refusals.{refused, first, answer, or-else-check, each, no-nodes, not-whole, too-many-nodes, unknown-kind, wrong-field, not-lower, is-child, taken, wrong-sort, child-taken, nobodys-child, no-records, too-many-records, no-record, closings-wanted, closed, wrong-closings, after-closings, node-grounds, child-grounds, value-grounds, nodes-grounds, table-grounds, values-grounds, closing-grounds, records-grounds, nodes-check, table-check, values-check, closings-check, records-check}
 use Rattle.flow.specs.Draws.{part, drawn, flow-of}
-use Rattle.judge.specs.Judged.{VerdictWord, Told, told, verdict, refusal, room-wanted, too-short, judge-check, answer-of, unless-refused, judged, cleared, unless-refused-bytes, work-after}
+use Rattle.judge.specs.Judged.{VerdictWord, Told, told, verdict, refusal, room-wanted, too-short, judge-check, answer-of, unless-refused, judged, cleared, work-after}
 
 ---- The judge ----
 
@@ -73,12 +73,12 @@ lines-told = refl
 
 -- A judge that touches nothing, or clears too little, leaves bytes that are not zero: of 50 bytes lent the first 48 are cleared.
 pub bytes-cleared : work-after nodes batch (replicate 50 7) ≡ replicate 48 0 ++ replicate 2 7
-unfolding work-after unless-refused-bytes cleared judge-check too-short room-wanted first answer or-else-check each no-nodes not-whole too-many-nodes unknown-kind wrong-field not-lower is-child taken wrong-sort child-taken nobodys-child no-records too-many-records no-record closings-wanted closed wrong-closings after-closings node-grounds child-grounds value-grounds record-of is-event-number is-closing-number xor
+unfolding work-after unless-refused cleared judge-check too-short room-wanted first answer or-else-check each no-nodes not-whole too-many-nodes unknown-kind wrong-field not-lower is-child taken wrong-sort child-taken nobodys-child no-records too-many-records no-record closings-wanted closed wrong-closings after-closings node-grounds child-grounds value-grounds record-of is-event-number is-closing-number xor
 bytes-cleared = refl
 
 -- A refusal that clears the bytes lent: here 14.
 pub bytes-kept : work-after nodes batch (replicate 47 7) ≡ replicate 47 7
-unfolding work-after unless-refused-bytes cleared judge-check too-short room-wanted first answer or-else-check each no-nodes not-whole too-many-nodes unknown-kind wrong-field not-lower is-child taken wrong-sort child-taken nobodys-child no-records too-many-records no-record closings-wanted closed wrong-closings after-closings node-grounds child-grounds value-grounds record-of is-event-number is-closing-number xor
+unfolding work-after unless-refused cleared judge-check too-short room-wanted first answer or-else-check each no-nodes not-whole too-many-nodes unknown-kind wrong-field not-lower is-child taken wrong-sort child-taken nobodys-child no-records too-many-records no-record closings-wanted closed wrong-closings after-closings node-grounds child-grounds value-grounds record-of is-event-number is-closing-number xor
 bytes-kept = refl
 
 ---- The checks ----

@@ -26,6 +26,7 @@ use Rattle.flow.specs.Draws.{flow-of}
 use Rattle.flow.specs.FineTable.{fine-table}
 use Rattle.flow.specs.OneFlow.{flow-standard, flow-compensable}
 use Rattle.judge.specs.declared.Answer.{Answer}
+use Rattle.judge.specs.declared.Answer.the-variants.{Refused}
 use Rattle.judge.specs.Judged.{VerdictWord, Told, told, verdict, refusal, room-wanted, judge-order, judge-check, answer-of, unless-refused, judged}
 use Rattle.judge.specs.JudgedLaws.{fine-is, room-check, check-parts, roomy-fine}
 use Rattle.promises.specs.ExactlyWhen.{given-exactly}
@@ -87,7 +88,7 @@ decided-not-refused (rejects h f) = not-refused-word (λ x. x)
 module _ (ns rs : List ℕ) (room allowance : ℕ) where
   pub refused-is : (r : Refusal) → judge-check ns rs room ≡ check.Refused r → told (judged ns rs room allowance) ≡ refusal (r .number) (r .place)
   unfolding judged unless-refused told
-  refused-is r e = ap (λ (c : Check). told (unless-refused c (answer-of (search.judge (flow-of ns) (records rs) allowance)))) e
+  refused-is r e = ap (λ (c : Check). told (unless-refused c Refused (answer-of (search.judge (flow-of ns) (records rs) allowance)))) e
 
   pub fine-decided : judge-check ns rs room ≡ Fine → Decided (flow-of ns) (records rs) allowance (told (judged ns rs room allowance))
   fine-decided e =
