@@ -28,7 +28,7 @@ module _ (r : ℕ) (rs : List ℕ) where
   event-closed zero h e = absurd (omega arith)
   event-closed (suc n) h e = rw e
 
-  event-place : (left : ℕ) → 1 ≤ left → is-closing-number r ≡ false → after-closings (r ∷ rs) left ≡ suc (after-closings rs left)
+  pub event-place : (left : ℕ) → 1 ≤ left → is-closing-number r ≡ false → after-closings (r ∷ rs) left ≡ suc (after-closings rs left)
   unfolding after-closings
   event-place zero h e = absurd (omega arith)
   event-place (suc n) h e = rw e
@@ -38,7 +38,7 @@ module _ (r : ℕ) (rs : List ℕ) where
   closing-closed zero h e = absurd (omega arith)
   closing-closed (suc n) h e = let q : suc n - 1 ≡ n = omega arith in rw (e, q)
 
-  closing-place : (left : ℕ) → 1 ≤ left → is-closing-number r ≡ true → after-closings (r ∷ rs) left ≡ suc (after-closings rs (left - 1))
+  pub closing-place : (left : ℕ) → 1 ≤ left → is-closing-number r ≡ true → after-closings (r ∷ rs) left ≡ suc (after-closings rs (left - 1))
   unfolding after-closings
   closing-place zero h e = absurd (omega arith)
   closing-place (suc n) h e = let q : suc n - 1 ≡ n = omega arith in rw (e, q)

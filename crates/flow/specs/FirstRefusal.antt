@@ -1,9 +1,10 @@
 -- "Given exactly when": a check answers a refusal exactly if its ground holds and no ground listed before it does, and nothing is
--- refused exactly if no ground holds. Said once, of any list of grounds. Assumes nothing.
+-- refused exactly if no ground holds. Said once, of any list of grounds; then what code needs to know of lists in parts and of
+-- orders. What a check answers of any order of rounds is in the crate above (ExactlyWhen). Assumes nothing.
 use Prim.Native.Nat.{ℕ, zero, suc, _+_, _-_, _<_, _≤_}
 use mathlib.Core.Path.{_≡_, refl, sym, ap, _∙_, subst}
 use mathlib.Core.Bool.{Bool, true, false, not}
-use mathlib.Core.List.{List, [], _∷_, _++_}
+use mathlib.Core.List.{List, [], _∷_, _++_, append-nil, append-assoc}
 use native.Mathlib.Omega.{arith}
 use native.Mathlib.Numerals.{add-one}
 use native.Mathlib.Nat.{eq-or-lt-of-le}
@@ -15,17 +16,9 @@ use Rattle.flow.specs.Tests.{is-true, is-false}
 use Rattle.flow.specs.declared.Refusal.{Refusal}
 use Rattle.flow.specs.declared.Check.{Check}
 use Rattle.flow.specs.declared.Check.the-variants.{Fine, Refused}
-use Rattle.flow.specs.Refusals.{Ground, ground, refused, or-else-check, answer, first, each, most-records, no-records, too-many-records, table-check, table-grounds, records-check, records-grounds, values-check, values-grounds, closings-check, closing-grounds}
-
--- r is the first refusal: its ground holds, and none before it does
-pub data First (r : Refusal) : List Ground → Type 0 where
-  here : {g : Ground} {gs : List Ground} → r ≡ g .refusal → T (g .holds) → First r (g ∷ gs)
-  later : {g : Ground} {gs : List Ground} → T (not (g .holds)) → First r gs → First r (g ∷ gs)
-
--- no ground holds
-pub data None : List Ground → Type 0 where
-  none : None []
-  more : {g : Ground} {gs : List Ground} → T (not (g .holds)) → None gs → None (g ∷ gs)
+use Rattle.flow.specs.Refusals.{Ground, ground, refused, or-else-check, answer, first, each, Round, one, over, grounds, most-records, no-records, too-many-records, records-check, records-grounds, values-check, values-grounds, closings-check, closing-grounds}
+use Rattle.flow.specs.Earliest.{Nowhere, end, not-one, not-over}
+pub use Rattle.flow.specs.Earliest.{First, here, later, None, none, more}
 
 abbrev is-fine : Check → Type 0
 is-fine Fine = Unit {0}
@@ -86,16 +79,6 @@ refused-exactly gs r = (answers r gs, answered r gs)
 pub fine-exactly : (gs : List Ground) → (first gs ≡ Fine) ↔ None gs
 fine-exactly gs = (passes gs, passed gs)
 
--- 1 to 9: the refusal table's numbers on a node table, in its order
-pub table-refused : (ns : List ℕ) (r : Refusal) → (table-check ns ≡ Refused r) ↔ First r (table-grounds ns)
-unfolding table-check
-table-refused ns r = refused-exactly (table-grounds ns) r
-
--- 10 to 13: those on a record list
-pub records-refused : (ns rs : List ℕ) (r : Refusal) → (records-check ns rs ≡ Refused r) ↔ First r (records-grounds ns rs)
-unfolding records-check
-records-refused ns rs r = refused-exactly (records-grounds ns rs) r
-
 ---- Parts of a list of grounds ----
 
 or-else-after : (a b c : Check) → or-else-check (or-else-check a b) c ≡ or-else-check a (or-else-check b c)
@@ -111,6 +94,10 @@ first-append (g ∷ gs) hs = ap (or-else-check (answer g)) (first-append gs hs) 
 pub none-append : (gs hs : List Ground) → None (gs ++ hs) → None gs × None hs
 none-append [] hs n = (none, n)
 none-append (g ∷ gs) hs (more t n) = let m = none-append gs hs n in (more t (m .0), m .1)
+
+pub none-both : {gs hs : List Ground} → None gs → None hs → None (gs ++ hs)
+none-both none n = n
+none-both (more t m) n = more t (none-both m n)
 
 -- one place more
 pub each-next : (f : ℕ → List Ground) (i n : ℕ) → i < n → each f i (n - i) ≡ f i ++ each f (i + 1) (n - (i + 1))
@@ -157,8 +144,43 @@ module _ (number place : ℕ) (b : Bool) where
 
 ---- The checks in parts ----
 
+-- the grounds of an order, round by round
+pub grounds-over : (n : ℕ) (f : ℕ → List Ground) (order : List Round) → grounds (over n f ∷ order) ≡ each f 0 n ++ grounds order
+grounds-over n f [] = sym (append-nil (each f 0 n))
+grounds-over n f (next ∷ order) = refl
+
+pub grounds-append : (a b : List Round) → grounds (a ++ b) ≡ grounds a ++ grounds b
+grounds-append [] b = refl
+grounds-append (one g ∷ a) b = ap (λ (gs : List Ground). g ∷ gs) (grounds-append a b)
+grounds-append (over n f ∷ a) b =
+    grounds-over n f (a ++ b)
+    ∙ ap (λ (gs : List Ground). each f 0 n ++ gs) (grounds-append a b)
+    ∙ sym (append-assoc (each f 0 n) (grounds a) (grounds b))
+    ∙ ap (λ (gs : List Ground). gs ++ grounds b) (sym (grounds-over n f a))
+
+-- the check of one order after another
+pub orders-append : (a b : List Round) → first (grounds (a ++ b)) ≡ or-else-check (first (grounds a)) (first (grounds b))
+orders-append a b = ap first (grounds-append a b) ∙ first-append (grounds a) (grounds b)
+
+-- no ground of the list holds: none of the order does, anywhere
+pub none-nowhere : (order : List Round) → None (grounds order) → Nowhere order
+none-nowhere [] n = end
+none-nowhere (one g ∷ order) (more t n) = not-one t (none-nowhere order n)
+none-nowhere (over m f ∷ order) n =
+    let p = none-append (each f 0 m) (grounds order) (subst None (grounds-over m f order) n) in
+    let each-none : (j : ℕ) → j < m → None (f j) = λ j h. none-each f 0 m j (p .0) (omega arith) (omega arith) in
+    not-over each-none (none-nowhere order (p .1))
+
+pub fine-nowhere : (order : List Round) → first (grounds order) ≡ Fine → Nowhere order
+fine-nowhere order e = none-nowhere order (fine-exactly (grounds order) .0 e)
+
+pub both-fine : (a b : Check) → or-else-check a b ≡ Fine → (a ≡ Fine) × (b ≡ Fine)
+unfolding or-else-check
+both-fine Fine b e = (refl, e)
+both-fine (Refused r) b e = absurd (subst is-fine (sym e) tt)
+
 pub records-parts : (ns rs : List ℕ) → no-records rs ≡ false → too-many-records rs ≡ false → records-check ns rs ≡ or-else-check (values-check rs) (closings-check ns rs)
-unfolding records-check records-grounds values-check closings-check
+unfolding records-check records-grounds values-check values-grounds closings-check closing-grounds
 records-parts ns rs a b =
     first-passed (ground 10 0 (no-records rs)) _ a
     ∙ first-passed (ground 11 0 (too-many-records rs)) _ b

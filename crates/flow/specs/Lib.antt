@@ -3,7 +3,7 @@ pub mod Nodes
 pub mod Kinds
 pub mod Records
 pub mod Refusals
-pub mod Given
+pub mod Earliest
 pub mod Forms
 pub mod Draws
 -- Theorems.
@@ -11,7 +11,6 @@ pub mod Tests
 pub mod EachKind
 pub mod NodeChildren
 pub mod FirstRefusal
-pub mod ExactlyWhen
 pub mod Children
 pub mod Closings
 pub mod FineTable

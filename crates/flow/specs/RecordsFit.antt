@@ -1,21 +1,22 @@
 -- What is known of records that are not refused: how many they are, that each is an event or a closing, and that they have the
 -- closings that the table's flow takes. Assumes nothing.
-use Prim.Native.Nat.{ℕ}
+use Prim.Native.Nat.{ℕ, _<_, _≤_}
 use mathlib.Core.Path.{_≡_, refl, sym, ap, _∙_, subst}
 use mathlib.Core.Bool.{Bool, true, false, not, _||_, cond}
 use mathlib.Core.List.{List, [], _∷_}
 use native.Mathlib.Omega.{arith}
 use lib.Dec.{T, eqb}
-use lib.ListN.{getD}
-use borrow.Author.Tests.{not-false}
+use lib.ListN.{length, getD}
+use borrow.Author.Tests.{ltb-false, not-false}
 use Rattle.calculus.specs.Term.{Closing, done, withdrawn, failed}
 use Rattle.calculus.specs.Records.{Record, event, close, State, Closed, last, ClosedTwice, turn, Fits}
 use Rattle.flow.specs.declared.Check.the-variants.{Fine}
 use Rattle.flow.specs.Kinds.{node, is-standard}
 use Rattle.flow.specs.Records.{done-number, withdrawn-number, failed-number, is-closing-number, record-of, records}
-use Rattle.flow.specs.Refusals.{root, closed, closings-wanted, wrong-closings, closing-grounds, closings-check, table-check, no-record, value-grounds}
+use Rattle.flow.specs.Refusals.{root, most-records, too-many-records, no-record, closed, closings-wanted, wrong-closings, value-grounds, records-order, records-grounds, table-check, records-check}
+use Rattle.flow.specs.Earliest.{None, Nowhere, end, not-one, not-over}
 use Rattle.flow.specs.Tests.{is-false}
-use Rattle.flow.specs.FirstRefusal.{None, fine-exactly}
+use Rattle.flow.specs.FirstRefusal.{fine-nowhere}
 use Rattle.flow.specs.Closings.{event-closed, closing-closed}
 use Rattle.flow.specs.Draws.{flow-of}
 use Rattle.flow.specs.FineTable.{fine-table}
@@ -74,19 +75,31 @@ closed-twice (r ∷ rs) e = by (is-closing-number r) refl (closed-twice rs)
         subst (λ (x : Record). ClosedTwice (x ∷ records rs)) (sym (w .1)) (turn (closed-once rs (sym (closing-closed r rs 2 (omega arith) h) ∙ e)))
     by false h rec = subst (λ (x : Record). ClosedTwice (x ∷ records rs)) (sym (event-record r h)) (ClosedTwice.more (rec (sym (event-closed r rs 2 (omega arith) h) ∙ e)))
 
-module _ (ns rs : List ℕ) where
-  no-wrong : None (closing-grounds ns rs) → closed rs (closings-wanted ns) ≡ true
-  unfolding closing-grounds wrong-closings
-  no-wrong (None.more t n) = not-false (closed rs (closings-wanted ns)) (is-false (wrong-closings ns rs) t)
+-- none of 10 to 13
+pub record FineRecords (ns rs : List ℕ) : Type 0 where
+  pub few : length rs ≤ most-records
+  pub each : (i : ℕ) → i < length rs → no-record (getD rs i 0) ≡ false
+  pub closings : closed rs (closings-wanted ns) ≡ true
 
-  closings-closed : closings-check ns rs ≡ Fine → closed rs (closings-wanted ns) ≡ true
-  unfolding closings-check
-  closings-closed e = no-wrong (fine-exactly (closing-grounds ns rs) .0 e)
+module _ (ns rs : List ℕ) where
+  pub fine-records : records-check ns rs ≡ Fine → FineRecords ns rs
+  unfolding records-check records-grounds value-grounds too-many-records wrong-closings
+  fine-records e = by (fine-nowhere (records-order ns rs) e)
+    where
+      value : (i : ℕ) → None (value-grounds rs i) → no-record (getD rs i 0) ≡ false
+      value i (None.more t n) = is-false (no-record (getD rs i 0)) t
+
+      by : Nowhere (records-order ns rs) → FineRecords ns rs
+      by (not-one a (not-one b (not-over v (not-one c end)))) = record {
+        few = ltb-false most-records (length rs) (is-false (too-many-records rs) b);
+        each = λ i h. value i (v i h);
+        closings = not-false (closed rs (closings-wanted ns)) (is-false (wrong-closings ns rs) c);
+      }
 
   -- 13 leaves the closings that the root needs
-  pub records-fit : table-check ns ≡ Fine → closings-check ns rs ≡ Fine → Fits (flow-of ns) (records rs)
+  pub records-fit : table-check ns ≡ Fine → records-check ns rs ≡ Fine → Fits (flow-of ns) (records rs)
   unfolding closings-wanted
-  records-fit e f = by (is-standard (node ns (root ns))) refl (closings-closed f)
+  records-fit e f = by (is-standard (node ns (root ns))) refl (fine-records f .closings)
     where
       by : (b : Bool) → is-standard (node ns (root ns)) ≡ b → closed rs (closings-wanted ns) ≡ true → Fits (flow-of ns) (records rs)
       by true h c =
@@ -95,11 +108,3 @@ module _ (ns rs : List ℕ) where
       by false h c =
           let p = flow-compensable ns (fine-table ns e) h in
           subst (λ (s : State). Fits s (records rs)) (sym (p .1)) (closed-twice rs (ap (λ (b : Bool). closed rs (cond b 1 2)) (sym h) ∙ c))
-
----- Each record ----
-
--- 12: each is an event or a closing
-module _ (rs : List ℕ) where
-  pub value-fine : (i : ℕ) → None (value-grounds rs i) → no-record (getD rs i 0) ≡ false
-  unfolding value-grounds
-  value-fine i (None.more t n) = is-false (no-record (getD rs i 0)) t

@@ -1,8 +1,8 @@
 -- What is refused: the refusal table of 01, numbers 1 to 13. First each number's own condition, in the table's words. Then the
--- order in which they are looked at, as a list of grounds, each a number, a place and the condition there; a check answers the
--- first ground that holds. `ns` are the numbers of the nodes, `rs` those of the records.
--- Definitions only: Given has the table as it is printed, and ExactlyWhen proves that the checks answer it; FineTable proves what is
--- known of a table that is not refused. 14 belongs to whoever is lent room. Assumes nothing.
+-- order in which they are looked at, as a list of rounds over grounds, each a number, a place and the condition there; a check
+-- answers the first ground that holds. `ns` are the numbers of the nodes, `rs` those of the records.
+-- Definitions only: Earliest says what it means that a refusal of an order is given, and it is proved that the checks answer just
+-- that; FineTable proves what is known of a table that is not refused. 14 belongs to whoever is lent room. Assumes nothing.
 use Prim.Native.Nat.{ℕ, zero, suc, _-_, _/_, _%_}
 use mathlib.Core.Bool.{Bool, true, false, not, xor, _&&_, _||_, cond}
 use mathlib.Core.List.{List, [], _∷_, _++_}
@@ -159,6 +159,18 @@ unfoldable pub each : (ℕ → List Ground) → ℕ → ℕ → List Ground
 each f i zero = []
 each f i (suc k) = f i ++ each f (suc i) k
 
+-- An order is a list of rounds. A round is one ground, or the grounds of each place "from 0 up", so many places.
+pub data Round : Type 0 where
+  one : Ground → Round
+  over : ℕ → (ℕ → List Ground) → Round
+
+-- an order's grounds, as they stand; nothing is put behind the last round
+abbrev pub grounds : List Round → List Ground
+grounds [] = []
+grounds (one g ∷ order) = g ∷ grounds order
+grounds (over n f ∷ []) = each f 0 n
+grounds (over n f ∷ (next ∷ order)) = each f 0 n ++ grounds (next ∷ order)
+
 -- "nodes .., each in the order 4 to 8"
 unfoldable pub node-grounds : List ℕ → ℕ → List Ground
 node-grounds ns i =
@@ -173,28 +185,43 @@ unfoldable pub child-grounds : List ℕ → ℕ → List Ground
 child-grounds ns i = ground 9 i (nobodys-child ns i) ∷ []
 
 -- "then nodes from 0 up ..; then 9", which is of no place but a "node other than the last"
-unfoldable pub nodes-grounds : List ℕ → List Ground
-nodes-grounds ns = each (node-grounds ns) 0 (count ns) ++ each (child-grounds ns) 0 (count ns - 1)
+abbrev pub nodes-order : List ℕ → List Round
+nodes-order ns = over (count ns) (node-grounds ns) ∷ over (count ns - 1) (child-grounds ns) ∷ []
 
 -- "Judging checks 1 to 3; then nodes"
-unfoldable pub table-grounds : List ℕ → List Ground
-table-grounds ns =
-    ground 1 0 (no-nodes ns) ∷ ground 2 0 (not-whole ns) ∷ ground 3 0 (too-many-nodes ns) ∷ nodes-grounds ns
+abbrev pub table-order : List ℕ → List Round
+table-order ns =
+    one (ground 1 0 (no-nodes ns)) ∷ one (ground 2 0 (not-whole ns)) ∷ one (ground 3 0 (too-many-nodes ns)) ∷ nodes-order ns
 
 unfoldable pub value-grounds : List ℕ → ℕ → List Ground
 value-grounds rs i = ground 12 i (no-record (getD rs i 0)) ∷ []
 
 -- 12, "lowest such"
-unfoldable pub values-grounds : List ℕ → List Ground
-values-grounds rs = each (value-grounds rs) 0 (length rs)
+abbrev pub values-order : List ℕ → List Round
+values-order rs = over (length rs) (value-grounds rs) ∷ []
 
-unfoldable pub closing-grounds : List ℕ → List ℕ → List Ground
-closing-grounds ns rs = ground 13 (after-closings rs (closings-wanted ns)) (wrong-closings ns rs) ∷ []
+abbrev pub closing-order : List ℕ → List ℕ → List Round
+closing-order ns rs = one (ground 13 (after-closings rs (closings-wanted ns)) (wrong-closings ns rs)) ∷ []
 
 -- "then 9 to 14"
+abbrev pub records-order : List ℕ → List ℕ → List Round
+records-order ns rs =
+    one (ground 10 0 (no-records rs)) ∷ one (ground 11 0 (too-many-records rs)) ∷ (values-order rs ++ closing-order ns rs)
+
+unfoldable pub nodes-grounds : List ℕ → List Ground
+nodes-grounds ns = grounds (nodes-order ns)
+
+unfoldable pub table-grounds : List ℕ → List Ground
+table-grounds ns = grounds (table-order ns)
+
+unfoldable pub values-grounds : List ℕ → List Ground
+values-grounds rs = grounds (values-order rs)
+
+unfoldable pub closing-grounds : List ℕ → List ℕ → List Ground
+closing-grounds ns rs = grounds (closing-order ns rs)
+
 unfoldable pub records-grounds : List ℕ → List ℕ → List Ground
-records-grounds ns rs =
-    ground 10 0 (no-records rs) ∷ ground 11 0 (too-many-records rs) ∷ (values-grounds rs ++ closing-grounds ns rs)
+records-grounds ns rs = grounds (records-order ns rs)
 
 ---- The checks ----
 

@@ -1,7 +1,7 @@
 -- What `judge` answers and what becomes of the bytes lent to it: one outcome for every node table, record list, work and
 -- allowance, refused ones too. `told` gives document 01's word, number, place and count for each case of the answer, and every
 -- promise is stated of it. `ns` are the numbers of the nodes, `rs` those of the records.
--- Definitions only: Given has the refusal table row by row, Demands the promises. Assumes nothing.
+-- Definitions only: the promises about them are in the crate above (Demands). Assumes nothing.
 use Prim.Native.Nat.{ℕ, _+_, _*_}
 use mathlib.Core.Path.{_≡_}
 use mathlib.Core.Bool.{Bool}
@@ -10,11 +10,12 @@ use lib.Dec.{ltb}
 use lib.ListN.{length, drop, replicate}
 use Rattle.calculus.specs.Search.{Verdict}
 use Rattle.calculus.specs.Search as search
+use Rattle.flow.specs.declared.Refusal.{Refusal}
 use Rattle.flow.specs.declared.Check.{Check}
 use Rattle.flow.specs.declared.Check.the-variants.{Fine}
 use Rattle.flow.specs.declared.Check.the-variants as check
 use Rattle.flow.specs.Records.{records}
-use Rattle.flow.specs.Refusals.{count, Ground, ground, first, table-grounds, records-grounds}
+use Rattle.flow.specs.Refusals.{count, ground, first, Round, one, grounds, table-order, records-order}
 use Rattle.flow.specs.Draws.{flow-of}
 use Rattle.judge.specs.declared.Answer.{Answer}
 use Rattle.judge.specs.declared.Answer.the-variants.{Accepted, Rejected, Undecided, Refused}
@@ -22,29 +23,29 @@ use Rattle.judge.specs.declared.Answer.the-variants.{Accepted, Rejected,
 ---- What an answer tells ----
 
 -- 01: "the verdict word, refusal number or 0, place, count"
-pub data Word : Type 0 where
-  accepted rejected undecided refused : Word
+pub data VerdictWord : Type 0 where
+  accepted rejected undecided refused : VerdictWord
 
 pub record Told : Type 0 where
-  pub word : Word
+  pub word : VerdictWord
   pub number : ℕ
   pub place : ℕ
   pub count : ℕ
 
 -- 01: "An answer is one of four, each with its own numbers"
 unfoldable pub told : Answer → Told
-told (Accepted r) = record { word = Word.accepted; number = 0; place = r .place; count = r .count }
-told (Rejected r) = record { word = Word.rejected; number = 0; place = r .place; count = r .count }
-told (Undecided r) = record { word = Word.undecided; number = 0; place = r .place; count = r .count }
-told (Refused r) = record { word = Word.refused; number = r .number; place = r .place; count = 0 }
+told (Accepted r) = record { word = VerdictWord.accepted; number = 0; place = r .place; count = r .count }
+told (Rejected r) = record { word = VerdictWord.rejected; number = 0; place = r .place; count = r .count }
+told (Undecided r) = record { word = VerdictWord.undecided; number = 0; place = r .place; count = r .count }
+told (Refused r) = record { word = VerdictWord.refused; number = r .number; place = r .place; count = 0 }
 
 -- a verdict, with its place and count
-abbrev pub verdict : Word → ℕ → ℕ → Told
+abbrev pub verdict : VerdictWord → ℕ → ℕ → Told
 verdict word place count = record { word = word; number = 0; place = place; count = count }
 
 -- 01: "refused: number, place; count 0"
 abbrev pub refusal : ℕ → ℕ → Told
-refusal number place = record { word = Word.refused; number = number; place = place; count = 0 }
+refusal number place = record { word = VerdictWord.refused; number = number; place = place; count = 0 }
 
 ---- What is refused ----
 
@@ -56,15 +57,12 @@ room-wanted ns rs = 2 * count ns * (length rs + 1)
 unfoldable pub too-short : List ℕ → List ℕ → ℕ → Bool
 too-short ns rs room = ltb room (room-wanted ns rs)
 
-unfoldable pub room-grounds : List ℕ → List ℕ → ℕ → List Ground
-room-grounds ns rs room = ground 14 0 (too-short ns rs room) ∷ []
-
 -- 01: "Judging checks 1 to 3; then nodes from 0 up, each in the order 4 to 8; then 9 to 14."
-unfoldable pub judge-grounds : List ℕ → List ℕ → ℕ → List Ground
-judge-grounds ns rs room = table-grounds ns ++ (records-grounds ns rs ++ room-grounds ns rs room)
+abbrev pub judge-order : List ℕ → List ℕ → ℕ → List Round
+judge-order ns rs room = table-order ns ++ (records-order ns rs ++ (one (ground 14 0 (too-short ns rs room)) ∷ []))
 
 unfoldable pub judge-check : List ℕ → List ℕ → ℕ → Check
-judge-check ns rs room = first (judge-grounds ns rs room)
+judge-check ns rs room = first (grounds (judge-order ns rs room))
 
 ---- What is answered ----
 
@@ -74,15 +72,15 @@ answer-of (Verdict.accepted place count) = Accepted (record { place = place; cou
 answer-of (Verdict.rejected place count) = Rejected (record { place = place; count = count })
 answer-of (Verdict.undecided place count) = Undecided (record { place = place; count = count })
 
--- a refusal, or else the answer
-unfoldable pub unless-refused : Check → Answer → Answer
-unless-refused Fine a = a
-unless-refused (check.Refused r) a = Refused r
+-- what comes of a refusal, or else of no refusal
+unfoldable pub unless-refused : {A : Type 0} → Check → (Refusal → A) → A → A
+unless-refused Fine refuse other = other
+unless-refused (check.Refused r) refuse other = refuse r
 
 -- the answer, by the nodes, the records, how many work bytes are lent, and the allowance
 unfoldable pub judged : List ℕ → List ℕ → ℕ → ℕ → Answer
 judged ns rs room allowance =
-    unless-refused (judge-check ns rs room) (answer-of (search.judge (flow-of ns) (records rs) allowance))
+    unless-refused (judge-check ns rs room) Refused (answer-of (search.judge (flow-of ns) (records rs) allowance))
 
 ---- What becomes of the work bytes ----
 
@@ -91,12 +89,8 @@ unfoldable pub cleared : ℕ → List ℕ → List ℕ
 cleared n work = replicate n 0 ++ drop n work
 
 -- 01: "After a refusal all are unchanged."
-unfoldable pub unless-refused-bytes : Check → List ℕ → List ℕ → List ℕ
-unless-refused-bytes Fine after before = after
-unless-refused-bytes (check.Refused r) after before = before
-
 unfoldable pub work-after : List ℕ → List ℕ → List ℕ → List ℕ
-work-after ns rs work = unless-refused-bytes (judge-check ns rs (length work)) (cleared (room-wanted ns rs) work) work
+work-after ns rs work = unless-refused (judge-check ns rs (length work)) (λ r. work) (cleared (room-wanted ns rs) work)
 
 ---- The contracts ----
 

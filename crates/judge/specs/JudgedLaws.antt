@@ -10,7 +10,7 @@ use native.Mathlib.Nat.{mul-le-mul, mul-suc}
 use native.Mathlib.Numerals.{add-one}
 use lib.ListN.{length, getD, set, drop, replicate, length-append, length-replicate, length-drop, getD-replicate, List·getD-append, length-map}
 use lib.Seq.{drop-drop, drop-at}
-use borrow.Author.Tests.{ltb-false, lt-ltb}
+use borrow.Author.Tests.{ltb-false, lt-ltb, le-ltb}
 use borrow.Author.Fill.{fill-more}
 use Rattle.calculus.specs.Records.{Record, State, over, std, cmp, Fits}
 use Rattle.calculus.specs.Search.{next}
@@ -20,15 +20,16 @@ use Rattle.flow.specs.declared.Refusal.{Refusal}
 use Rattle.flow.specs.declared.Check.{Check}
 use Rattle.flow.specs.declared.Check.the-variants.{Fine}
 use Rattle.flow.specs.declared.Check.the-variants as check
+use Rattle.flow.specs.Tests.{is-false}
 use Rattle.flow.specs.Nodes.{under-le}
 use Rattle.flow.specs.Kinds.{node, is-standard, shape}
 use Rattle.flow.specs.Records.{record-of, records}
-use Rattle.flow.specs.Refusals.{count, root, first, or-else-check, refused, table-check, records-check, too-many-records}
-use Rattle.flow.specs.FirstRefusal.{single-held}
+use Rattle.flow.specs.Refusals.{count, root, ground, first, or-else-check, refused, one, table-order, records-order, table-grounds, records-grounds, table-check, records-check}
+use Rattle.flow.specs.FirstRefusal.{None, more, fine-exactly, orders-append, both-fine, single-held, single-passed}
 use Rattle.flow.specs.FineTable.{FineTable, fine-table, fine-tree}
 use Rattle.flow.specs.Draws.{flow-of}
 use Rattle.flow.specs.OneFlow.{flow-standard, flow-compensable, flow-drawn}
-use Rattle.flow.specs.RecordsFit.{records-fit}
+use Rattle.flow.specs.RecordsFit.{fine-records, records-fit}
 use Rattle.states.specs.declared.Sense.the-variants.{Drawn}
 use Rattle.states.specs.declared.Role.{Role}
 use Rattle.states.specs.declared.Role.the-variants.{Plain, Running}
@@ -39,10 +40,7 @@ use Rattle.judge.specs.declared.Answer.{Answer}
 use Rattle.judge.specs.declared.Answer.the-variants.{Refused}
 use Rattle.judge.specs.declared.Out.{Out}
 use Rattle.judge.specs.declared.Out.the-variants.{Spent, Back}
-use Rattle.judge.specs.Judged.{room-wanted, too-short, room-grounds, judge-check, answer-of, unless-refused, judged, cleared, Searched, Judged}
-use Rattle.judge.specs.Given.{Passes}
-use Rattle.judge.specs.Refused.{passes-exactly, table-passes, closings-pass, records-within}
-use Rattle.judge.specs.Verdicts.{check-parts, roomy-fine, fine-is, refused-bytes, fine-bytes}
+use Rattle.judge.specs.Judged.{room-wanted, too-short, judge-check, answer-of, unless-refused, judged, cleared, work-after, Searched, Judged}
 use Rattle.judge.specs.Visits.{state, out-of, stretches, VisitReady, Used, Visited}
 use Rattle.judge.specs.Settled.{role-of, LeftWithin, answer-to}
 
@@ -124,20 +122,50 @@ module _ (ns rs : List ℕ) where
       ∙ cleared-behind (count ns) work (stretches (count ns) (length rs) + 2 * count ns) (omega arith)) in
       ap (λ (l : List ℕ). replicate (room-wanted ns rs) 0 ++ l) behind
 
+---- The outcome, by what the check says ----
+
+module _ (ns rs : List ℕ) (room allowance : ℕ) where
+  pub fine-is : judge-check ns rs room ≡ Fine → judged ns rs room allowance ≡ answer-of (search.judge (flow-of ns) (records rs) allowance)
+  unfolding judged unless-refused
+  fine-is e = ap (λ (c : Check). unless-refused c Refused (answer-of (search.judge (flow-of ns) (records rs) allowance))) e
+
+module _ (ns rs work : List ℕ) where
+  pub refused-bytes : (r : Refusal) → judge-check ns rs (length work) ≡ check.Refused r → work-after ns rs work ≡ work
+  unfolding work-after unless-refused
+  refused-bytes r e = ap (λ (c : Check). unless-refused c (λ r. work) (cleared (room-wanted ns rs) work)) e
+
+  pub fine-bytes : judge-check ns rs (length work) ≡ Fine → work-after ns rs work ≡ cleared (room-wanted ns rs) work
+  unfolding work-after unless-refused
+  fine-bytes e = ap (λ (c : Check). unless-refused c (λ r. work) (cleared (room-wanted ns rs) work)) e
+
 ---- The check, as the code comes to it ----
 
 module _ (ns rs : List ℕ) (room : ℕ) where
-  after-table : {c : Check} → table-check ns ≡ c → judge-check ns rs room ≡ or-else-check c (or-else-check (records-check ns rs) (first (room-grounds ns rs room)))
-  after-table e = check-parts ns rs room ∙ ap (λ (c : Check). or-else-check c (or-else-check (records-check ns rs) (first (room-grounds ns rs room)))) e
+  -- 14
+  abbrev pub room-check : Check
+  room-check = first (ground 14 0 (too-short ns rs room) ∷ [])
+
+  pub check-parts : judge-check ns rs room ≡ or-else-check (table-check ns) (or-else-check (records-check ns rs) room-check)
+  unfolding judge-check table-check table-grounds records-check records-grounds
+  check-parts =
+      orders-append (table-order ns) (records-order ns rs ++ (one (ground 14 0 (too-short ns rs room)) ∷ []))
+      ∙ ap (or-else-check (table-check ns)) (orders-append (records-order ns rs) (one (ground 14 0 (too-short ns rs room)) ∷ []))
+
+  pub roomy-fine : room-wanted ns rs ≤ room → room-check ≡ Fine
+  unfolding too-short
+  roomy-fine h = single-passed 14 0 (too-short ns rs room) (le-ltb room (room-wanted ns rs) h)
+
+  after-table : {c : Check} → table-check ns ≡ c → judge-check ns rs room ≡ or-else-check c (or-else-check (records-check ns rs) room-check)
+  after-table e = check-parts ∙ ap (λ (c : Check). or-else-check c (or-else-check (records-check ns rs) room-check)) e
 
   pub table-refuses : {r : Refusal} → table-check ns ≡ check.Refused r → judge-check ns rs room ≡ check.Refused r
   unfolding or-else-check
   table-refuses e = after-table e
 
   module _ (fine : table-check ns ≡ Fine) where
-    after-records : {c : Check} → records-check ns rs ≡ c → judge-check ns rs room ≡ or-else-check c (first (room-grounds ns rs room))
+    after-records : {c : Check} → records-check ns rs ≡ c → judge-check ns rs room ≡ or-else-check c room-check
     unfolding or-else-check
-    after-records e = after-table fine ∙ ap (λ (c : Check). or-else-check c (first (room-grounds ns rs room))) e
+    after-records e = after-table fine ∙ ap (λ (c : Check). or-else-check c room-check) e
 
     pub records-refuse : {r : Refusal} → records-check ns rs ≡ check.Refused r → judge-check ns rs room ≡ check.Refused r
     unfolding or-else-check
@@ -151,32 +179,40 @@ module _ (ns rs : List ℕ) (room : ℕ) where
 
     module _ (list : records-check ns rs ≡ Fine) where
       pub records-few : length rs ≤ 256
-      records-few = records-within ns rs list
+      records-few = fine-records ns rs list .few
 
       pub room-refuses : room < room-wanted ns rs → judge-check ns rs room ≡ refused 14 0
-      unfolding or-else-check room-grounds too-short
+      unfolding or-else-check too-short
       room-refuses h = after-records list ∙ single-held 14 0 (too-short ns rs room) (lt-ltb room (room-wanted ns rs) h)
 
       pub all-pass : room-wanted ns rs ≤ room → judge-check ns rs room ≡ Fine
       unfolding or-else-check
-      all-pass h = after-records list ∙ roomy-fine ns rs room h
+      all-pass h = after-records list ∙ roomy-fine h
 
 ---- What a visit asks ----
 
 module _ (ns rs work : List ℕ) (fine : judge-check ns rs (length work) ≡ Fine) where
-  passes : Passes ns rs (length work)
-  passes = passes-exactly ns rs (length work) .0 fine
+  fine-parts : (table-check ns ≡ Fine) × (or-else-check (records-check ns rs) (room-check ns rs (length work)) ≡ Fine)
+  fine-parts = both-fine (table-check ns) (or-else-check (records-check ns rs) (room-check ns rs (length work))) (sym (check-parts ns rs (length work)) ∙ fine)
+
+  fine-ends : (records-check ns rs ≡ Fine) × (room-check ns rs (length work) ≡ Fine)
+  fine-ends = both-fine (records-check ns rs) (room-check ns rs (length work)) (fine-parts .1)
 
   pub table-fine : table-check ns ≡ Fine
-  table-fine = table-passes ns (passes .records .values .counts .table)
+  table-fine = fine-parts .0
+
+  pub records-fine : records-check ns rs ≡ Fine
+  records-fine = fine-ends .0
 
   pub roomy : room-wanted ns rs ≤ length work
   unfolding too-short
-  roomy = ltb-false (length work) (room-wanted ns rs) (passes .roomy)
+  roomy = by (fine-exactly (ground 14 0 (too-short ns rs (length work)) ∷ []) .0 (fine-ends .1))
+    where
+      by : None (ground 14 0 (too-short ns rs (length work)) ∷ []) → room-wanted ns rs ≤ length work
+      by (more t n) = ltb-false (length work) (room-wanted ns rs) (is-false (too-short ns rs (length work)) t)
 
   pub few-records : length rs ≤ 256
-  unfolding too-many-records
-  few-records = ltb-false 256 (length rs) (passes .records .values .counts .few)
+  few-records = fine-records ns rs records-fine .few
 
   state-clear : state ns (role-of ns) (cleared (count ns) work) ≡ flow-of ns
   state-clear = state-drawn ns table-fine (cleared (count ns) work) (cleared-zero (count ns) work)
@@ -188,8 +224,8 @@ module _ (ns rs work : List ℕ) (fine : judge-check ns rs (length work) ≡ Fin
   ready = record {
     sound = record { few = table-few ns rs (length work) table-fine; tree = fine-tree ns (fine-table ns table-fine) };
     some = table-some ns rs (length work) table-fine;
-    known = record { few = few-records; each = passes .records .values .each };
-    fits = subst (λ (s : State). Fits s (records rs)) (sym state-clear) (records-fit ns rs table-fine (closings-pass ns rs (passes .records .closings)));
+    known = record { few = few-records; each = fine-records ns rs records-fine .each };
+    fits = subst (λ (s : State). Fits s (records rs)) (sym state-clear) (records-fit ns rs table-fine records-fine);
     room = rw (cleared-length (count ns) work nodes-within) (omega (arith, room-stretches ns rs, roomy));
   }
 
@@ -274,7 +310,7 @@ module _ (ns rs : List ℕ) (allowance : ℕ) (work : List ℕ) where
   pub judge-refuses : (r : Refusal) → judge-check ns rs (length work) ≡ check.Refused r → Judged ns rs allowance work (Refused r) work
   unfolding judged unless-refused
   judge-refuses r e = record {
-    answers = sym (ap (λ (c : Check). unless-refused c (answer-of (search.judge (flow-of ns) (records rs) allowance))) e);
+    answers = sym (ap (λ (c : Check). unless-refused c Refused (answer-of (search.judge (flow-of ns) (records rs) allowance))) e);
     leaves = sym (refused-bytes ns rs work r e);
   }
 

@@ -37,11 +37,11 @@ answer-of-file file = answered (reading file 192 256 .answer) (reading file 192 
 
 ---- The line ----
 
-abbrev verdict-word : judge.Word → VerdictWord
-verdict-word judge.Word.accepted = word.Accepted
-verdict-word judge.Word.rejected = word.Rejected
-verdict-word judge.Word.undecided = word.Undecided
-verdict-word judge.Word.refused = word.Refused
+abbrev verdict-word : judge.VerdictWord → VerdictWord
+verdict-word judge.VerdictWord.accepted = word.Accepted
+verdict-word judge.VerdictWord.rejected = word.Rejected
+verdict-word judge.VerdictWord.undecided = word.Undecided
+verdict-word judge.VerdictWord.refused = word.Refused
 
 -- "the verdict word, refusal number or 0, place, count"
 unfoldable pub line-for : Answer → Line

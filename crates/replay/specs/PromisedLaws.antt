@@ -20,7 +20,8 @@ use Rattle.flow.specs.Records.{records}
 use Rattle.flow.specs.Draws.{flow-of}
 use Rattle.flow.specs.Tests.{both-true}
 use Rattle.judge.specs.declared.Answer.{Answer}
-use Rattle.judge.specs.Judged.{Judged, judged, judge-check, room-wanted, cleared, work-after, answer-of, unless-refused, unless-refused-bytes}
+use Rattle.judge.specs.declared.Answer.the-variants.{Refused}
+use Rattle.judge.specs.Judged.{Judged, judged, judge-check, room-wanted, cleared, work-after, answer-of, unless-refused}
 use Rattle.line.specs.Line.{Put}
 use Rattle.replay.specs.Promised.{work-wanted, zeros-after, promised, all-are, is-clean, noted, case-line}
 
@@ -128,8 +129,8 @@ module _ (ns rs : List ℕ) (allowance n : ℕ) where
       clean-exactly zeros (front ++ rest) .1 (ap (λ (x : List ℕ). front ++ x) (filled-rest n zeros ∙ ap (λ (k : ℕ). replicate k filler) m))
 
   by-check : (c : Check) (v : Verdict)
-      → is-clean (zeros-after (unless-refused c (answer-of v)) (length ns) (length rs)) (unless-refused-bytes c (cleared (room-wanted ns rs) filled) filled) ≡ true
-  unfolding unless-refused answer-of unless-refused-bytes zeros-after work-wanted room-wanted cleared
+      → is-clean (zeros-after (unless-refused c Refused (answer-of v)) (length ns) (length rs)) (unless-refused c (λ r. filled) (cleared (room-wanted ns rs) filled)) ≡ true
+  unfolding unless-refused answer-of zeros-after work-wanted room-wanted cleared
   by-check Fine (accepted place count) = cleared-clean (room-wanted ns rs)
   by-check Fine (rejected place count) = cleared-clean (room-wanted ns rs)
   by-check Fine (undecided place count) = cleared-clean (room-wanted ns rs)

@@ -1,7 +1,7 @@
 -- `flow::check_table` meets its contract: each return rewrites with the tests that led there. Assumes nothing.
 use borrow.Author.Tests.{eq-eqb, ne-eqb, lt-ltb, le-ltb}
 use borrow.Author.Needs.{needs}
-use Rattle.flow.specs.Refusals.{table-check, table-grounds, first, answer, or-else-check, no-nodes, not-whole, too-many-nodes, nodes-check}
+use Rattle.flow.specs.Refusals.{table-check, table-grounds, first, answer, or-else-check, no-nodes, not-whole, too-many-nodes, nodes-grounds, nodes-check}
 use Rattle.flow.proofs.check_table.Statement.{statement}
 use Rattle.flow.proofs.check_table.Tie as tie
 
@@ -30,7 +30,7 @@ check-nodes-requires : tie.Need-check-nodes-requires
 check-nodes-requires c κs = search needs
 
 returns-4 : tie.Need-returns-4
-unfolding table-check table-grounds first answer or-else-check no-nodes not-whole too-many-nodes nodes-check
+unfolding table-check table-grounds first answer or-else-check no-nodes not-whole too-many-nodes nodes-grounds nodes-check
 returns-4 c = rw (c .check-nodes .ensures, ne-eqb _ _ (c .before .before .before .if1 .left), eq-eqb _ _ (c .before .before .if2 .left), le-ltb _ _ (c .before .if3 .left))
 
 pub check-table-spec : {M : Type 1} → statement M

@@ -1,13 +1,14 @@
--- What the demands rest on: an answer told is a refusal or what the search decided (`refusal-told`, `decided-told`), the judge's
--- check in its parts (`check-parts`), and flows redrawn want the same closings (`redrawn-closings`). Assumes nothing.
-use Prim.Native.Nat.{ℕ, _+_, _-_, _<_, _≤_}
+-- What the demands rest on: an answer told is a refusal or what the search decided (`refusal-told`, `decided-told`), a fine table
+-- with room enough is refused as its records are (`records-decide`), and flows redrawn want the same closings (`redrawn-closings`).
+-- Assumes nothing.
+use Prim.Native.Nat.{ℕ, _<_, _≤_}
 use mathlib.Core.Path.{_≡_, refl, sym, ap, _∙_, subst}
 use mathlib.Core.Bool.{Bool, true, false, cond}
-use mathlib.Core.List.{List, _++_}
+use mathlib.Core.List.{List}
 use mathlib.Core.Logic.{_↔_}
 use lib.Dec.{T, leb}
 use lib.ListN.{length}
-use borrow.Author.Tests.{le-ltb, leb-true, leb-false}
+use borrow.Author.Tests.{leb-true, leb-false}
 use Rattle.calculus.specs.Term.{Std, Cmp}
 use Rattle.calculus.specs.Records.{Record, State, std, cmp}
 use Rattle.calculus.specs.Search.{visit, settle}
@@ -19,52 +20,53 @@ use Rattle.flow.specs.declared.Check.the-variants.{Fine}
 use Rattle.flow.specs.declared.Check.the-variants as check
 use Rattle.flow.specs.Kinds.{node, is-standard}
 use Rattle.flow.specs.Records.{records}
-use Rattle.flow.specs.Refusals.{root, first, or-else-check, table-check, records-check, table-grounds, records-grounds, closing-grounds, wrong-closings, closings-wanted}
-use Rattle.flow.specs.FirstRefusal.{first-append, single-passed}
+use Rattle.flow.specs.Refusals.{root, or-else-check, table-check, records-check, records-grounds, wrong-closings, closings-wanted}
+use Rattle.flow.specs.Earliest.{Earliest}
 use Rattle.flow.specs.Draws.{flow-of}
 use Rattle.flow.specs.FineTable.{fine-table}
 use Rattle.flow.specs.OneFlow.{flow-standard, flow-compensable}
 use Rattle.judge.specs.declared.Answer.{Answer}
-use Rattle.judge.specs.Judged.{Word, Told, told, verdict, refusal, room-wanted, too-short, room-grounds, judge-grounds, judge-check, answer-of, unless-refused, judged, cleared, unless-refused-bytes, work-after}
-use Rattle.judge.specs.Given.{Given}
-use Rattle.judge.specs.Refused.{given-exactly}
+use Rattle.judge.specs.declared.Answer.the-variants.{Refused}
+use Rattle.judge.specs.Judged.{VerdictWord, Told, told, verdict, refusal, room-wanted, judge-order, judge-check, answer-of, unless-refused, judged}
+use Rattle.judge.specs.JudgedLaws.{fine-is, room-check, check-parts, roomy-fine}
+use Rattle.promises.specs.ExactlyWhen.{given-exactly}
 
 ---- Words are different ----
 
-abbrev is-refused : Word → Type 0
-is-refused Word.accepted = ⊥
-is-refused Word.rejected = ⊥
-is-refused Word.undecided = ⊥
-is-refused Word.refused = Unit {0}
+abbrev is-refused : VerdictWord → Type 0
+is-refused VerdictWord.accepted = ⊥
+is-refused VerdictWord.rejected = ⊥
+is-refused VerdictWord.undecided = ⊥
+is-refused VerdictWord.refused = Unit {0}
 
-abbrev is-undecided : Word → Type 0
-is-undecided Word.accepted = ⊥
-is-undecided Word.rejected = ⊥
-is-undecided Word.undecided = Unit {0}
-is-undecided Word.refused = ⊥
+abbrev is-undecided : VerdictWord → Type 0
+is-undecided VerdictWord.accepted = ⊥
+is-undecided VerdictWord.rejected = ⊥
+is-undecided VerdictWord.undecided = Unit {0}
+is-undecided VerdictWord.refused = ⊥
 
-abbrev is-accepted : Word → Type 0
-is-accepted Word.accepted = Unit {0}
-is-accepted Word.rejected = ⊥
-is-accepted Word.undecided = ⊥
-is-accepted Word.refused = ⊥
+abbrev is-accepted : VerdictWord → Type 0
+is-accepted VerdictWord.accepted = Unit {0}
+is-accepted VerdictWord.rejected = ⊥
+is-accepted VerdictWord.undecided = ⊥
+is-accepted VerdictWord.refused = ⊥
 
-pub not-refused-word : {w : Word} → (is-refused w → ⊥) → w ≡ Word.refused → ⊥
+pub not-refused-word : {w : VerdictWord} → (is-refused w → ⊥) → w ≡ VerdictWord.refused → ⊥
 not-refused-word n e = n (subst is-refused (sym e) tt)
 
-pub not-undecided-word : {w : Word} → (is-undecided w → ⊥) → w ≡ Word.undecided → ⊥
+pub not-undecided-word : {w : VerdictWord} → (is-undecided w → ⊥) → w ≡ VerdictWord.undecided → ⊥
 not-undecided-word n e = n (subst is-undecided (sym e) tt)
 
-pub not-accepted-word : {w : Word} → (is-accepted w → ⊥) → w ≡ Word.accepted → ⊥
+pub not-accepted-word : {w : VerdictWord} → (is-accepted w → ⊥) → w ≡ VerdictWord.accepted → ⊥
 not-accepted-word n e = n (subst is-accepted (sym e) tt)
 
 ---- What the search decided ----
 
 -- the answer that is told for a flow, its records and an allowance, by what the search saw
 pub data Decided (s : State) (rs : List Record) (n : ℕ) : Told → Type 0 where
-  undecides : n < (visit rs s) .entered → Decided s rs n (verdict Word.undecided 0 n)
-  accepts : (visit rs s) .entered ≤ n → T ((visit rs s) .found) → Decided s rs n (verdict Word.accepted (length rs) ((visit rs s) .entered))
-  rejects : (visit rs s) .entered ≤ n → (T ((visit rs s) .found) → ⊥) → Decided s rs n (verdict Word.rejected ((visit rs s) .reached) ((visit rs s) .entered))
+  undecides : n < (visit rs s) .entered → Decided s rs n (verdict VerdictWord.undecided 0 n)
+  accepts : (visit rs s) .entered ≤ n → T ((visit rs s) .found) → Decided s rs n (verdict VerdictWord.accepted (length rs) ((visit rs s) .entered))
+  rejects : (visit rs s) .entered ≤ n → (T ((visit rs s) .found) → ⊥) → Decided s rs n (verdict VerdictWord.rejected ((visit rs s) .reached) ((visit rs s) .entered))
 
 pub decided : (s : State) (rs : List Record) (n : ℕ) → Decided s rs n (told (answer-of (search.judge s rs n)))
 unfolding search.judge settle told answer-of
@@ -76,7 +78,7 @@ decided s rs n = by (leb ((visit rs s) .entered) n) refl ((visit rs s) .found) r
     by true e true g = accepts (leb-true ((visit rs s) .entered) n e) (subst T (sym g) tt)
     by true e false g = rejects (leb-true ((visit rs s) .entered) n e) (λ t. subst T g t)
 
-decided-not-refused : {s : State} {rs : List Record} {n : ℕ} {t : Told} → Decided s rs n t → t .word ≡ Word.refused → ⊥
+decided-not-refused : {s : State} {rs : List Record} {n : ℕ} {t : Told} → Decided s rs n t → t .word ≡ VerdictWord.refused → ⊥
 decided-not-refused (undecides h) = not-refused-word (λ x. x)
 decided-not-refused (accepts h f) = not-refused-word (λ x. x)
 decided-not-refused (rejects h f) = not-refused-word (λ x. x)
@@ -86,17 +88,13 @@ decided-not-refused (rejects h f) = not-refused-word (λ x. x)
 module _ (ns rs : List ℕ) (room allowance : ℕ) where
   pub refused-is : (r : Refusal) → judge-check ns rs room ≡ check.Refused r → told (judged ns rs room allowance) ≡ refusal (r .number) (r .place)
   unfolding judged unless-refused told
-  refused-is r e = ap (λ (c : Check). told (unless-refused c (answer-of (search.judge (flow-of ns) (records rs) allowance)))) e
-
-  pub fine-is : judge-check ns rs room ≡ Fine → judged ns rs room allowance ≡ answer-of (search.judge (flow-of ns) (records rs) allowance)
-  unfolding judged unless-refused
-  fine-is e = ap (λ (c : Check). unless-refused c (answer-of (search.judge (flow-of ns) (records rs) allowance))) e
+  refused-is r e = ap (λ (c : Check). told (unless-refused c Refused (answer-of (search.judge (flow-of ns) (records rs) allowance)))) e
 
   pub fine-decided : judge-check ns rs room ≡ Fine → Decided (flow-of ns) (records rs) allowance (told (judged ns rs room allowance))
   fine-decided e =
-      subst (λ (a : Answer). Decided (flow-of ns) (records rs) allowance (told a)) (sym (fine-is e)) (decided (flow-of ns) (records rs) allowance)
+      subst (λ (a : Answer). Decided (flow-of ns) (records rs) allowance (told a)) (sym (fine-is ns rs room allowance e)) (decided (flow-of ns) (records rs) allowance)
 
-  pub not-refused-fine : (told (judged ns rs room allowance) .word ≡ Word.refused → ⊥) → judge-check ns rs room ≡ Fine
+  pub not-refused-fine : (told (judged ns rs room allowance) .word ≡ VerdictWord.refused → ⊥) → judge-check ns rs room ≡ Fine
   not-refused-fine n = by (judge-check ns rs room) refl
     where
       by : (c : Check) → judge-check ns rs room ≡ c → judge-check ns rs room ≡ Fine
@@ -104,55 +102,36 @@ module _ (ns rs : List ℕ) (room allowance : ℕ) where
       by (check.Refused r) e = absurd (n (ap (λ (t : Told). t .word) (refused-is r e)))
 
   -- what is not refused is what the search decided
-  pub decided-told : (told (judged ns rs room allowance) .word ≡ Word.refused → ⊥) → Decided (flow-of ns) (records rs) allowance (told (judged ns rs room allowance))
+  pub decided-told : (told (judged ns rs room allowance) .word ≡ VerdictWord.refused → ⊥) → Decided (flow-of ns) (records rs) allowance (told (judged ns rs room allowance))
   decided-told n = fine-decided (not-refused-fine n)
 
-  pub told-refused : (told (judged ns rs room allowance) .word ≡ Word.refused) → (r : Refusal) × (judge-check ns rs room ≡ check.Refused r)
+  pub told-refused : (told (judged ns rs room allowance) .word ≡ VerdictWord.refused) → (r : Refusal) × (judge-check ns rs room ≡ check.Refused r)
   told-refused w = by (judge-check ns rs room) refl
     where
       by : (c : Check) → judge-check ns rs room ≡ c → (r : Refusal) × (judge-check ns rs room ≡ check.Refused r)
       by Fine e = absurd (decided-not-refused (fine-decided e) w)
       by (check.Refused r) e = (r, e)
 
-  pub refusal-told : (number place : ℕ) → (told (judged ns rs room allowance) ≡ refusal number place) ↔ Given ns rs room number place
-  refusal-told number place = (λ e. given-exactly ns rs room number place .0 (there e), λ g. refused-is (record { number = number; place = place }) (given-exactly ns rs room number place .1 g))
+  pub refusal-told : (number place : ℕ) → (told (judged ns rs room allowance) ≡ refusal number place) ↔ Earliest (record { number = number; place = place }) (judge-order ns rs room)
+  refusal-told number place =
+      let at : Refusal = record { number = number; place = place } in
+      (λ e. given-exactly ns rs room at .0 (there e), λ g. refused-is at (given-exactly ns rs room at .1 g))
     where
       there : told (judged ns rs room allowance) ≡ refusal number place → judge-check ns rs room ≡ check.Refused (record { number = number; place = place })
       there e =
           let q = told-refused (ap (λ (t : Told). t .word) e) in
           q .1 ∙ ap (λ (t : Told). check.Refused (record { number = t .number; place = t .place })) (sym (refused-is (q .0) (q .1)) ∙ e)
 
----- The work bytes ----
-
-module _ (ns rs work : List ℕ) where
-  pub refused-bytes : (r : Refusal) → judge-check ns rs (length work) ≡ check.Refused r → work-after ns rs work ≡ work
-  unfolding work-after unless-refused-bytes
-  refused-bytes r e = ap (λ (c : Check). unless-refused-bytes c (cleared (room-wanted ns rs) work) work) e
-
-  pub fine-bytes : judge-check ns rs (length work) ≡ Fine → work-after ns rs work ≡ cleared (room-wanted ns rs) work
-  unfolding work-after unless-refused-bytes
-  fine-bytes e = ap (λ (c : Check). unless-refused-bytes c (cleared (room-wanted ns rs) work) work) e
-
----- The check in its parts ----
+---- The check of a fine table ----
 
 module _ (ns rs : List ℕ) (room : ℕ) where
-  pub check-parts : judge-check ns rs room ≡ or-else-check (table-check ns) (or-else-check (records-check ns rs) (first (room-grounds ns rs room)))
-  unfolding judge-check judge-grounds table-check records-check
-  check-parts =
-      first-append (table-grounds ns) (records-grounds ns rs ++ room-grounds ns rs room)
-      ∙ ap (or-else-check (first (table-grounds ns))) (first-append (records-grounds ns rs) (room-grounds ns rs room))
-
-  pub roomy-fine : room-wanted ns rs ≤ room → first (room-grounds ns rs room) ≡ Fine
-  unfolding room-grounds too-short
-  roomy-fine h = single-passed 14 0 (too-short ns rs room) (le-ltb room (room-wanted ns rs) h)
-
   -- a fine table with room enough is refused as its records are
   pub records-decide : table-check ns ≡ Fine → room-wanted ns rs ≤ room → judge-check ns rs room ≡ records-check ns rs
   unfolding or-else-check
   records-decide t h =
-      check-parts
-      ∙ ap (λ (c : Check). or-else-check c (or-else-check (records-check ns rs) (first (room-grounds ns rs room)))) t
-      ∙ by (records-check ns rs) (first (room-grounds ns rs room)) (roomy-fine h)
+      check-parts ns rs room
+      ∙ ap (λ (c : Check). or-else-check c (or-else-check (records-check ns rs) (room-check ns rs room))) t
+      ∙ by (records-check ns rs) (room-check ns rs room) (roomy-fine ns rs room h)
     where
       by : (c d : Check) → d ≡ Fine → or-else-check Fine (or-else-check c d) ≡ c
       by Fine d e = e
@@ -180,5 +159,5 @@ module _ (ns ns′ : List ℕ) (fine : table-check ns ≡ Fine) (fine′ : table
       by false e true d = absurd (mixed-redrawn h (flow-compensable ns (fine-table ns fine) e .1) (flow-standard ns′ (fine-table ns′ fine′) d .1))
 
   pub redrawn-records : (rs : List ℕ) → records-check ns rs ≡ records-check ns′ rs
-  unfolding records-check records-grounds closing-grounds wrong-closings
+  unfolding records-check records-grounds wrong-closings
   redrawn-records rs = rw redrawn-closings

@@ -1,0 +1,136 @@
+-- "Given exactly when", for any order of rounds: its check answers a refusal exactly if that is the earliest whose ground holds
+-- (`earliest-exactly`), and nothing exactly if no ground holds at any place (`nowhere-exactly`). Then the orders of a table, of a
+-- record list and of the judge, a line each. Assumes nothing.
+use Prim.Native.Nat.{ℕ, zero, suc, _+_, _<_, _≤_}
+use mathlib.Core.Path.{_≡_, sym, subst}
+use mathlib.Core.List.{List, [], _∷_, _++_}
+use mathlib.Core.Logic.{_⊎_, inl, inr, ⊎-elim, _↔_}
+use native.Mathlib.Omega.{arith}
+use native.Mathlib.Nat.{eq-or-lt-of-le}
+use Rattle.flow.specs.declared.Refusal.{Refusal}
+use Rattle.flow.specs.declared.Check.the-variants.{Fine, Refused}
+use Rattle.flow.specs.Refusals.{Ground, each, first, Round, one, over, grounds, table-order, records-order, table-grounds, records-grounds, table-check, records-check}
+use Rattle.flow.specs.Earliest.{First, here, later, None, none, more, Earliest, is-one, past-one, is-over, past-over, Nowhere, end, not-one, not-over}
+use Rattle.flow.specs.FirstRefusal.{refused-exactly, fine-exactly, none-both, none-append, none-each, grounds-over, fine-nowhere}
+use Rattle.judge.specs.Judged.{judge-order, judge-check}
+
+---- Lists of grounds in parts ----
+
+none-all : (f : ℕ → List Ground) (i k : ℕ) → ((j : ℕ) → i ≤ j → j < i + k → None (f j)) → None (each f i k)
+unfolding each
+none-all f i zero n = none
+none-all f i (suc k) n = none-both (n i (omega arith) (omega arith)) (none-all f (suc i) k (λ j lo hi. n j (omega arith) (omega arith)))
+
+-- the first ground that holds stands in the one part or in the other
+module _ {r : Refusal} where
+  first-left : {gs : List Ground} (hs : List Ground) → First r gs → First r (gs ++ hs)
+  first-left hs (here e t) = here e t
+  first-left hs (later t f) = later t (first-left hs f)
+
+  first-right : {gs hs : List Ground} → None gs → First r hs → First r (gs ++ hs)
+  first-right none f = f
+  first-right (more t n) f = later t (first-right n f)
+
+  first-split : (gs hs : List Ground) → First r (gs ++ hs) → First r gs ⊎ (None gs × First r hs)
+  first-split [] hs f = inr (none, f)
+  first-split (g ∷ gs) hs (here e t) = inl (here e t)
+  first-split (g ∷ gs) hs (later t f) = by (first-split gs hs f)
+    where
+      by : First r gs ⊎ (None gs × First r hs) → First r (g ∷ gs) ⊎ (None (g ∷ gs) × First r hs)
+      by (inl x) = inl (later t x)
+      by (inr x) = inr (more t (x .0), x .1)
+
+-- or at the lowest of several places that has one
+record Lowest (f : ℕ → List Ground) (i k : ℕ) (r : Refusal) : Type 0 where
+  at : ℕ
+  low : i ≤ at
+  high : at < i + k
+  before : (l : ℕ) → i ≤ l → l < at → None (f l)
+  found : First r (f at)
+
+module _ {r : Refusal} (f : ℕ → List Ground) where
+  first-lowest : (i k : ℕ) → First r (each f i k) → Lowest f i k r
+  unfolding each
+  first-lowest i zero h = elim h [ ]
+  first-lowest i (suc k) h = by (first-split (f i) (each f (suc i) k) h) (first-lowest (suc i) k)
+    where
+      by : First r (f i) ⊎ (None (f i) × First r (each f (suc i) k)) → (First r (each f (suc i) k) → Lowest f (suc i) k r) → Lowest f i (suc k) r
+      by (inl x) rec = record { at = i; low = omega arith; high = omega arith; before = λ l lo hi. absurd (omega arith); found = x }
+      by (inr x) rec =
+          let q = rec (x .1) in
+          let none-at : (l : ℕ) → i ≤ l → l < q .at → None (f l)
+          = λ l lo hi. ⊎-elim (λ e. subst (λ (z : ℕ). None (f z)) e (x .0)) (λ lt. q .before l lt hi) (eq-or-lt-of-le lo) in
+          record { at = q .at; low = omega (arith, q .low); high = omega (arith, q .high); before = none-at; found = q .found }
+
+  lowest-first : (i k j : ℕ) → i ≤ j → j < i + k → ((l : ℕ) → i ≤ l → l < j → None (f l)) → First r (f j) → First r (each f i k)
+  unfolding each
+  lowest-first i zero j lo hi n h = absurd (omega arith)
+  lowest-first i (suc k) j lo hi n h =
+      ⊎-elim (λ e. first-left (each f (suc i) k) (subst (λ (z : ℕ). First r (f z)) (sym e) h))
+      (λ lt. first-right (n i (omega arith) lt) (lowest-first (suc i) k j lt (omega arith) (λ l a b. n l (omega arith) b) h))
+      (eq-or-lt-of-le lo)
+
+---- Any order ----
+
+module _ {r : Refusal} where
+  first-earliest : (order : List Round) → First r (grounds order) → Earliest r order
+  first-earliest [] f = elim f [ ]
+  first-earliest (one g ∷ order) (here e t) = is-one e t
+  first-earliest (one g ∷ order) (later t f) = past-one t (first-earliest order f)
+  first-earliest (over n f ∷ order) h = by (first-split (each f 0 n) (grounds order) (subst (First r) (grounds-over n f order) h)) (first-earliest order)
+    where
+      by : First r (each f 0 n) ⊎ (None (each f 0 n) × First r (grounds order)) → (First r (grounds order) → Earliest r order) → Earliest r (over n f ∷ order)
+      by (inl x) rec =
+          let q = first-lowest f 0 n x in
+          let before : (j : ℕ) → j < q .at → None (f j) = λ j l. q .before j (omega arith) l in
+          is-over {n = n} {f = f} (q .at) (omega (arith, q .high)) before (q .found)
+      by (inr x) rec =
+          let passed : (j : ℕ) → j < n → None (f j) = λ j l. none-each f 0 n j (x .0) (omega arith) (omega arith) in
+          past-over passed (rec (x .1))
+
+  earliest-first : (order : List Round) → Earliest r order → First r (grounds order)
+  earliest-first (one g ∷ order) (is-one e t) = here e t
+  earliest-first (one g ∷ order) (past-one t x) = later t (earliest-first order x)
+  earliest-first (over n f ∷ order) (is-over i h before x) =
+      let none-at : (j : ℕ) → 0 ≤ j → j < i → None (f j) = λ j lo hi. before j hi in
+      subst (First r) (sym (grounds-over n f order)) (first-left (grounds order) (lowest-first f 0 n i (omega arith) (omega arith) none-at x))
+  earliest-first (over n f ∷ order) (past-over passed x) =
+      let none-at : (j : ℕ) → 0 ≤ j → j < 0 + n → None (f j) = λ j lo hi. passed j (omega arith) in
+      subst (First r) (sym (grounds-over n f order)) (first-right (none-all f 0 n none-at) (earliest-first order x))
+
+nowhere-none : (order : List Round) → Nowhere order → None (grounds order)
+nowhere-none [] end = none
+nowhere-none (one g ∷ order) (not-one t n) = more t (nowhere-none order n)
+nowhere-none (over n f ∷ order) (not-over passed x) =
+    let none-at : (j : ℕ) → 0 ≤ j → j < 0 + n → None (f j) = λ j lo hi. passed j (omega arith) in
+    subst None (sym (grounds-over n f order)) (none-both (none-all f 0 n none-at) (nowhere-none order x))
+
+pub earliest-exactly : (order : List Round) (r : Refusal) → (first (grounds order) ≡ Refused r) ↔ Earliest r order
+earliest-exactly order r =
+    let e = refused-exactly (grounds order) r in
+    (λ h. first-earliest order (e .0 h), λ x. e .1 (earliest-first order x))
+
+pub nowhere-exactly : (order : List Round) → (first (grounds order) ≡ Fine) ↔ Nowhere order
+nowhere-exactly order = (fine-nowhere order, λ x. fine-exactly (grounds order) .1 (nowhere-none order x))
+
+---- The orders ----
+
+-- 1 to 9
+pub table-exactly : (ns : List ℕ) (r : Refusal) → (table-check ns ≡ Refused r) ↔ Earliest r (table-order ns)
+unfolding table-check table-grounds
+table-exactly ns r = earliest-exactly (table-order ns) r
+
+-- 10 to 13
+pub records-exactly : (ns rs : List ℕ) (r : Refusal) → (records-check ns rs ≡ Refused r) ↔ Earliest r (records-order ns rs)
+unfolding records-check records-grounds
+records-exactly ns rs r = earliest-exactly (records-order ns rs) r
+
+-- 1 to 14
+module _ (ns rs : List ℕ) (room : ℕ) where
+  pub given-exactly : (r : Refusal) → (judge-check ns rs room ≡ Refused r) ↔ Earliest r (judge-order ns rs room)
+  unfolding judge-check
+  given-exactly r = earliest-exactly (judge-order ns rs room) r
+
+  pub passes-exactly : (judge-check ns rs room ≡ Fine) ↔ Nowhere (judge-order ns rs room)
+  unfolding judge-check
+  passes-exactly = nowhere-exactly (judge-order ns rs room)

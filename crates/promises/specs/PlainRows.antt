@@ -1,0 +1,386 @@
+-- The tests of the refusal table mean the conditions that Plain puts in words: 5, 7, 8 and 9 of a node (`wrong-field-means` and so
+-- on), and 13 with its place, in both directions (`wrong-closings-means`, `closings-when`, `closings-fine-when`). Assumes nothing.
+use Prim.Native.Nat.{ℕ, zero, suc, _-_, _<_, _≤_}
+use mathlib.Core.Path.{_≡_, refl, sym, ap, _∙_, subst}
+use mathlib.Core.Bool.{Bool, true, false, not, xor, _&&_, _||_, cond}
+use mathlib.Core.List.{List, [], _∷_}
+use mathlib.Core.Logic.{_⊎_, inl, inr, _↔_, _≢_}
+use native.Mathlib.Omega.{arith}
+use native.Mathlib.Nat.{eq-or-lt-of-le}
+use lib.Dec.{T, eqb, leb, T-not, eqb→eq, eqb-refl}
+use lib.ListN.{length, getD, take}
+use borrow.Author.Tests.{leb-true, le-leb}
+use Rattle.calculus.specs.Members.{or-in-left, or-in-right, or-cases, and-in, and-left, and-right}
+use Rattle.flow.specs.declared.Check.{Check}
+use Rattle.flow.specs.declared.Check.the-variants.{Fine, Refused}
+use Rattle.flow.specs.Nodes.{Kid, kid1, kid2}
+use Rattle.flow.specs.Kinds.{kids, is-event, is-standard, of-standard, kind, one-of, two-of, shape}
+use Rattle.flow.specs.Records.{most-events, is-event-number, is-closing-number}
+use Rattle.flow.specs.Refusals.{count, has-one, has-two, wrong-field, taken, wrong-sort, child-taken, nobodys-child, closings-wanted, closed, wrong-closings, after-closings, refused, closings-check}
+use Rattle.flow.specs.Tests.{is-true}
+use Rattle.flow.specs.FineTable.{kid-taken, taken-kid}
+use Rattle.flow.specs.Closings.{event-closed, event-place, closings-fine, closings-refused, wanted-some}
+use Rattle.promises.specs.Plain.{WrongField, event-out, first-unused, second-unused, WrongSort, wrong-child, ChildTaken, taken-already, same-twice, NobodysChild, closings-in, NthClosing, WrongClosings, goes-on, too-few}
+
+---- Tests ----
+
+and-split : (a b : Bool) → T (a && b) → T a × T b
+and-split a b t = (and-left a b t, and-right a b t)
+
+not-in : (b : Bool) → (T b → ⊥) → T (not b)
+not-in true n = absurd (n tt)
+not-in false n = tt
+
+apart-of : (a b : Bool) → T (xor a b) → a ≢ b
+unfolding xor
+apart-of true true t e = t
+apart-of true false t e = subst T e tt
+apart-of false true t e = subst T (sym e) tt
+apart-of false false t e = t
+
+apart-in : (a b : Bool) → a ≢ b → T (xor a b)
+unfolding xor
+apart-in true true n = absurd (n refl)
+apart-in true false n = tt
+apart-in false true n = tt
+apart-in false false n = absurd (n refl)
+
+same-in : {a b : ℕ} → a ≡ b → T (eqb a b)
+same-in {a} e = subst (λ (x : ℕ). T (eqb a x)) e (eqb-refl a)
+
+differ-of : (a b : ℕ) → T (not (eqb a b)) → a ≢ b
+differ-of a b t e = T-not (eqb a b) t (same-in e)
+
+differ-in : (a b : ℕ) → a ≢ b → T (not (eqb a b))
+differ-in a b n = not-in (eqb a b) (λ t. n (eqb→eq a b t))
+
+---- A node ----
+
+module _ (ns : List ℕ) (i : ℕ) where
+  in-event : (r : ℕ) → 1 ≤ r → r ≤ most-events → T (is-event-number r)
+  unfolding is-event-number
+  in-event r lo hi = and-in (leb 1 r) (leb r most-events) (subst T (sym (le-leb 1 r lo)) tt) (subst T (sym (le-leb r most-events hi)) tt)
+
+  of-event : (r : ℕ) → T (is-event-number r) → (1 ≤ r) × (r ≤ most-events)
+  unfolding is-event-number
+  of-event r t =
+      let p = and-split (leb 1 r) (leb r most-events) t in
+      (leb-true 1 r (is-true (leb 1 r) (p .0)), leb-true r most-events (is-true (leb r most-events) (p .1)))
+
+  abbrev event : Bool
+  event = is-event (kind ns i)
+
+  abbrev no-event : Bool
+  no-event = event && not (is-event-number (one-of ns i))
+
+  abbrev leaf-field : Bool
+  leaf-field = not event && (eqb (kids (kind ns i)) 0 && not (eqb (one-of ns i) 0))
+
+  abbrev second-field : Bool
+  second-field = not (has-two ns i) && not (eqb (two-of ns i) 0)
+
+  -- 5
+  pub wrong-field-means : T (wrong-field ns i) ↔ WrongField ns i
+  unfolding wrong-field
+  wrong-field-means = (λ t. to (or-cases no-event (leaf-field || second-field) t), of)
+    where
+      to-rest : T leaf-field ⊎ T second-field → WrongField ns i
+      to-rest (inl t) =
+          let p = and-split (not event) (eqb (kids (kind ns i)) 0 && not (eqb (one-of ns i) 0)) t in
+          let q = and-split (eqb (kids (kind ns i)) 0) (not (eqb (one-of ns i) 0)) (p .1) in
+          first-unused (T-not event (p .0)) (eqb→eq (kids (kind ns i)) 0 (q .0)) (differ-of (one-of ns i) 0 (q .1))
+      to-rest (inr t) =
+          let p = and-split (not (has-two ns i)) (not (eqb (two-of ns i) 0)) t in
+          second-unused (differ-of (kids (kind ns i)) 2 (p .0)) (differ-of (two-of ns i) 0 (p .1))
+
+      to : T no-event ⊎ T (leaf-field || second-field) → WrongField ns i
+      to (inl t) =
+          let p = and-split event (not (is-event-number (one-of ns i))) t in
+          event-out (p .0) (λ lo hi. T-not (is-event-number (one-of ns i)) (p .1) (in-event (one-of ns i) lo hi))
+      to (inr t) = to-rest (or-cases leaf-field second-field t)
+
+      of : WrongField ns i → T (no-event || (leaf-field || second-field))
+      of (event-out e n) =
+          or-in-left no-event (leaf-field || second-field)
+          (and-in event (not (is-event-number (one-of ns i))) e
+          (not-in (is-event-number (one-of ns i)) (λ t. let p = of-event (one-of ns i) t in n (p .0) (p .1))))
+      of (first-unused n e d) =
+          or-in-right no-event (leaf-field || second-field)
+          (or-in-left leaf-field second-field
+          (and-in (not event) (eqb (kids (kind ns i)) 0 && not (eqb (one-of ns i) 0)) (not-in event n)
+          (and-in (eqb (kids (kind ns i)) 0) (not (eqb (one-of ns i) 0)) (same-in e) (differ-in (one-of ns i) 0 d))))
+      of (second-unused n d) =
+          or-in-right no-event (leaf-field || second-field)
+          (or-in-right leaf-field second-field
+          (and-in (not (has-two ns i)) (not (eqb (two-of ns i) 0)) (differ-in (kids (kind ns i)) 2 n) (differ-in (two-of ns i) 0 d)))
+
+  -- a test that is made of each child
+  module _ (test : ℕ → Bool) where
+    abbrev of-a-child : Bool
+    of-a-child = (has-one ns i && test (one-of ns i)) || (has-two ns i && test (two-of ns i))
+
+    child-of : T of-a-child → (c : ℕ) × Kid (shape ns) i c × T (test c)
+    child-of t = by (or-cases (has-one ns i && test (one-of ns i)) (has-two ns i && test (two-of ns i)) t)
+      where
+        by : T (has-one ns i && test (one-of ns i)) ⊎ T (has-two ns i && test (two-of ns i)) → (c : ℕ) × Kid (shape ns) i c × T (test c)
+        by (inl u) = let p = and-split (has-one ns i) (test (one-of ns i)) u in (one-of ns i, kid1 (p .0) refl, p .1)
+        by (inr u) = let p = and-split (has-two ns i) (test (two-of ns i)) u in (two-of ns i, kid2 (p .0) refl, p .1)
+
+    child-in : (c : ℕ) → Kid (shape ns) i c → T (test c) → T of-a-child
+    child-in c (kid1 h e) t =
+        or-in-left (has-one ns i && test (one-of ns i)) (has-two ns i && test (two-of ns i))
+        (and-in (has-one ns i) (test (one-of ns i)) h (subst (λ (x : ℕ). T (test x)) e t))
+    child-in c (kid2 h e) t =
+        or-in-right (has-one ns i && test (one-of ns i)) (has-two ns i && test (two-of ns i))
+        (and-in (has-two ns i) (test (two-of ns i)) h (subst (λ (x : ℕ). T (test x)) e t))
+
+  abbrev wrong : ℕ → Bool
+  wrong c = xor (is-standard (kind ns c)) (of-standard (kind ns i))
+
+  -- 7
+  pub wrong-sort-means : T (wrong-sort ns i) ↔ WrongSort ns i
+  unfolding wrong-sort
+  wrong-sort-means = (to, of)
+    where
+      to : T (of-a-child wrong) → WrongSort ns i
+      to t =
+          let p = child-of wrong t in
+          wrong-child (p .1) (apart-of (is-standard (kind ns (p .0))) (of-standard (kind ns i)) (p .2))
+
+      of : WrongSort ns i → T (of-a-child wrong)
+      of (wrong-child {c} k n) = child-in wrong c k (apart-in (is-standard (kind ns c)) (of-standard (kind ns i)) n)
+
+  abbrev twice : Bool
+  twice = has-two ns i && eqb (one-of ns i) (two-of ns i)
+
+  abbrev first-taken : Bool
+  first-taken = has-one ns i && taken ns i (one-of ns i)
+
+  abbrev second-taken : Bool
+  second-taken = has-two ns i && taken ns i (two-of ns i)
+
+  -- 8
+  pub child-taken-means : T (child-taken ns i) ↔ ChildTaken ns i
+  unfolding child-taken
+  child-taken-means = (λ t. to (or-cases first-taken (second-taken || twice) t), of)
+    where
+      already : T (of-a-child (taken ns i)) → ChildTaken ns i
+      already t =
+          let p = child-of (taken ns i) t in
+          let q = taken-kid ns i (p .0) (p .2) in
+          taken-already (p .1) (q .1) (q .2)
+
+      to-rest : T second-taken ⊎ T twice → ChildTaken ns i
+      to-rest (inl t) = already (or-in-right first-taken second-taken t)
+      to-rest (inr t) =
+          let p = and-split (has-two ns i) (eqb (one-of ns i) (two-of ns i)) t in
+          same-twice (p .0) (eqb→eq (one-of ns i) (two-of ns i) (p .1))
+
+      to : T first-taken ⊎ T (second-taken || twice) → ChildTaken ns i
+      to (inl t) = already (or-in-left first-taken second-taken t)
+      to (inr t) = to-rest (or-cases second-taken twice t)
+
+      join : T first-taken ⊎ T second-taken → T (first-taken || (second-taken || twice))
+      join (inl t) = or-in-left first-taken (second-taken || twice) t
+      join (inr t) = or-in-right first-taken (second-taken || twice) (or-in-left second-taken twice t)
+
+      of : ChildTaken ns i → T (first-taken || (second-taken || twice))
+      of (taken-already {c} {j} k h k′) = join (or-cases first-taken second-taken (child-in (taken ns i) c k (kid-taken ns i j c h k′)))
+      of (same-twice h e) =
+          or-in-right first-taken (second-taken || twice)
+          (or-in-right second-taken twice (and-in (has-two ns i) (eqb (one-of ns i) (two-of ns i)) h (same-in e)))
+
+  -- 9
+  pub nobodys-child-means : T (nobodys-child ns i) ↔ NobodysChild ns i
+  unfolding nobodys-child
+  nobodys-child-means = (
+    λ t j h k. T-not (taken ns (count ns) i) t (kid-taken ns (count ns) j i h k),
+    λ n. not-in (taken ns (count ns) i) (λ t. let q = taken-kid ns (count ns) i t in n (q .0) (q .1) (q .2)),
+  )
+
+---- The closings ----
+
+-- one record more
+module _ (r : ℕ) (rs : List ℕ) where
+  count-closing : is-closing-number r ≡ true → closings-in (r ∷ rs) ≡ suc (closings-in rs)
+  unfolding closings-in
+  count-closing e = rw e
+
+  count-event : is-closing-number r ≡ false → closings-in (r ∷ rs) ≡ closings-in rs
+  unfolding closings-in
+  count-event e = rw e
+
+  closing-on : (n : ℕ) → is-closing-number r ≡ true → closed (r ∷ rs) (suc n) ≡ closed rs n
+  unfolding closed
+  closing-on n e = rw e
+
+  closing-after : (n : ℕ) → is-closing-number r ≡ true → after-closings (r ∷ rs) (suc n) ≡ suc (after-closings rs n)
+  unfolding after-closings
+  closing-after n e = rw e
+
+module _ (r : ℕ) (rs : List ℕ) {n k : ℕ} (x : NthClosing rs n k) where
+  closing-more : is-closing-number r ≡ true → NthClosing (r ∷ rs) (suc n) (suc k)
+  closing-more e = record { closing = x .closing; nth = count-closing r (take (suc k) rs) e ∙ ap suc (x .nth) }
+
+  event-more : is-closing-number r ≡ false → NthClosing (r ∷ rs) n (suc k)
+  event-more e = record { closing = x .closing; nth = count-event r (take (suc k) rs) e ∙ x .nth }
+
+-- what the test and the place are if the n-th closing stands at k
+record AtNth (rs : List ℕ) (n k : ℕ) : Type 0 where
+  some : 1 ≤ n
+  place : after-closings rs n ≡ suc k
+  last : suc k ≡ length rs → closed rs n ≡ true
+  early : suc k < length rs → closed rs n ≡ false
+
+closing-here : (r : ℕ) (rs : List ℕ) → is-closing-number r ≡ true → AtNth (r ∷ rs) 1 0
+unfolding closed after-closings
+closing-here r [] e = record {
+  some = omega arith;
+  place = closing-after r [] 0 e;
+  last = λ h. closing-on r [] 0 e;
+  early = λ h. absurd (omega arith);
+}
+closing-here r (q ∷ qs) e = record {
+  some = omega arith;
+  place = closing-after r (q ∷ qs) 0 e;
+  last = λ h. absurd (omega arith);
+  early = λ h. closing-on r (q ∷ qs) 0 e;
+}
+
+nth-at : (rs : List ℕ) (n k : ℕ) → NthClosing rs n k → AtNth rs n k
+unfolding is-closing-number closings-in
+nth-at [] n k x = absurd (subst (λ (b : Bool). T (not b)) (x .closing) tt)
+nth-at (r ∷ rs) n zero x =
+    let e : 1 ≡ n = sym (count-closing r [] (x .closing)) ∙ x .nth in
+    subst (λ (m : ℕ). AtNth (r ∷ rs) m 0) e (closing-here r rs (x .closing))
+nth-at (r ∷ rs) n (suc k) x = by (is-closing-number r) refl (nth-at rs (closings-in (take (suc k) rs)) k (record { closing = x .closing; nth = refl }))
+  where
+    m : ℕ
+    m = closings-in (take (suc k) rs)
+
+    by : (b : Bool) → is-closing-number r ≡ b → AtNth rs m k → AtNth (r ∷ rs) n (suc k)
+    by true e s =
+        subst (λ (z : ℕ). AtNth (r ∷ rs) z (suc k)) (sym (count-closing r (take (suc k) rs) e) ∙ x .nth)
+        (record {
+          some = omega arith;
+          place = closing-after r rs m e ∙ ap suc (s .place);
+          last = λ h. closing-on r rs m e ∙ s .last (omega arith);
+          early = λ h. closing-on r rs m e ∙ s .early (omega arith);
+        })
+    by false e s =
+        subst (λ (z : ℕ). AtNth (r ∷ rs) z (suc k)) (sym (count-event r (take (suc k) rs) e) ∙ x .nth)
+        (record {
+          some = s .some;
+          place = event-place r rs m (s .some) e ∙ ap suc (s .place);
+          last = λ h. event-closed r rs m (s .some) e ∙ s .last (omega arith);
+          early = λ h. event-closed r rs m (s .some) e ∙ s .early (omega arith);
+        })
+
+few-at : (rs : List ℕ) (n : ℕ) → closings-in rs < n → (closed rs n ≡ false) × (after-closings rs n ≡ length rs)
+unfolding closed after-closings
+few-at [] zero h = absurd (omega arith)
+few-at [] (suc n) h = (refl, refl)
+few-at (r ∷ rs) zero h = absurd (omega arith)
+few-at (r ∷ rs) (suc n) h = by (is-closing-number r) refl (few-at rs)
+  where
+    by : (b : Bool) → is-closing-number r ≡ b → ((m : ℕ) → closings-in rs < m → (closed rs m ≡ false) × (after-closings rs m ≡ length rs))
+        → (closed (r ∷ rs) (suc n) ≡ false) × (after-closings (r ∷ rs) (suc n) ≡ length (r ∷ rs))
+    by true e rec =
+        let c = count-closing r rs e in
+        let q = rec n (omega arith) in
+        (closing-on r rs n e ∙ q .0, closing-after r rs n e ∙ ap suc (q .1))
+    by false e rec =
+        let c = count-event r rs e in
+        let q = rec (suc n) (omega arith) in
+        (event-closed r rs (suc n) (omega arith) e ∙ q .0, event-place r rs (suc n) (omega arith) e ∙ ap suc (q .1))
+
+-- the n-th closing stands somewhere, or they are fewer
+find-nth : (rs : List ℕ) (n : ℕ) → 1 ≤ n → ((k : ℕ) × (suc k ≤ length rs) × NthClosing rs n k) ⊎ (closings-in rs < n)
+unfolding closings-in
+find-nth [] n h = inr h
+find-nth (r ∷ rs) zero h = absurd (omega arith)
+find-nth (r ∷ rs) (suc n) h = by (is-closing-number r) refl n (find-nth rs)
+  where
+    by : (b : Bool) → is-closing-number r ≡ b → (m : ℕ) → ((l : ℕ) → 1 ≤ l → ((k : ℕ) × (suc k ≤ length rs) × NthClosing rs l k) ⊎ (closings-in rs < l))
+        → ((k : ℕ) × (suc k ≤ length (r ∷ rs)) × NthClosing (r ∷ rs) (suc m) k) ⊎ (closings-in (r ∷ rs) < suc m)
+    by true e zero rec = inl (0, omega arith, record { closing = e; nth = count-closing r [] e })
+    by true e (suc m) rec = on (rec (suc m) (omega arith))
+      where
+        on : ((k : ℕ) × (suc k ≤ length rs) × NthClosing rs (suc m) k) ⊎ (closings-in rs < suc m)
+            → ((k : ℕ) × (suc k ≤ length (r ∷ rs)) × NthClosing (r ∷ rs) (suc (suc m)) k) ⊎ (closings-in (r ∷ rs) < suc (suc m))
+        on (inl x) = inl (suc (x .0), omega (arith, x .1), closing-more r rs (x .2) e)
+        on (inr l) = let c = count-closing r rs e in inr (omega arith)
+    by false e m rec = on (rec (suc m) (omega arith))
+      where
+        on : ((k : ℕ) × (suc k ≤ length rs) × NthClosing rs (suc m) k) ⊎ (closings-in rs < suc m)
+            → ((k : ℕ) × (suc k ≤ length (r ∷ rs)) × NthClosing (r ∷ rs) (suc m) k) ⊎ (closings-in (r ∷ rs) < suc m)
+        on (inl x) = inl (suc (x .0), omega (arith, x .1), event-more r rs (x .2) e)
+        on (inr l) = let c = count-event r rs e in inr (omega arith)
+
+abbrev is-fine : Check → Type 0
+is-fine Fine = Unit {0}
+is-fine (Refused r) = ⊥
+
+abbrev place-of : Check → ℕ
+place-of Fine = 0
+place-of (Refused r) = r .place
+
+module _ (ns rs : List ℕ) where
+  abbrev wanted : ℕ
+  wanted = closings-wanted ns
+
+  place-is : {place : ℕ} → WrongClosings rs wanted place → (closed rs wanted ≡ false) × (after-closings rs wanted ≡ place)
+  place-is (goes-on {k} x h) = let s = nth-at rs wanted k x in (s .early h, s .place)
+  place-is (too-few h) = few-at rs wanted h
+
+  refused-at : {place : ℕ} → WrongClosings rs wanted place → closings-check ns rs ≡ refused 13 place
+  refused-at {place} w = let q = place-is w in closings-refused ns rs place (q .0) (sym (q .1))
+
+  fine-at : {k : ℕ} → NthClosing rs wanted k → suc k ≡ length rs → closings-check ns rs ≡ Fine
+  fine-at {k} x h = closings-fine ns rs (nth-at rs wanted k x .last h)
+
+  -- the n-th closing is last, or 13 is given, and where
+  by-closings : ((k : ℕ) × (suc k ≡ length rs) × NthClosing rs wanted k) ⊎ ((place : ℕ) × WrongClosings rs wanted place)
+  by-closings = by (find-nth rs wanted (wanted-some ns))
+    where
+      on : (k : ℕ) → NthClosing rs wanted k → (suc k ≡ length rs) ⊎ (suc k < length rs)
+          → ((k : ℕ) × (suc k ≡ length rs) × NthClosing rs wanted k) ⊎ ((place : ℕ) × WrongClosings rs wanted place)
+      on k x (inl e) = inl (k, e, x)
+      on k x (inr l) = inr (suc k, goes-on x l)
+
+      by : ((k : ℕ) × (suc k ≤ length rs) × NthClosing rs wanted k) ⊎ (closings-in rs < wanted)
+          → ((k : ℕ) × (suc k ≡ length rs) × NthClosing rs wanted k) ⊎ ((place : ℕ) × WrongClosings rs wanted place)
+      by (inl x) = on (x .0) (x .2) (eq-or-lt-of-le (x .1))
+      by (inr l) = inr (length rs, too-few l)
+
+  -- 13, as it stands in the order, with its place
+  pub wrong-closings-means : (place : ℕ) → (T (wrong-closings ns rs) × (place ≡ after-closings rs wanted)) ↔ WrongClosings rs wanted place
+  unfolding wrong-closings
+  wrong-closings-means place = (λ q. by (q .0) (q .1) by-closings, of)
+    where
+      by : T (not (closed rs wanted)) → place ≡ after-closings rs wanted
+          → ((k : ℕ) × (suc k ≡ length rs) × NthClosing rs wanted k) ⊎ ((p : ℕ) × WrongClosings rs wanted p) → WrongClosings rs wanted place
+      by t e (inl x) = absurd (T-not (closed rs wanted) t (subst T (sym (nth-at rs wanted (x .0) (x .2) .last (x .1))) tt))
+      by t e (inr x) = subst (WrongClosings rs wanted) (sym (place-is (x .1) .1) ∙ sym e) (x .1)
+
+      of : WrongClosings rs wanted place → T (not (closed rs wanted)) × (place ≡ after-closings rs wanted)
+      of w = let q = place-is w in (subst (λ (b : Bool). T (not b)) (sym (q .0)) tt, sym (q .1))
+
+  -- 13 is given at a place exactly when it is the first after the closings that the root needs, or they are too few and it is the
+  -- number of records
+  pub closings-when : (place : ℕ) → (closings-check ns rs ≡ refused 13 place) ↔ WrongClosings rs wanted place
+  closings-when place = (λ e. by e by-closings, refused-at)
+    where
+      by : closings-check ns rs ≡ refused 13 place → ((k : ℕ) × (suc k ≡ length rs) × NthClosing rs wanted k) ⊎ ((p : ℕ) × WrongClosings rs wanted p)
+          → WrongClosings rs wanted place
+      by e (inl x) = absurd (subst is-fine (sym (fine-at (x .2) (x .1)) ∙ e) tt)
+      by e (inr x) = subst (WrongClosings rs wanted) (ap place-of (sym (refused-at (x .1)) ∙ e)) (x .1)
+
+  -- and it is not given exactly when the last closing that the root needs is the last record
+  pub closings-fine-when : (closings-check ns rs ≡ Fine) ↔ ((k : ℕ) × (suc k ≡ length rs) × NthClosing rs wanted k)
+  closings-fine-when = (λ e. by e by-closings, λ x. fine-at (x .2) (x .1))
+    where
+      by : closings-check ns rs ≡ Fine → ((k : ℕ) × (suc k ≡ length rs) × NthClosing rs wanted k) ⊎ ((p : ℕ) × WrongClosings rs wanted p)
+          → (k : ℕ) × (suc k ≡ length rs) × NthClosing rs wanted k
+      by e (inl x) = x
+      by e (inr x) = absurd (subst is-fine (sym e ∙ refused-at (x .1)) tt)
