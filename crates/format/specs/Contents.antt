@@ -6,13 +6,13 @@ use mathlib.Core.List.{List, [], _∷_, _++_}
 use lib.Dec.{eqb, ltb, leb}
 use lib.ListN.{length, getD}
 use Rattle.flow.specs.declared.Check.{Check}
-use Rattle.flow.specs.Kinds.{one-of}
+use Rattle.flow.specs.Kinds.{form, node, one-of}
 use Rattle.flow.specs.Refusals.{Ground, ground, first, each, count, nodes-grounds, values-grounds, closing-grounds}
 use Rattle.format.specs.Format.{File}
 
 -- 19: "a node's event above the number of names (lowest node)"
 unfoldable pub unnamed-leaf : ℕ → List ℕ → ℕ → Bool
-unnamed-leaf names ns i = eqb (getD ns (3 * i) 0) 1 && ltb names (one-of ns i)
+unnamed-leaf names ns i = form (node ns i) .event && ltb names (one-of ns i)
 
 abbrev pub leaf-grounds : ℕ → List ℕ → ℕ → List Ground
 leaf-grounds names ns i = ground 19 i (unnamed-leaf names ns i) ∷ []

@@ -361,9 +361,9 @@ fn unnamed_leaf(nodes: &[u16], i: usize, names: u16) -> bool
     requires { ⌜ 3 * i + 2 < length (now nodes) ⌝ }
     ensures { λ r. ⌜ r ≡ unnamed-leaf names (now (nodes .entry)) i ⌝ }
 {
-    let kind = flow::kind_at(nodes, i);
+    let form = flow::form_at(nodes, i);
     let event = flow::first_at(nodes, i);
-    (kind == 1) & (names < event)
+    form.event & (names < event)
 }
 
 // Whether a record is an event above the number of names.

@@ -13,7 +13,7 @@ use Rattle.flow.specs.declared.Refusal.{Refusal}
 use Rattle.flow.specs.declared.Check.{Check}
 use Rattle.flow.specs.declared.Check.the-variants as check
 use Rattle.flow.specs.Tests.{is-true, both-true}
-use Rattle.flow.specs.Kinds.{one-of}
+use Rattle.flow.specs.Kinds.{form, node, one-of}
 use Rattle.flow.specs.Refusals.{Ground, ground, each, count, node-grounds, child-grounds, nodes-grounds, value-grounds, values-grounds, closing-grounds, nobodys-child, no-record, after-closings, closings-wanted}
 use Rattle.flow.specs.FirstRefusal.{First, here, later, None, none, more, refused-exactly, none-append}
 use Rattle.format.specs.Format.{File, encode}
@@ -144,14 +144,14 @@ module _ (f : File) where
   unnamed-of : (i : ℕ) → T (unnamed-leaf (length (f .names)) (f .nodes) i) → Unnamed f i
   unfolding unnamed-leaf
   unnamed-of i t =
-      let a = eqb (getD (f .nodes) (3 * i) 0) 1 in
+      let a = form (node (f .nodes) i) .event in
       let b = ltb (length (f .names)) (one-of (f .nodes) i) in
       let h = both-true a b (is-true (a && b) t) in
-      record { leaf = eqb-true (getD (f .nodes) (3 * i) 0) 1 (h .0); above = ltb-true (length (f .names)) (one-of (f .nodes) i) (h .1) }
+      record { leaf = h .0; above = ltb-true (length (f .names)) (one-of (f .nodes) i) (h .1) }
 
   of-unnamed : (i : ℕ) → Unnamed f i → T (unnamed-leaf (length (f .names)) (f .nodes) i)
   unfolding unnamed-leaf
-  of-unnamed i u = rw (eq-eqb (getD (f .nodes) (3 * i) 0) 1 (u .leaf), lt-ltb (length (f .names)) (one-of (f .nodes) i) (u .above)) tt
+  of-unnamed i u = rw (u .leaf, lt-ltb (length (f .names)) (one-of (f .nodes) i) (u .above)) tt
 
   unnamed-record-of : (i : ℕ) → T (unnamed-event (length (f .names)) (getD (f .records) i 0)) → UnnamedRecord f i
   unfolding unnamed-event

@@ -8,7 +8,7 @@ use mathlib.Core.Logic.{_≢_}
 use lib.Dec.{T}
 use lib.ListN.{length, getD, take}
 use Rattle.flow.specs.Nodes.{Kid}
-use Rattle.flow.specs.Kinds.{kids, is-event, is-standard, of-standard, kind, one-of, two-of, shape}
+use Rattle.flow.specs.Kinds.{form, is-standard, node, one-of, two-of, shape}
 use Rattle.flow.specs.Records.{most-events, is-closing-number}
 use Rattle.flow.specs.Refusals.{count, has-two}
 
@@ -17,13 +17,13 @@ use Rattle.flow.specs.Refusals.{count, has-two}
 module _ (ns : List ℕ) (i : ℕ) where
   -- 5: "event out of 1 to 256, or an unused field not 0"
   pub data WrongField : Type 0 where
-    event-out : T (is-event (kind ns i)) → (1 ≤ one-of ns i → one-of ns i ≤ most-events → ⊥) → WrongField
-    first-unused : (T (is-event (kind ns i)) → ⊥) → kids (kind ns i) ≡ 0 → one-of ns i ≢ 0 → WrongField
-    second-unused : kids (kind ns i) ≢ 2 → two-of ns i ≢ 0 → WrongField
+    event-out : T (form (node ns i) .event) → (1 ≤ one-of ns i → one-of ns i ≤ most-events → ⊥) → WrongField
+    first-unused : (T (form (node ns i) .event) → ⊥) → form (node ns i) .kids ≡ 0 → one-of ns i ≢ 0 → WrongField
+    second-unused : form (node ns i) .kids ≢ 2 → two-of ns i ≢ 0 → WrongField
 
   -- 7: "child of the wrong sort"
   pub data WrongSort : Type 0 where
-    wrong-child : {c : ℕ} → Kid (shape ns) i c → is-standard (kind ns c) ≢ of-standard (kind ns i) → WrongSort
+    wrong-child : {c : ℕ} → Kid (shape ns) i c → is-standard (node ns c) ≢ form (node ns i) .inner → WrongSort
 
   -- 8: "child taken already, or the same child twice"
   pub data ChildTaken : Type 0 where

@@ -14,7 +14,7 @@ use Rattle.calculus.specs.Members.{or-in-left, or-in-right, or-cases, and-in, a
 use Rattle.flow.specs.declared.Check.{Check}
 use Rattle.flow.specs.declared.Check.the-variants.{Fine, Refused}
 use Rattle.flow.specs.Nodes.{Kid, kid1, kid2}
-use Rattle.flow.specs.Kinds.{kids, is-event, is-standard, of-standard, kind, one-of, two-of, shape}
+use Rattle.flow.specs.Kinds.{form, is-standard, node, one-of, two-of, shape}
 use Rattle.flow.specs.Records.{most-events, is-event-number, is-closing-number}
 use Rattle.flow.specs.Refusals.{count, has-one, has-two, wrong-field, taken, wrong-sort, child-taken, nobodys-child, closings-wanted, closed, wrong-closings, after-closings, refused, closings-check}
 use Rattle.flow.specs.Tests.{is-true}
@@ -68,13 +68,13 @@ module _ (ns : List ℕ) (i : ℕ) where
       (leb-true 1 r (is-true (leb 1 r) (p .0)), leb-true r most-events (is-true (leb r most-events) (p .1)))
 
   abbrev event : Bool
-  event = is-event (kind ns i)
+  event = form (node ns i) .event
 
   abbrev no-event : Bool
   no-event = event && not (is-event-number (one-of ns i))
 
   abbrev leaf-field : Bool
-  leaf-field = not event && (eqb (kids (kind ns i)) 0 && not (eqb (one-of ns i) 0))
+  leaf-field = not event && (eqb (form (node ns i) .kids) 0 && not (eqb (one-of ns i) 0))
 
   abbrev second-field : Bool
   second-field = not (has-two ns i) && not (eqb (two-of ns i) 0)
@@ -86,12 +86,12 @@ module _ (ns : List ℕ) (i : ℕ) where
     where
       to-rest : T leaf-field ⊎ T second-field → WrongField ns i
       to-rest (inl t) =
-          let p = and-split (not event) (eqb (kids (kind ns i)) 0 && not (eqb (one-of ns i) 0)) t in
-          let q = and-split (eqb (kids (kind ns i)) 0) (not (eqb (one-of ns i) 0)) (p .1) in
-          first-unused (T-not event (p .0)) (eqb→eq (kids (kind ns i)) 0 (q .0)) (differ-of (one-of ns i) 0 (q .1))
+          let p = and-split (not event) (eqb (form (node ns i) .kids) 0 && not (eqb (one-of ns i) 0)) t in
+          let q = and-split (eqb (form (node ns i) .kids) 0) (not (eqb (one-of ns i) 0)) (p .1) in
+          first-unused (T-not event (p .0)) (eqb→eq (form (node ns i) .kids) 0 (q .0)) (differ-of (one-of ns i) 0 (q .1))
       to-rest (inr t) =
           let p = and-split (not (has-two ns i)) (not (eqb (two-of ns i) 0)) t in
-          second-unused (differ-of (kids (kind ns i)) 2 (p .0)) (differ-of (two-of ns i) 0 (p .1))
+          second-unused (differ-of (form (node ns i) .kids) 2 (p .0)) (differ-of (two-of ns i) 0 (p .1))
 
       to : T no-event ⊎ T (leaf-field || second-field) → WrongField ns i
       to (inl t) =
@@ -107,12 +107,12 @@ module _ (ns : List ℕ) (i : ℕ) where
       of (first-unused n e d) =
           or-in-right no-event (leaf-field || second-field)
           (or-in-left leaf-field second-field
-          (and-in (not event) (eqb (kids (kind ns i)) 0 && not (eqb (one-of ns i) 0)) (not-in event n)
-          (and-in (eqb (kids (kind ns i)) 0) (not (eqb (one-of ns i) 0)) (same-in e) (differ-in (one-of ns i) 0 d))))
+          (and-in (not event) (eqb (form (node ns i) .kids) 0 && not (eqb (one-of ns i) 0)) (not-in event n)
+          (and-in (eqb (form (node ns i) .kids) 0) (not (eqb (one-of ns i) 0)) (same-in e) (differ-in (one-of ns i) 0 d))))
       of (second-unused n d) =
           or-in-right no-event (leaf-field || second-field)
           (or-in-right leaf-field second-field
-          (and-in (not (has-two ns i)) (not (eqb (two-of ns i) 0)) (differ-in (kids (kind ns i)) 2 n) (differ-in (two-of ns i) 0 d)))
+          (and-in (not (has-two ns i)) (not (eqb (two-of ns i) 0)) (differ-in (form (node ns i) .kids) 2 n) (differ-in (two-of ns i) 0 d)))
 
   -- a test that is made of each child
   module _ (test : ℕ → Bool) where
@@ -135,7 +135,7 @@ module _ (ns : List ℕ) (i : ℕ) where
         (and-in (has-two ns i) (test (two-of ns i)) h (subst (λ (x : ℕ). T (test x)) e t))
 
   abbrev wrong : ℕ → Bool
-  wrong c = xor (is-standard (kind ns c)) (of-standard (kind ns i))
+  wrong c = xor (is-standard (node ns c)) (form (node ns i) .inner)
 
   -- 7
   pub wrong-sort-means : T (wrong-sort ns i) ↔ WrongSort ns i
@@ -145,10 +145,10 @@ module _ (ns : List ℕ) (i : ℕ) where
       to : T (of-a-child wrong) → WrongSort ns i
       to t =
           let p = child-of wrong t in
-          wrong-child (p .1) (apart-of (is-standard (kind ns (p .0))) (of-standard (kind ns i)) (p .2))
+          wrong-child (p .1) (apart-of (is-standard (node ns (p .0))) (form (node ns i) .inner) (p .2))
 
       of : WrongSort ns i → T (of-a-child wrong)
-      of (wrong-child {c} k n) = child-in wrong c k (apart-in (is-standard (kind ns c)) (of-standard (kind ns i)) n)
+      of (wrong-child {c} k n) = child-in wrong c k (apart-in (is-standard (node ns c)) (form (node ns i) .inner) n)
 
   abbrev twice : Bool
   twice = has-two ns i && eqb (one-of ns i) (two-of ns i)

@@ -8,10 +8,10 @@ use mathlib.Core.List.{List, [], _∷_, _++_}
 use mathlib.Core.Path.{_≡_, refl, ap, _∙_}
 use lib.ListN.{length, drop, replicate}
 use Rattle.calculus.specs.Search as search
-use Rattle.flow.specs.Nodes.{fold}
+use Rattle.flow.specs.Nodes.{descend}
 use Rattle.flow.specs.Records.{record-of, is-event-number, is-closing-number}
 use Rattle.flow.specs.Refusals.{no-nodes, not-whole, too-many-nodes, unknown-kind, wrong-field, not-lower, is-child, taken, wrong-sort, child-taken, nobodys-child, no-records, too-many-records, no-record, closings-wanted, closed, wrong-closings, after-closings, or-else-check, answer, first, each, node-grounds, child-grounds, nodes-grounds, table-grounds, value-grounds, values-grounds, closing-grounds, records-grounds}
-use Rattle.flow.specs.Draws.{part, drawn, flow-of}
+use Rattle.flow.specs.Draws.{made, drawn, flow-of}
 use Rattle.flowfile.specs.Format.{encode}
 use Rattle.flowfile.specs.Plan.{_>>=_, run}
 use Rattle.flowfile.specs.Reading.{number, name, entry, same, same-entry, met, new-entry, entries, name-count, names, some-count, numbers, layout, Outcome, refused, checked, laid, reading}
@@ -30,7 +30,7 @@ use Rattle.program.specs.Program.{states-allowed, work-lent, answered, answer-o
 -- a program that only refuses, or has one verdict, fails at the worked file; one that judges whatever it gets at a file of no bytes
 
 worked-judged : judged (worked .nodes) (worked .records) work-lent states-allowed ≡ Accepted (record { place = 3; count = 4 })
-unfolding judged unless-refused answer-of judge-check judge-grounds room-grounds too-short room-wanted search.judge flow-of drawn part fold first answer or-else-check each no-nodes not-whole too-many-nodes unknown-kind wrong-field not-lower is-child taken wrong-sort child-taken nobodys-child no-records too-many-records no-record closings-wanted closed wrong-closings after-closings node-grounds child-grounds nodes-grounds table-grounds value-grounds values-grounds closing-grounds records-grounds record-of is-event-number is-closing-number xor
+unfolding judged unless-refused answer-of judge-check judge-grounds room-grounds too-short room-wanted search.judge flow-of drawn made descend first answer or-else-check each no-nodes not-whole too-many-nodes unknown-kind wrong-field not-lower is-child taken wrong-sort child-taken nobodys-child no-records too-many-records no-record closings-wanted closed wrong-closings after-closings node-grounds child-grounds nodes-grounds table-grounds value-grounds values-grounds closing-grounds records-grounds record-of is-event-number is-closing-number xor
 worked-judged = refl
 
 worked-is : answer-of-file (encode worked) ≡ Accepted (record { place = 3; count = 4 })

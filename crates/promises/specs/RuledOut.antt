@@ -8,10 +8,10 @@ use lib.ListN.{replicate}
 use Rattle.calculus.specs.Search as search
 use Rattle.flow.specs.declared.Check.{Check}
 use Rattle.flow.specs.declared.Check.the-variants.{Fine}
-use Rattle.flow.specs.Nodes.{fold}
+use Rattle.flow.specs.Nodes.{descend}
 use Rattle.flow.specs.Records.{record-of, is-event-number, is-closing-number}
 use Rattle.flow.specs.Refusals.{refused, first, answer, or-else-check, each, no-nodes, not-whole, too-many-nodes, unknown-kind, wrong-field, not-lower, is-child, taken, wrong-sort, child-taken, nobodys-child, no-records, too-many-records, no-record, closings-wanted, closed, wrong-closings, after-closings, node-grounds, child-grounds, value-grounds, nodes-grounds, table-grounds, values-grounds, closing-grounds, records-grounds, nodes-check, table-check, values-check, closings-check, records-check}
-use Rattle.flow.specs.Draws.{part, drawn, flow-of}
+use Rattle.flow.specs.Draws.{made, drawn, flow-of}
 use Rattle.judge.specs.Judged.{VerdictWord, Told, told, verdict, refusal, room-wanted, too-short, judge-check, answer-of, unless-refused, judged, cleared, work-after}
 
 ---- The judge ----
@@ -68,7 +68,7 @@ abbrev told-of : Line → Told
 told-of l = told (judged (l .nodes) (l .batch) (l .room) (l .allowance))
 
 pub lines-told : map told-of lines ≡ map (λ l. l .answer) lines
-unfolding lines told judged unless-refused answer-of judge-check too-short room-wanted search.judge flow-of drawn part fold first answer or-else-check each no-nodes not-whole too-many-nodes unknown-kind wrong-field not-lower is-child taken wrong-sort child-taken nobodys-child no-records too-many-records no-record closings-wanted closed wrong-closings after-closings node-grounds child-grounds value-grounds record-of is-event-number is-closing-number xor
+unfolding lines told judged unless-refused answer-of judge-check too-short room-wanted search.judge flow-of drawn made descend first answer or-else-check each no-nodes not-whole too-many-nodes unknown-kind wrong-field not-lower is-child taken wrong-sort child-taken nobodys-child no-records too-many-records no-record closings-wanted closed wrong-closings after-closings node-grounds child-grounds value-grounds record-of is-event-number is-closing-number xor
 lines-told = refl
 
 -- A judge that touches nothing, or clears too little, leaves bytes that are not zero: of 50 bytes lent the first 48 are cleared.

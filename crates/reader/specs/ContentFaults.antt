@@ -2,10 +2,11 @@
 -- place, and nothing that is looked at before does. Definitions only: promises/specs/ContentRefusals proves that the first of the
 -- grounds that holds is exactly this. Assumes nothing.
 use Prim.Native.Nat.{ℕ, _*_, _-_, _≤_, _<_}
+use mathlib.Core.Bool.{true}
 use mathlib.Core.Path.{_≡_}
 use lib.Dec.{T}
 use lib.ListN.{length, getD}
-use Rattle.flow.specs.Kinds.{one-of}
+use Rattle.flow.specs.Kinds.{form, node, one-of}
 use Rattle.flow.specs.Refusals.{each, count, node-grounds, nodes-grounds, values-grounds, closing-grounds, nobodys-child, no-record, wrong-closings, after-closings, closings-wanted}
 use Rattle.flow.specs.FirstRefusal.{First, None}
 use Rattle.format.specs.Format.{File}
@@ -20,7 +21,7 @@ pub record Lowest (Holds : ℕ → Type 0) (n i : ℕ) : Type 0 where
 module _ (f : File) where
   -- 19: "a node's event above the number of names": node i is an event leaf, and has no name
   pub record Unnamed (i : ℕ) : Type 0 where
-    pub leaf : getD (f .nodes) (3 * i) 0 ≡ 1
+    pub leaf : form (node (f .nodes) i) .event ≡ true
     pub above : length (f .names) < one-of (f .nodes) i
 
   -- "and 20, a record's": record i is an event, and has no name
