@@ -15,7 +15,7 @@ use Rattle.flow.specs.declared.Check.the-variants as check
 use Rattle.flow.specs.Tests.{is-true, both-true}
 use Rattle.flow.specs.Kinds.{form, node, one-of}
 use Rattle.flow.specs.Refusals.{Ground, ground, each, count, node-grounds, child-grounds, nodes-grounds, value-grounds, values-grounds, closing-grounds, nobodys-child, no-record, after-closings, closings-wanted}
-use Rattle.flow.specs.FirstRefusal.{First, here, later, None, none, more, refused-exactly, none-append}
+use Rattle.flow.specs.FirstRefusal.{First, here, later, None, none, more, refused-exactly, none-append, none-both}
 use Rattle.format.specs.Format.{File, encode}
 use Rattle.format.specs.Plan.{run}
 use Rattle.format.specs.Sections.{layout}
@@ -25,30 +25,11 @@ use Rattle.format.specs.Items.{refusal-of}
 use Rattle.reader.specs.declared.Reading.the-variants.{Refused}
 use Rattle.reader.specs.Reading.{reported, Outcome, checked, reading}
 use Rattle.reader.specs.ReaderLaws.{reading-laid, laid-checked, read-not-refused}
+use Rattle.promises.specs.ExactlyWhen.{first-left, first-right, first-split}
 use Rattle.promises.specs.FileStands.{stands-all}
 use Rattle.promises.specs.FileExact.{layout-reads}
 use Rattle.promises.specs.Reader.{refused-report, report-refused}
 use Rattle.reader.specs.ContentFaults.{Lowest, Unnamed, UnnamedRecord, NodesFine, ValuesFine, ClosingsFine, ContentFault, fault-4-to-8, fault-9, fault-12, fault-13, fault-19, fault-20}
-
----- Lists of grounds one after the other ----
-
-module _ {r : Refusal} where
-  first-left : {gs : List Ground} (hs : List Ground) → First r gs → First r (gs ++ hs)
-  first-left hs (here e t) = here e t
-  first-left hs (later t f) = later t (first-left hs f)
-
-  first-right : {gs hs : List Ground} → None gs → First r hs → First r (gs ++ hs)
-  first-right none f = f
-  first-right (more t n) f = later t (first-right n f)
-
-  first-split : (gs hs : List Ground) → First r (gs ++ hs) → First r gs ⊎ (None gs × First r hs)
-  first-split [] hs f = inr (none, f)
-  first-split (g ∷ gs) hs (here e t) = inl (here e t)
-  first-split (g ∷ gs) hs (later t f) = ⊎-elim (λ a. inl (later t a)) (λ b. inr (more t (b .0), b .1)) (first-split gs hs f)
-
-none-join : {gs hs : List Ground} → None gs → None hs → None (gs ++ hs)
-none-join none m = m
-none-join (more t n) m = more t (none-join n m)
 
 ---- Grounds at each place ----
 
@@ -76,7 +57,7 @@ module _ {r : Refusal} (g : ℕ → List Ground) where
             spot = t .spot;
             is = omega (arith, t .is);
             inside = omega (arith, t .inside);
-            lower = none-join (b .0) (t .lower);
+            lower = none-both (b .0) (t .lower);
             first-there = t .first-there;
           }
 

@@ -23,15 +23,15 @@ none-all f i (suc k) n = none-both (n i (omega arith) (omega arith)) (none-all f
 
 -- the first ground that holds stands in the one part or in the other
 module _ {r : Refusal} where
-  first-left : {gs : List Ground} (hs : List Ground) → First r gs → First r (gs ++ hs)
+  pub first-left : {gs : List Ground} (hs : List Ground) → First r gs → First r (gs ++ hs)
   first-left hs (here e t) = here e t
   first-left hs (later t f) = later t (first-left hs f)
 
-  first-right : {gs hs : List Ground} → None gs → First r hs → First r (gs ++ hs)
+  pub first-right : {gs hs : List Ground} → None gs → First r hs → First r (gs ++ hs)
   first-right none f = f
   first-right (more t n) f = later t (first-right n f)
 
-  first-split : (gs hs : List Ground) → First r (gs ++ hs) → First r gs ⊎ (None gs × First r hs)
+  pub first-split : (gs hs : List Ground) → First r (gs ++ hs) → First r gs ⊎ (None gs × First r hs)
   first-split [] hs f = inr (none, f)
   first-split (g ∷ gs) hs (here e t) = inl (here e t)
   first-split (g ∷ gs) hs (later t f) = by (first-split gs hs f)

@@ -20,28 +20,29 @@ use Rattle.flow.specs.Records.{records}
 use Rattle.flow.specs.Refusals.{Ground, count, no-nodes, not-whole, too-many-nodes, no-records, too-many-records, nodes-grounds, table-grounds, values-grounds, closing-grounds, records-grounds, table-check, records-check}
 use Rattle.flow.specs.FirstRefusal.{None, more, fine-exactly, none-append}
 use Rattle.flow.specs.Draws.{flow-of}
-use Rattle.flowfile.specs.declared.Reading.{Reading}
-use Rattle.flowfile.specs.declared.Reading.the-variants as read
-use Rattle.flowfile.specs.Format.{File}
-use Rattle.flowfile.specs.Limits.{Within, Bytes}
-use Rattle.flowfile.specs.Reading.{leaves-grounds, events-grounds, grounds-of, content-grounds, Outcome, reading}
-use Rattle.flowfile.specs.Items.{refusal-of}
-use Rattle.flowfile.specs.Faults.{Refuses}
-use Rattle.flowfile.specs.ReaderLaws.{read-not-refused}
-use Rattle.flowfile.specs.Reader.{Readable, readable-read, read-readable}
-use Rattle.flowfile.specs.Refused.{refused-when}
-use Rattle.judge.specs.Judged.{Word, Told, told, verdict, refusal, room-wanted, judge-check, judged}
-use Rattle.judge.specs.Refused.{passes-exactly}
-use Rattle.judge.specs.Verdicts.{records-decide}
-use Rattle.judge.specs.Demands as demand
+use Rattle.format.specs.Format.{File}
+use Rattle.format.specs.Limits.{WithinLimits, Bytes}
+use Rattle.format.specs.Contents.{leaves-grounds, events-grounds, grounds-of, content-grounds}
+use Rattle.format.specs.Items.{refusal-of}
+use Rattle.reader.specs.declared.Reading.{Reading}
+use Rattle.reader.specs.declared.Reading.the-variants as read
+use Rattle.reader.specs.Reading.{reported, Outcome, reading}
+use Rattle.reader.specs.Faults.{Refuses}
+use Rattle.reader.specs.ReaderLaws.{read-not-refused}
+use Rattle.judge.specs.Judged.{VerdictWord, Told, told, verdict, refusal, room-wanted, judge-check, judged}
 use Rattle.program.specs.Program.{states-allowed, work-lent, answered, answer-of-file}
+use Rattle.promises.specs.ExactlyWhen.{passes-exactly}
+use Rattle.promises.specs.Verdicts.{records-decide}
+use Rattle.promises.specs.Demands as demand
+use Rattle.promises.specs.Reader.{Readable, readable-read, read-readable, refused-report, report-refused}
+use Rattle.promises.specs.ReaderRefusals.{refused-when}
 
 ---- What the reader lets pass, the judge does ----
 
 fails : {b : Bool} → b ≡ false → T (not b)
 fails e = subst (λ (x : Bool). T (not x)) (sym e) tt
 
-module _ (f : File) (within : Within f) (fine : None (content-grounds f)) where
+module _ (f : File) (within : WithinLimits f) (fine : None (content-grounds f)) where
   abbrev ns : List ℕ
   ns = f .nodes
 
@@ -66,38 +67,38 @@ module _ (f : File) (within : Within f) (fine : None (content-grounds f)) where
   -- 1, 2 and 3, 10 and 11: what the two counts of the file say
   not-none : no-nodes ns ≡ false
   unfolding no-nodes
-  not-none = ne-eqb (length ns) 0 (λ e. omega (arith, within .whole-nodes, within .some-nodes))
+  not-none = ne-eqb (length ns) 0 (λ e. omega (arith, within .nodes .whole, within .nodes .counted .low))
 
   whole : not-whole ns ≡ false
   unfolding not-whole
-  whole = ap not (eq-eqb (length ns % 3) 0 (omega (arith, within .whole-nodes)))
+  whole = ap not (eq-eqb (length ns % 3) 0 (omega (arith, within .nodes .whole)))
 
   not-many : too-many-nodes ns ≡ false
   unfolding too-many-nodes
-  not-many = le-ltb 64 (count ns) (omega (arith, within .whole-nodes, within .few-nodes))
+  not-many = le-ltb 64 (count ns) (omega (arith, within .nodes .whole, within .nodes .counted .high))
 
   not-empty : no-records rs ≡ false
   unfolding no-records
-  not-empty = ne-eqb (length rs) 0 (λ e. omega (arith, within .some-records))
+  not-empty = ne-eqb (length rs) 0 (λ e. omega (arith, within .records .whole, within .records .counted .low))
 
   not-long : too-many-records rs ≡ false
   unfolding too-many-records
-  not-long = le-ltb 256 (length rs) (within .few-records)
+  not-long = le-ltb 256 (length rs) (omega (arith, within .records .whole, within .records .counted .high))
 
   table-fine : table-check ns ≡ Fine
-  unfolding table-check table-grounds
+  unfolding table-check table-grounds nodes-grounds
   table-fine = fine-exactly (table-grounds ns) .1 (more (fails not-none) (more (fails whole) (more (fails not-many) (numbers-pass .0))))
 
   records-fine : records-check ns rs ≡ Fine
-  unfolding records-check records-grounds
+  unfolding records-check records-grounds values-grounds closing-grounds
   records-fine = fine-exactly (records-grounds ns rs) .1 (more (fails not-empty) (more (fails not-long) records-pass))
 
   -- 14: the largest flow wants 2 × 64 × (256 + 1)
   enough : room-wanted ns rs ≤ work-lent
   unfolding room-wanted
   enough =
-      let n : 2 * count ns ≤ 128 = omega (arith, within .whole-nodes, within .few-nodes) in
-      let k : length rs + 1 ≤ 257 = omega (arith, within .few-records) in
+      let n : 2 * count ns ≤ 128 = omega (arith, within .nodes .whole, within .nodes .counted .high) in
+      let k : length rs + 1 ≤ 257 = omega (arith, within .records .whole, within .records .counted .high) in
       mul-le-mul n k
 
   pub contents-judged : judge-check ns rs work-lent ≡ Fine
@@ -111,7 +112,7 @@ module _ (s : List ℕ) (f : File) (readable : Readable s 192 256 f) where
   unfolding answer-of-file answered
   file-judged = ap (λ (o : Outcome). answered (o .answer) (o .nodes) (o .records)) (readable-read s 192 256 f readable)
 
-  judged-so : told (judged (f .nodes) (f .records) work-lent states-allowed) .word ≡ Word.refused → ⊥
+  judged-so : told (judged (f .nodes) (f .records) work-lent states-allowed) .word ≡ VerdictWord.refused → ⊥
   judged-so =
       demand.judged-when (f .nodes) (f .records) work-lent states-allowed .1
       (passes-exactly (f .nodes) (f .records) work-lent .0 (contents-judged f (readable .within) (readable .fine)))
@@ -121,8 +122,8 @@ module _ (s : List ℕ) (f : File) (readable : Readable s 192 256 f) where
   moved P = subst P (sym (ap told file-judged))
 
   -- and never refused
-  pub file-passes : told (answer-of-file s) .word ≡ Word.refused → ⊥
-  file-passes = moved (λ (t : Told). t .word ≡ Word.refused → ⊥) judged-so
+  pub file-passes : told (answer-of-file s) .word ≡ VerdictWord.refused → ⊥
+  file-passes = moved (λ (t : Told). t .word ≡ VerdictWord.refused → ⊥) judged-so
 
 ---- Demand 1 for files ----
 -- 01: "It refuses bad input itself, by the numbers and in the order of document 01."
@@ -149,16 +150,17 @@ module _ (s : List ℕ) (bytes : Bytes s) where
 
   -- in the words of the format: a refusal is given exactly when one of its ways holds
   pub file-refused-when : (number place : ℕ) → (told (answer-of-file s) ≡ refusal number place) ↔ Refuses s 192 256 number place
+  unfolding reported
   file-refused-when number place =
       let a = file-refused-exactly number place in
-      let b = refused-when s bytes 192 256 (refusal-of number place) in
-      (λ t. b .0 (a .0 t), λ x. a .1 (b .1 x))
+      let b = refused-when s bytes 192 256 number place in
+      (λ t. b .0 (ap reported (a .0 t)), λ x. a .1 (report-refused s 192 256 number place (b .1 x)))
 
   -- and every other file is one of the format that is read
-  pub file-judged-when : (told (answer-of-file s) .word ≡ Word.refused → ⊥) ↔ ((f : File) × Readable s 192 256 f)
+  pub file-judged-when : (told (answer-of-file s) .word ≡ VerdictWord.refused → ⊥) ↔ ((f : File) × Readable s 192 256 f)
   file-judged-when = (λ n. by (reading s 192 256 .answer) refl n, λ x. file-passes s (x .0) (x .1))
     where
-      by : (a : Reading) → reading s 192 256 .answer ≡ a → (told (answer-of-file s) .word ≡ Word.refused → ⊥) → (f : File) × Readable s 192 256 f
+      by : (a : Reading) → reading s 192 256 .answer ≡ a → (told (answer-of-file s) .word ≡ VerdictWord.refused → ⊥) → (f : File) × Readable s 192 256 f
       by (read.Read c) e n = let w = read-readable s bytes 192 256 c e in (w .0, w .1)
       by (read.Refused r) e n = absurd (n (ap (λ (x : Told). x .word) (refused-told r e)))
 
@@ -184,49 +186,49 @@ module _ (s : List ℕ) (f : File) (readable : Readable s 192 256 f) where
   abbrev judge-answer : Told
   judge-answer = told (judged (f .nodes) (f .records) work-lent states-allowed)
 
-  not-refused : judge-answer .word ≡ Word.refused → ⊥
+  not-refused : judge-answer .word ≡ VerdictWord.refused → ⊥
   not-refused = judged-so s f readable
 
   moves : (P : Told → Type 0) → P judge-answer → P answer
   moves = moved s f readable
 
   -- "allows 1,000,000 states"
-  pub file-undecided-exactly : (answer .word ≡ Word.undecided) ↔ (states-allowed < entered)
+  pub file-undecided-exactly : (answer .word ≡ VerdictWord.undecided) ↔ (states-allowed < entered)
   file-undecided-exactly =
-      moves (λ (t : Told). (t .word ≡ Word.undecided) ↔ (states-allowed < entered))
+      moves (λ (t : Told). (t .word ≡ VerdictWord.undecided) ↔ (states-allowed < entered))
       (demand.undecided-exactly (f .nodes) (f .records) work-lent states-allowed not-refused)
 
-  pub file-undecided-is : answer .word ≡ Word.undecided → answer ≡ verdict Word.undecided 0 states-allowed
+  pub file-undecided-is : answer .word ≡ VerdictWord.undecided → answer ≡ verdict VerdictWord.undecided 0 states-allowed
   file-undecided-is =
-      moves (λ (t : Told). t .word ≡ Word.undecided → t ≡ verdict Word.undecided 0 states-allowed)
+      moves (λ (t : Told). t .word ≡ VerdictWord.undecided → t ≡ verdict VerdictWord.undecided 0 states-allowed)
       (demand.undecided-is (f .nodes) (f .records) work-lent states-allowed not-refused)
 
   module _ (few : entered ≤ states-allowed) where
-    decided : judge-answer .word ≡ Word.undecided → ⊥
+    decided : judge-answer .word ≡ VerdictWord.undecided → ⊥
     decided e = omega (arith, demand.undecided-exactly (f .nodes) (f .records) work-lent states-allowed not-refused .0 e)
 
     -- "accepted exactly if its records are a complete run"
-    pub file-accepted-exactly : (answer .word ≡ Word.accepted) ↔ Complete flow batch
+    pub file-accepted-exactly : (answer .word ≡ VerdictWord.accepted) ↔ Complete flow batch
     file-accepted-exactly =
-        moves (λ (t : Told). (t .word ≡ Word.accepted) ↔ Complete flow batch)
+        moves (λ (t : Told). (t .word ≡ VerdictWord.accepted) ↔ Complete flow batch)
         (demand.accepted-exactly (f .nodes) (f .records) work-lent states-allowed not-refused decided)
 
     -- "and equally if they are one of its traces"
-    pub file-accepted-traces : (answer .word ≡ Word.accepted) ↔ InTraces flow batch
+    pub file-accepted-traces : (answer .word ≡ VerdictWord.accepted) ↔ InTraces flow batch
     file-accepted-traces =
-        moves (λ (t : Told). (t .word ≡ Word.accepted) ↔ InTraces flow batch)
+        moves (λ (t : Told). (t .word ≡ VerdictWord.accepted) ↔ InTraces flow batch)
         (demand.accepted-traces (f .nodes) (f .records) work-lent states-allowed not-refused decided)
 
     -- "Else it is rejected."
-    pub file-else-rejected : (Complete flow batch → ⊥) → answer .word ≡ Word.rejected
+    pub file-else-rejected : (Complete flow batch → ⊥) → answer .word ≡ VerdictWord.rejected
     file-else-rejected n =
-        moves (λ (t : Told). t .word ≡ Word.rejected)
+        moves (λ (t : Told). t .word ≡ VerdictWord.rejected)
         (demand.else-rejected (f .nodes) (f .records) work-lent states-allowed not-refused decided n)
 
   -- "accepted: place = number of records; count"
-  pub file-accepted-is : answer .word ≡ Word.accepted → answer ≡ verdict Word.accepted (length (f .records)) entered
+  pub file-accepted-is : answer .word ≡ VerdictWord.accepted → answer ≡ verdict VerdictWord.accepted (length (f .records)) entered
   file-accepted-is =
-      moves (λ (t : Told). t .word ≡ Word.accepted → t ≡ verdict Word.accepted (length (f .records)) entered)
+      moves (λ (t : Told). t .word ≡ VerdictWord.accepted → t ≡ verdict VerdictWord.accepted (length (f .records)) entered)
       (demand.accepted-is (f .nodes) (f .records) work-lent states-allowed not-refused)
 
   -- "the longest beginning of the records, in records, that some run follows"
@@ -234,7 +236,7 @@ module _ (s : List ℕ) (f : File) (readable : Readable s 192 256 f) where
   Longest place = Follows flow batch place × ((n : ℕ) → Follows flow batch n → n ≤ place)
 
   -- "rejected: place = the longest beginning ..; count"
-  pub file-rejected-is : answer .word ≡ Word.rejected → Longest (answer .place) × (answer .count ≡ entered)
+  pub file-rejected-is : answer .word ≡ VerdictWord.rejected → Longest (answer .place) × (answer .count ≡ entered)
   file-rejected-is =
-      moves (λ (t : Told). t .word ≡ Word.rejected → Longest (t .place) × (t .count ≡ entered))
+      moves (λ (t : Told). t .word ≡ VerdictWord.rejected → Longest (t .place) × (t .count ≡ entered))
       (λ e. let q = demand.rejected-is (f .nodes) (f .records) work-lent states-allowed not-refused e in ((q .follows, q .longest), q .counted))

@@ -1,7 +1,8 @@
 -- One outcome for every input. 01, "How tight the contracts are": "For each public function and every input, refused ones too, the
 -- contract leaves one possible outcome: the result and each lent byte. That uniqueness is itself a proved fact."
 -- An outcome is the answer with all that was lent to be written, as it is after the call. Here: the general lemma, and the entry points
--- of `line` and `program`. `judge` and the reader have theirs beside their promises: `judge-unique` (Demands), `read-once` (Reader).
+-- of `line` and `program`. The others have theirs beside their promises: `judge-unique` (Demands), `read-once` and `scan-names-once`
+-- (Reader).
 -- Theorems only. Assumes nothing.
 use Prim.Native.Nat.{ℕ, _+_}
 use mathlib.Core.List.{List, _++_}

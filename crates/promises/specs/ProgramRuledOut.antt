@@ -10,42 +10,44 @@ use lib.ListN.{length, drop, replicate}
 use Rattle.calculus.specs.Search as search
 use Rattle.flow.specs.Nodes.{descend}
 use Rattle.flow.specs.Records.{record-of, is-event-number, is-closing-number}
-use Rattle.flow.specs.Refusals.{no-nodes, not-whole, too-many-nodes, unknown-kind, wrong-field, not-lower, is-child, taken, wrong-sort, child-taken, nobodys-child, no-records, too-many-records, no-record, closings-wanted, closed, wrong-closings, after-closings, or-else-check, answer, first, each, node-grounds, child-grounds, nodes-grounds, table-grounds, value-grounds, values-grounds, closing-grounds, records-grounds}
+use Rattle.flow.specs.Refusals.{no-nodes, not-whole, too-many-nodes, unknown-kind, wrong-field, not-lower, is-child, taken, wrong-sort, child-taken, nobodys-child, no-records, too-many-records, no-record, closings-wanted, closed, wrong-closings, after-closings, or-else-check, answer, first, each, node-grounds, child-grounds, value-grounds}
 use Rattle.flow.specs.Draws.{made, drawn, flow-of}
-use Rattle.flowfile.specs.Format.{encode}
-use Rattle.flowfile.specs.Plan.{_>>=_, run}
-use Rattle.flowfile.specs.Reading.{number, name, entry, same, same-entry, met, new-entry, entries, name-count, names, some-count, numbers, layout, Outcome, refused, checked, laid, reading}
-use Rattle.flowfile.specs.Items.{refusal-of}
-use Rattle.flowfile.specs.Worked.{worked, worked-read}
+use Rattle.format.specs.Format.{encode}
+use Rattle.format.specs.Plan.{_>>=_, run}
+use Rattle.format.specs.Sections.{byte, number, ranged, name, entry, same-bytes, same-entry, met, new-entry, entries, names, numbers, section, layout}
+use Rattle.format.specs.Items.{refusal-of}
+use Rattle.reader.specs.Reading.{Outcome, refused-outcome, checked, laid, reading}
 use Rattle.judge.specs.declared.Answer.{Answer}
 use Rattle.judge.specs.declared.Answer.the-variants.{Accepted, Rejected, Refused}
-use Rattle.judge.specs.Judged.{Word, told, verdict, refusal, room-wanted, too-short, room-grounds, judge-grounds, judge-check, answer-of, unless-refused, judged}
+use Rattle.judge.specs.Judged.{told, verdict, refusal, room-wanted, too-short, judge-check, answer-of, unless-refused, judged}
+use Rattle.judge.specs.Judged as judge
 use Rattle.line.specs.declared.VerdictWord.{VerdictWord}
 use Rattle.line.specs.declared.VerdictWord.the-variants as word
 use Rattle.line.specs.declared.Line.{Line}
 use Rattle.line.specs.Line.{places, size, decimal, spaced, spelled, text-of, line-of, Put, LineWritten}
 use Rattle.program.specs.Program.{states-allowed, work-lent, answered, answer-of-file, line-for, printed, FileAnswered, AnswerTold, FilePrinted}
+use Rattle.promises.specs.Worked.{worked, worked-read}
 
 ---- The answer to a file ----
 -- a program that only refuses, or has one verdict, fails at the worked file; one that judges whatever it gets at a file of no bytes
 
 worked-judged : judged (worked .nodes) (worked .records) work-lent states-allowed ≡ Accepted (record { place = 3; count = 4 })
-unfolding judged unless-refused answer-of judge-check judge-grounds room-grounds too-short room-wanted search.judge flow-of drawn made descend first answer or-else-check each no-nodes not-whole too-many-nodes unknown-kind wrong-field not-lower is-child taken wrong-sort child-taken nobodys-child no-records too-many-records no-record closings-wanted closed wrong-closings after-closings node-grounds child-grounds nodes-grounds table-grounds value-grounds values-grounds closing-grounds records-grounds record-of is-event-number is-closing-number xor
+unfolding judged unless-refused answer-of judge-check too-short room-wanted search.judge flow-of drawn made descend first answer or-else-check each no-nodes not-whole too-many-nodes unknown-kind wrong-field not-lower is-child taken wrong-sort child-taken nobodys-child no-records too-many-records no-record closings-wanted closed wrong-closings after-closings node-grounds child-grounds value-grounds record-of is-event-number is-closing-number xor
 worked-judged = refl
 
 worked-is : answer-of-file (encode worked) ≡ Accepted (record { place = 3; count = 4 })
 unfolding answer-of-file answered
 worked-is = ap (λ (o : Outcome). answered (o .answer) (o .nodes) (o .records)) worked-read ∙ worked-judged
 
-empty-read : reading [] 192 256 ≡ refused (refusal-of 15 0)
-unfolding run _>>=_ number name entry same same-entry met new-entry entries name-count names some-count numbers layout checked laid reading
+empty-read : reading [] 192 256 ≡ refused-outcome (refusal-of 15 0)
+unfolding run _>>=_ byte number ranged name entry same-bytes same-entry met new-entry entries names numbers section layout checked laid reading
 empty-read = refl
 
 empty-is : answer-of-file [] ≡ Refused (refusal-of 15 0)
 unfolding answer-of-file answered
 empty-is = ap (λ (o : Outcome). answered (o .answer) (o .nodes) (o .records)) empty-read
 
-pub worked-answered : (r : Answer) → FileAnswered (encode worked) r → told r ≡ verdict Word.accepted 3 4
+pub worked-answered : (r : Answer) → FileAnswered (encode worked) r → told r ≡ verdict judge.VerdictWord.accepted 3 4
 unfolding told
 worked-answered r e = ap told (e ∙ worked-is)
 
@@ -63,9 +65,9 @@ pub rejection-told : (r : Line) → AnswerTold (Rejected (record { place = 2; co
 unfolding line-for told
 rejection-told r e = e
 
-pub refusal-told : (r : Line) → AnswerTold (Refused (record { number = 15; place = 8 })) r → r ≡ line word.Refused 15 8 0
+pub refusal-line : (r : Line) → AnswerTold (Refused (record { number = 15; place = 8 })) r → r ≡ line word.Refused 15 8 0
 unfolding line-for told
-refusal-told r e = e
+refusal-line r e = e
 
 ---- What is written ----
 
