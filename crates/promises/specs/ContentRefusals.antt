@@ -1,13 +1,13 @@
 -- The refusals of a file's numbers are given exactly as ContentFaults says: the first of the grounds that holds, taken apart by the
 -- order in which they are listed. Assumes nothing.
-use Prim.Native.Nat.{ℕ, zero, suc, _+_, _*_, _-_, _≤_, _<_}
+use Prim.Native.Nat.{ℕ, _-_, _≤_, _<_}
 use mathlib.Core.Bool.{Bool, true, false, not, _&&_}
 use mathlib.Core.List.{List, [], _∷_, _++_}
-use mathlib.Core.Logic.{_⊎_, inl, inr, ⊎-elim, _↔_}
+use mathlib.Core.Logic.{_⊎_, inl, inr, _↔_}
 use mathlib.Core.Path.{_≡_, refl, ap, sym, _∙_, subst}
 use native.Mathlib.Omega.{arith}
-use borrow.Author.Tests.{eq-eqb, eqb-true, lt-ltb, ltb-true, le-leb, leb-true}
-use lib.Dec.{T, T-not, eqb, ltb, leb}
+use borrow.Author.Tests.{lt-ltb, ltb-true, le-leb, leb-true}
+use lib.Dec.{T, T-not, ltb, leb}
 use lib.ListN.{length, getD}
 use Rattle.flow.specs.declared.Refusal.{Refusal}
 use Rattle.flow.specs.declared.Check.{Check}
@@ -15,7 +15,7 @@ use Rattle.flow.specs.declared.Check.the-variants as check
 use Rattle.flow.specs.Tests.{is-true, both-true}
 use Rattle.flow.specs.Kinds.{form, node, one-of}
 use Rattle.flow.specs.Refusals.{Ground, ground, each, count, node-grounds, child-grounds, nodes-grounds, value-grounds, values-grounds, closing-grounds, nobodys-child, no-record, after-closings, closings-wanted}
-use Rattle.flow.specs.FirstRefusal.{First, here, later, None, none, more, refused-exactly, none-append, none-both}
+use Rattle.flow.specs.FirstRefusal.{First, here, later, None, none, more, refused-exactly, none-each}
 use Rattle.format.specs.Format.{File, encode}
 use Rattle.format.specs.Plan.{run}
 use Rattle.format.specs.Sections.{layout}
@@ -25,49 +25,11 @@ use Rattle.format.specs.Items.{refusal-of}
 use Rattle.reader.specs.declared.Reading.the-variants.{Refused}
 use Rattle.reader.specs.Reading.{reported, Outcome, checked, reading}
 use Rattle.reader.specs.ReaderLaws.{reading-laid, laid-checked, read-not-refused}
-use Rattle.promises.specs.ExactlyWhen.{first-left, first-right, first-split}
+use Rattle.promises.specs.ExactlyWhen.{none-all, first-left, first-right, first-split, FirstAt, each-first-at, first-at-each}
 use Rattle.promises.specs.FileStands.{stands-all}
 use Rattle.promises.specs.FileExact.{layout-reads}
 use Rattle.promises.specs.Reader.{refused-report, report-refused}
 use Rattle.reader.specs.ContentFaults.{Lowest, Unnamed, UnnamedRecord, NodesFine, ValuesFine, ClosingsFine, ContentFault, fault-4-to-8, fault-9, fault-12, fault-13, fault-19, fault-20}
-
----- Grounds at each place ----
-
--- the first refusal of k places from place i: the first at one of them, and none at a lower one
-record FirstAt (r : Refusal) (g : ℕ → List Ground) (i k : ℕ) : Type 0 where
-  at : ℕ
-  spot : ℕ
-  is : spot ≡ i + at
-  inside : at < k
-  lower : None (each g i at)
-  first-there : First r (g spot)
-
-module _ {r : Refusal} (g : ℕ → List Ground) where
-  each-first : (i k : ℕ) → First r (each g i k) → FirstAt r g i k
-  unfolding each
-  each-first i zero f = elim f [ ]
-  each-first i (suc k) f = by (each-first (suc i) k) (first-split (g i) (each g (suc i) k) f)
-    where
-      by : (First r (each g (suc i) k) → FirstAt r g (suc i) k) → First r (g i) ⊎ (None (g i) × First r (each g (suc i) k)) → FirstAt r g i (suc k)
-      by rec (inl a) = record { at = 0; spot = i; is = omega arith; inside = omega arith; lower = none; first-there = a }
-      by rec (inr b) =
-          let t = rec (b .1) in
-          record {
-            at = suc (t .at);
-            spot = t .spot;
-            is = omega (arith, t .is);
-            inside = omega (arith, t .inside);
-            lower = none-both (b .0) (t .lower);
-            first-there = t .first-there;
-          }
-
-  first-each : (i k m spot : ℕ) → spot ≡ i + m → m < k → None (each g i m) → First r (g spot) → First r (each g i k)
-  unfolding each
-  first-each i zero m spot e l n f = absurd (omega arith)
-  first-each i (suc k) zero spot e l n f = let d : spot ≡ i = omega arith in first-left (each g (suc i) k) (subst (λ (j : ℕ). First r (g j)) d f)
-  first-each i (suc k) (suc m) spot e l n f =
-      let b = none-append (g i) (each g (suc i) m) n in
-      first-right (b .0) (first-each (suc i) k m spot (omega arith) (omega arith) (b .1) f)
 
 ---- One ground at each place ----
 
@@ -80,44 +42,33 @@ module _ (number : ℕ) (b : ℕ → Bool) (Holds : ℕ → Type 0) (to : (i : �
   abbrev single : ℕ → List Ground
   single i = ground number i (b i) ∷ []
 
-  lower-none : (i k : ℕ) → ((j : ℕ) → i ≤ j → j < i + k → Holds j → ⊥) → None (each single i k)
-  unfolding each
-  lower-none i zero h = none
-  lower-none i (suc k) h = more (T-of-not (b i) (λ t. h i (omega arith) (omega arith) (to i t))) (lower-none (suc i) k (λ j l m. h j (omega arith) (omega arith)))
+  none-there : (j : ℕ) → None (single j) → Holds j → ⊥
+  none-there j (more t m) h = T-not (b j) t (of j h)
 
-  none-lower : (i k : ℕ) → None (each single i k) → (j : ℕ) → i ≤ j → j < i + k → Holds j → ⊥
-  unfolding each
-  none-lower i zero n j l m h = omega arith
-  none-lower i (suc k) (more t n) j l m h = by (none-lower (suc i) k n j) (le-cases i j l)
-    where
-      le-cases : (a c : ℕ) → a ≤ c → (a ≡ c) ⊎ (suc a ≤ c)
-      le-cases zero zero q = inl refl
-      le-cases zero (suc c) q = inr (omega arith)
-      le-cases (suc a) zero q = absurd (omega arith)
-      le-cases (suc a) (suc c) q = ⊎-elim (λ e. inl (ap suc e)) (λ d. inr (omega arith)) (le-cases a c (omega arith))
+  there-none : (j : ℕ) → (Holds j → ⊥) → None (single j)
+  there-none j n = more (T-of-not (b j) (λ t. n (to j t))) none
 
-      by : (suc i ≤ j → j < suc i + k → Holds j → ⊥) → (i ≡ j) ⊎ (suc i ≤ j) → ⊥
-      by rec (inl e) = T-not (b i) t (of i (subst Holds (sym e) h))
-      by rec (inr q) = rec q (omega arith) h
+  lower-none : (n : ℕ) → ((j : ℕ) → j < n → Holds j → ⊥) → None (each single 0 n)
+  lower-none n h = none-all single 0 n (λ j lo hi. there-none j (h j (omega arith)))
+
+  none-lower : (n : ℕ) → None (each single 0 n) → (j : ℕ) → j < n → Holds j → ⊥
+  none-lower n m j l = none-there j (none-each single 0 n j m (omega arith) (omega arith))
 
   lowest-first : (n i : ℕ) → Lowest Holds n i → First (refusal-of number i) (each single 0 n)
   lowest-first n i l =
-      first-each single 0 n i i (omega arith) (l .inside) (lower-none 0 i (λ j a c. l .none-lower j (omega arith))) (here refl (of i (l .holds)))
+      first-at-each single 0 n i (omega arith) (omega (arith, l .inside)) (λ j lo hi. there-none j (l .none-lower j hi)) (here refl (of i (l .holds)))
 
   first-lowest : (n : ℕ) {k p : ℕ} → First (refusal-of k p) (each single 0 n) → (k ≡ number) × Lowest Holds n p
-  first-lowest n {k} {p} f = by (each-first single 0 n f)
+  first-lowest n {k} {p} f =
+      let x = each-first-at single 0 n f in
+      by (x .at) (omega (arith, x .high)) (λ j l. none-there j (x .before j (omega arith) l)) (x .found)
     where
-      one : (i : ℕ) → None (each single 0 i) → i < n → First (refusal-of k p) (single i) → (k ≡ number) × Lowest Holds n p
-      one i m l (here e t) =
+      by : (i : ℕ) → i < n → ((j : ℕ) → j < i → Holds j → ⊥) → First (refusal-of k p) (single i) → (k ≡ number) × Lowest Holds n p
+      by i l lower (here e t) =
           let ek : k ≡ number = ap (λ (r : Refusal). r .number) e in
           let ep : i ≡ p = sym (ap (λ (r : Refusal). r .place) e) in
-          (ek, subst (Lowest Holds n) ep (record { inside = l; holds = to i t; none-lower = λ j q. none-lower 0 i m j (omega arith) (omega arith) }))
-      one i m l (later t f′) = elim f′ [ ]
-
-      by : FirstAt (refusal-of k p) single 0 n → (k ≡ number) × Lowest Holds n p
-      by x =
-          let e : x .spot ≡ x .at = omega (arith, x .is) in
-          one (x .at) (x .lower) (x .inside) (subst (λ (j : ℕ). First (refusal-of k p) (single j)) e (x .first-there))
+          (ek, subst (Lowest Holds n) ep (record { inside = l; holds = to i t; none-lower = lower }))
+      by i l lower (later t f′) = elim f′ [ ]
 
 ---- What 19 and 20 mean ----
 
@@ -176,7 +127,7 @@ module _ (f : File) where
   -- each fault is the first ground that holds
   pub fault-first : {k p : ℕ} → ContentFault f k p → First (refusal-of k p) (content-grounds f)
   unfolding grounds-of nodes-grounds child-grounds values-grounds value-grounds closing-grounds leaves-grounds events-grounds
-  fault-first (fault-4-to-8 i l n g) = first-left _ (first-left _ (first-each (node-grounds (f .nodes)) 0 (count (f .nodes)) i i (omega arith) l n g))
+  fault-first (fault-4-to-8 i l n g) = first-left _ (first-left _ (first-at-each (node-grounds (f .nodes)) 0 (count (f .nodes)) i (omega arith) (omega arith) (λ j lo hi. none-each (node-grounds (f .nodes)) 0 i j n lo (omega arith)) g))
   fault-first (fault-9 i n l) = first-left _ (first-right n (lowest-first 9 child-holds (λ j. T (child-holds j)) (λ j t. t) (λ j t. t) (count (f .nodes) - 1) i l))
   fault-first (fault-12 i n l) = first-right n (first-left _ (lowest-first 12 value-holds (λ j. T (value-holds j)) (λ j t. t) (λ j t. t) (length (f .records)) i l))
   fault-first (fault-13 n t) =
@@ -187,7 +138,7 @@ module _ (f : File) where
       (lowest-first 19 leaf-holds (Unnamed f) (unnamed-of f) (of-unnamed f) (count (f .nodes)) i l))))
   fault-first (fault-20 i n u l) =
       first-right (n .0 .0) (first-right (n .0 .1) (first-right (n .1) (first-right
-      (lower-none 19 leaf-holds (Unnamed f) (unnamed-of f) (of-unnamed f) 0 (count (f .nodes)) (λ j a c. u j (omega arith)))
+      (lower-none 19 leaf-holds (Unnamed f) (unnamed-of f) (of-unnamed f) (count (f .nodes)) u)
       (lowest-first 20 event-holds (UnnamedRecord f) (unnamed-record-of f) (of-unnamed-record f) (length (f .records)) i l))))
 
   -- and the first ground that holds is one of the faults
@@ -195,17 +146,16 @@ module _ (f : File) where
   unfolding grounds-of nodes-grounds child-grounds values-grounds value-grounds closing-grounds leaves-grounds events-grounds
   first-fault {k} {p} g = by-nodes (first-split (nodes-grounds (f .nodes)) _ g)
     where
-      by-node : FirstAt (refusal-of k p) (node-grounds (f .nodes)) 0 (count (f .nodes)) → ContentFault f k p
+      by-node : FirstAt (node-grounds (f .nodes)) 0 (count (f .nodes)) (refusal-of k p) → ContentFault f k p
       by-node x =
-          let e : x .spot ≡ x .at = omega (arith, x .is) in
-          let h = subst (λ (j : ℕ). First (refusal-of k p) (node-grounds (f .nodes) j)) e (x .first-there) in
-          let d = node-place (f .nodes) (x .at) h in
+          let d = node-place (f .nodes) (x .at) (x .found) in
+          let lower = none-all (node-grounds (f .nodes)) 0 (x .at) (λ j lo hi. x .before j lo (omega arith)) in
           subst (ContentFault f k) (sym d)
-          (fault-4-to-8 (x .at) (x .inside) (x .lower) (subst (λ (m : ℕ). First (refusal-of k m) (node-grounds (f .nodes) (x .at))) d h))
+          (fault-4-to-8 (x .at) (omega (arith, x .high)) lower (subst (λ (m : ℕ). First (refusal-of k m) (node-grounds (f .nodes) (x .at))) d (x .found)))
 
       by-child : First (refusal-of k p) (each (node-grounds (f .nodes)) 0 (count (f .nodes)))
           ⊎ (None (each (node-grounds (f .nodes)) 0 (count (f .nodes))) × First (refusal-of k p) (each (child-grounds (f .nodes)) 0 (count (f .nodes) - 1))) → ContentFault f k p
-      by-child (inl a) = by-node (each-first (node-grounds (f .nodes)) 0 (count (f .nodes)) a)
+      by-child (inl a) = by-node (each-first-at (node-grounds (f .nodes)) 0 (count (f .nodes)) a)
       by-child (inr b) =
           let l = first-lowest 9 child-holds (λ j. T (child-holds j)) (λ j t. t) (λ j t. t) (count (f .nodes) - 1) (b .1) in
           renumber (l .0) (fault-9 p (b .0) (l .1))
@@ -214,7 +164,7 @@ module _ (f : File) where
       by-event n u h =
           let l = first-lowest 20 event-holds (UnnamedRecord f) (unnamed-record-of f) (of-unnamed-record f) (length (f .records)) h in
           renumber (l .0)
-          (fault-20 p n (λ j c. none-lower 19 leaf-holds (Unnamed f) (unnamed-of f) (of-unnamed f) 0 (count (f .nodes)) u j (omega arith) (omega arith)) (l .1))
+          (fault-20 p n (none-lower 19 leaf-holds (Unnamed f) (unnamed-of f) (of-unnamed f) (count (f .nodes)) u) (l .1))
 
       by-leaf : ClosingsFine f → First (refusal-of k p) (leaves-grounds (length (f .names)) (f .nodes))
           ⊎ (None (leaves-grounds (length (f .names)) (f .nodes)) × First (refusal-of k p) (events-grounds (length (f .names)) (f .records))) → ContentFault f k p

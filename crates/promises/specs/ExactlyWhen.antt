@@ -11,12 +11,12 @@ use Rattle.flow.specs.declared.Refusal.{Refusal}
 use Rattle.flow.specs.declared.Check.the-variants.{Fine, Refused}
 use Rattle.flow.specs.Refusals.{Ground, each, first, Round, one, over, grounds, table-order, records-order, table-grounds, records-grounds, table-check, records-check}
 use Rattle.flow.specs.Earliest.{First, here, later, None, none, more, Earliest, is-one, past-one, is-over, past-over, Nowhere, end, not-one, not-over}
-use Rattle.flow.specs.FirstRefusal.{refused-exactly, fine-exactly, none-both, none-append, none-each, grounds-over, fine-nowhere}
+use Rattle.flow.specs.FirstRefusal.{refused-exactly, fine-exactly, none-both, none-each, grounds-over, fine-nowhere}
 use Rattle.judge.specs.Judged.{judge-order, judge-check}
 
 ---- Lists of grounds in parts ----
 
-none-all : (f : ℕ → List Ground) (i k : ℕ) → ((j : ℕ) → i ≤ j → j < i + k → None (f j)) → None (each f i k)
+pub none-all : (f : ℕ → List Ground) (i k : ℕ) → ((j : ℕ) → i ≤ j → j < i + k → None (f j)) → None (each f i k)
 unfolding each
 none-all f i zero n = none
 none-all f i (suc k) n = none-both (n i (omega arith) (omega arith)) (none-all f (suc i) k (λ j lo hi. n j (omega arith) (omega arith)))
@@ -41,20 +41,20 @@ module _ {r : Refusal} where
       by (inr x) = inr (more t (x .0), x .1)
 
 -- or at the lowest of several places that has one
-record Lowest (f : ℕ → List Ground) (i k : ℕ) (r : Refusal) : Type 0 where
-  at : ℕ
-  low : i ≤ at
-  high : at < i + k
-  before : (l : ℕ) → i ≤ l → l < at → None (f l)
-  found : First r (f at)
+pub record FirstAt (f : ℕ → List Ground) (i k : ℕ) (r : Refusal) : Type 0 where
+  pub at : ℕ
+  pub low : i ≤ at
+  pub high : at < i + k
+  pub before : (l : ℕ) → i ≤ l → l < at → None (f l)
+  pub found : First r (f at)
 
 module _ {r : Refusal} (f : ℕ → List Ground) where
-  first-lowest : (i k : ℕ) → First r (each f i k) → Lowest f i k r
+  pub each-first-at : (i k : ℕ) → First r (each f i k) → FirstAt f i k r
   unfolding each
-  first-lowest i zero h = elim h [ ]
-  first-lowest i (suc k) h = by (first-split (f i) (each f (suc i) k) h) (first-lowest (suc i) k)
+  each-first-at i zero h = elim h [ ]
+  each-first-at i (suc k) h = by (first-split (f i) (each f (suc i) k) h) (each-first-at (suc i) k)
     where
-      by : First r (f i) ⊎ (None (f i) × First r (each f (suc i) k)) → (First r (each f (suc i) k) → Lowest f (suc i) k r) → Lowest f i (suc k) r
+      by : First r (f i) ⊎ (None (f i) × First r (each f (suc i) k)) → (First r (each f (suc i) k) → FirstAt f (suc i) k r) → FirstAt f i (suc k) r
       by (inl x) rec = record { at = i; low = omega arith; high = omega arith; before = λ l lo hi. absurd (omega arith); found = x }
       by (inr x) rec =
           let q = rec (x .1) in
@@ -62,12 +62,12 @@ module _ {r : Refusal} (f : ℕ → List Ground) where
           = λ l lo hi. ⊎-elim (λ e. subst (λ (z : ℕ). None (f z)) e (x .0)) (λ lt. q .before l lt hi) (eq-or-lt-of-le lo) in
           record { at = q .at; low = omega (arith, q .low); high = omega (arith, q .high); before = none-at; found = q .found }
 
-  lowest-first : (i k j : ℕ) → i ≤ j → j < i + k → ((l : ℕ) → i ≤ l → l < j → None (f l)) → First r (f j) → First r (each f i k)
+  pub first-at-each : (i k j : ℕ) → i ≤ j → j < i + k → ((l : ℕ) → i ≤ l → l < j → None (f l)) → First r (f j) → First r (each f i k)
   unfolding each
-  lowest-first i zero j lo hi n h = absurd (omega arith)
-  lowest-first i (suc k) j lo hi n h =
+  first-at-each i zero j lo hi n h = absurd (omega arith)
+  first-at-each i (suc k) j lo hi n h =
       ⊎-elim (λ e. first-left (each f (suc i) k) (subst (λ (z : ℕ). First r (f z)) (sym e) h))
-      (λ lt. first-right (n i (omega arith) lt) (lowest-first (suc i) k j lt (omega arith) (λ l a b. n l (omega arith) b) h))
+      (λ lt. first-right (n i (omega arith) lt) (first-at-each (suc i) k j lt (omega arith) (λ l a b. n l (omega arith) b) h))
       (eq-or-lt-of-le lo)
 
 ---- Any order ----
@@ -81,7 +81,7 @@ module _ {r : Refusal} where
     where
       by : First r (each f 0 n) ⊎ (None (each f 0 n) × First r (grounds order)) → (First r (grounds order) → Earliest r order) → Earliest r (over n f ∷ order)
       by (inl x) rec =
-          let q = first-lowest f 0 n x in
+          let q = each-first-at f 0 n x in
           let before : (j : ℕ) → j < q .at → None (f j) = λ j l. q .before j (omega arith) l in
           is-over {n = n} {f = f} (q .at) (omega (arith, q .high)) before (q .found)
       by (inr x) rec =
@@ -93,7 +93,7 @@ module _ {r : Refusal} where
   earliest-first (one g ∷ order) (past-one t x) = later t (earliest-first order x)
   earliest-first (over n f ∷ order) (is-over i h before x) =
       let none-at : (j : ℕ) → 0 ≤ j → j < i → None (f j) = λ j lo hi. before j hi in
-      subst (First r) (sym (grounds-over n f order)) (first-left (grounds order) (lowest-first f 0 n i (omega arith) (omega arith) none-at x))
+      subst (First r) (sym (grounds-over n f order)) (first-left (grounds order) (first-at-each f 0 n i (omega arith) (omega arith) none-at x))
   earliest-first (over n f ∷ order) (past-over passed x) =
       let none-at : (j : ℕ) → 0 ≤ j → j < 0 + n → None (f j) = λ j lo hi. passed j (omega arith) in
       subst (First r) (sym (grounds-over n f order)) (first-right (none-all f 0 n none-at) (earliest-first order x))

@@ -34,7 +34,7 @@ use Rattle.program.specs.Program.{states-allowed, work-lent, answered, answer-o
 use Rattle.promises.specs.ExactlyWhen.{passes-exactly}
 use Rattle.promises.specs.Verdicts.{records-decide}
 use Rattle.promises.specs.Demands as demand
-use Rattle.promises.specs.Reader.{Readable, readable-read, read-readable, refused-report, report-refused}
+use Rattle.promises.specs.Reader.{Readable, readable-read, read-readable, report-refused}
 use Rattle.promises.specs.ReaderRefusals.{refused-when}
 
 ---- What the reader lets pass, the judge does ----

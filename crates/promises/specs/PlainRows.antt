@@ -1,14 +1,14 @@
 -- The tests of the refusal table mean the conditions that Plain puts in words: 5, 7, 8 and 9 of a node (`wrong-field-means` and so
 -- on), and 13 with its place, in both directions (`wrong-closings-means`, `closings-when`, `closings-fine-when`). Assumes nothing.
-use Prim.Native.Nat.{ℕ, zero, suc, _-_, _<_, _≤_}
+use Prim.Native.Nat.{ℕ, zero, suc, _<_, _≤_}
 use mathlib.Core.Path.{_≡_, refl, sym, ap, _∙_, subst}
-use mathlib.Core.Bool.{Bool, true, false, not, xor, _&&_, _||_, cond}
+use mathlib.Core.Bool.{Bool, true, false, not, xor, _&&_, _||_}
 use mathlib.Core.List.{List, [], _∷_}
 use mathlib.Core.Logic.{_⊎_, inl, inr, _↔_, _≢_}
 use native.Mathlib.Omega.{arith}
 use native.Mathlib.Nat.{eq-or-lt-of-le}
 use lib.Dec.{T, eqb, leb, T-not, eqb→eq, eqb-refl}
-use lib.ListN.{length, getD, take}
+use lib.ListN.{length, take}
 use borrow.Author.Tests.{leb-true, le-leb}
 use Rattle.calculus.specs.Members.{or-in-left, or-in-right, or-cases, and-in, and-left, and-right}
 use Rattle.flow.specs.declared.Check.{Check}

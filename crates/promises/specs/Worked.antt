@@ -12,7 +12,7 @@ use Rattle.format.specs.Format.{number-bytes, numbers-bytes, name-bytes, entry-
 use Rattle.format.specs.Plan.{_>>=_, run}
 use Rattle.format.specs.Sections.{byte, number, ranged, name, entry, same-bytes, same-entry, met, new-entry, entries, names, numbers, section, layout}
 use Rattle.format.specs.Contents.{unnamed-leaf, unnamed-event, leaves-grounds, events-grounds, grounds-of}
-use Rattle.format.specs.Items.{as-item, ItemTold, item-told}
+use Rattle.format.specs.Items.{as-item, item-told}
 use Rattle.reader.specs.Reading.{Report, reported, read-outcome, checked, laid, reading}
 use Rattle.promises.specs.Reader.{refused-report, scanned}
 use Rattle.promises.specs.Collide.{washer, drum}
