@@ -15,13 +15,6 @@ use Rattle.flow.specs.declared.Node.the-variants.{Event, Basic, Standard
 use Rattle.flow.specs.declared.Form.{Form}
 use Rattle.flow.specs.Nodes.{Shape}
 
--- "SKIP, THROW, YIELD" and "P;Q, choice, parallel", in the order of their numbers
-abbrev pub simple-of : ℕ → Simple
-simple-of k = getD (Skip ∷ Throw ∷ []) k Yield
-
-abbrev pub operator-of : ℕ → Operator
-operator-of k = getD (Sequence ∷ Choice ∷ []) k Parallel
-
 abbrev pub two : ℕ → ℕ → Two
 two first second = record { first = first; second = second }
 

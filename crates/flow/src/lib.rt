@@ -7,7 +7,7 @@ ghost use mathlib.Core.Bool.{true, false, cond, xor, _&&_};
 ghost use Prim.Native.Nat.{_+_, _*_, _-_, _<_, _≤_};
 ghost use lib.Dec.{T};
 ghost use lib.ListN.{length, getD, set};
-ghost use Rattle.flow.specs.Kinds.{simple-of, operator-of, node-of, node, one-of, two-of, form, is-standard};
+ghost use Rattle.flow.specs.Kinds.{node-of, node, one-of, two-of, form, is-standard};
 ghost use Rattle.flow.specs.Forms.{leaf-form, branch-form, Marks};
 ghost use Rattle.flow.specs.Records.{is-event-number, is-closing-number};
 ghost use Rattle.flow.specs.Refusals.{unknown-kind, wrong-field, not-lower, wrong-sort, child-taken, no-record, closings-wanted, refused, first, node-grounds, child-grounds, each, count, table-check, nodes-check, values-check, closings-check, records-check};
@@ -105,29 +105,8 @@ fn branch(standard: bool, kids: u8, inner: bool) -> Form
     }
 }
 
-// SKIP, THROW and YIELD stand in this order in both sorts.
-fn simple_at(k: u16) -> Simple
-    ensures { λ r. ⌜ r ≡ simple-of k ⌝ }
-{
-    match k {
-        0 => Simple::Skip,
-        1 => Simple::Throw,
-        _ => Simple::Yield,
-    }
-}
-
-// So do ; choice and parallel.
-fn operator_at(k: u16) -> Operator
-    ensures { λ r. ⌜ r ≡ operator-of k ⌝ }
-{
-    match k {
-        0 => Operator::Sequence,
-        1 => Operator::Choice,
-        _ => Operator::Parallel,
-    }
-}
-
-// The sixteen kinds, by a node's three numbers.
+// The sixteen kinds, by a node's three numbers. Each number has an arm of its own: ranges are lowered to a chain of tests, and every
+// visit of a node comes through here.
 pub fn node_of(kind: u16, first: u16, second: u16) -> Node
     ensures { λ r. ⌜ r ≡ node-of kind first second ⌝ }
 {
@@ -137,13 +116,21 @@ pub fn node_of(kind: u16, first: u16, second: u16) -> Node
     };
     match kind {
         1 => Node::Event(first),
-        2..=4 => Node::Basic(simple_at(kind - 2)),
-        5..=7 => Node::Standard(operator_at(kind - 5), two),
+        2 => Node::Basic(Simple::Skip),
+        3 => Node::Basic(Simple::Throw),
+        4 => Node::Basic(Simple::Yield),
+        5 => Node::Standard(Operator::Sequence, two),
+        6 => Node::Standard(Operator::Choice, two),
+        7 => Node::Standard(Operator::Parallel, two),
         8 => Node::Handler(two),
         9 => Node::Block(first as usize),
         10 => Node::Pair(two),
-        11..=13 => Node::Compensable(operator_at(kind - 11), two),
-        14..=16 => Node::Paired(simple_at(kind - 14)),
+        11 => Node::Compensable(Operator::Sequence, two),
+        12 => Node::Compensable(Operator::Choice, two),
+        13 => Node::Compensable(Operator::Parallel, two),
+        14 => Node::Paired(Simple::Skip),
+        15 => Node::Paired(Simple::Throw),
+        16 => Node::Paired(Simple::Yield),
         _ => Node::Unknown,
     }
 }

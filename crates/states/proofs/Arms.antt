@@ -2,6 +2,7 @@
 use Prim.Native.Nat.{ℕ}
 use mathlib.Core.Path.{_≡_, refl, _∙_, ap, sym}
 use mathlib.Core.Bool.{cond}
+use mathlib.Core.Logic.{_≢_}
 use mathlib.Core.List.{[], _∷_}
 use types.Run.{OneOf, miss}
 use denote.Enum.Declared.{tagOf}
@@ -19,20 +20,32 @@ use Rattle.states.specs.declared.Standing.{Standing}
 use Rattle.states.specs.declared.Standing.the-variants as standing
 use Rattle.states.specs.declared.Course.{Course}
 use Rattle.states.specs.declared.Course.the-variants as course
-use Rattle.states.specs.Standings.{only, drawn-two, stand-drawn, undoing-two, stand-undoing, course-two, course-of}
+use Rattle.states.specs.Standings.{as-drawn, only, drawn-two, stand-drawn, undoing-two, stand-undoing, course-two, course-of}
 
 -- a node that is none of those with an arm of its own
-pub other-drawn : (n : Node) (m : ℕ) → OneOf (5 ∷ 6 ∷ 7 ∷ 8 ∷ []) (tagOf the-type n) → standing.Basic Skip ≡ stand-drawn n m
+pub other-drawn : (n : Node) → OneOf (5 ∷ 6 ∷ 7 ∷ 8 ∷ []) (tagOf the-type n) → standing.Basic Skip ≡ stand-drawn n as-drawn
 unfolding stand-drawn
-other-drawn (Event e) m h = absurd (miss (5 ∷ 6 ∷ 7 ∷ 8 ∷ []) 0 tt h)
-other-drawn (Basic b) m h = absurd (miss (5 ∷ 6 ∷ 7 ∷ 8 ∷ []) 1 tt h)
-other-drawn (Standard o t) m h = absurd (miss (5 ∷ 6 ∷ 7 ∷ 8 ∷ []) 2 tt h)
-other-drawn (Handler t) m h = absurd (miss (5 ∷ 6 ∷ 7 ∷ 8 ∷ []) 3 tt h)
-other-drawn (Block c) m h = absurd (miss (5 ∷ 6 ∷ 7 ∷ 8 ∷ []) 4 tt h)
-other-drawn (Pair t) m h = refl
-other-drawn (Compensable o t) m h = refl
-other-drawn (Paired b) m h = refl
-other-drawn Unknown m h = refl
+other-drawn (Event e) h = absurd (miss (5 ∷ 6 ∷ 7 ∷ 8 ∷ []) 0 tt h)
+other-drawn (Basic b) h = absurd (miss (5 ∷ 6 ∷ 7 ∷ 8 ∷ []) 1 tt h)
+other-drawn (Standard o t) h = absurd (miss (5 ∷ 6 ∷ 7 ∷ 8 ∷ []) 2 tt h)
+other-drawn (Handler t) h = absurd (miss (5 ∷ 6 ∷ 7 ∷ 8 ∷ []) 3 tt h)
+other-drawn (Block c) h = absurd (miss (5 ∷ 6 ∷ 7 ∷ 8 ∷ []) 4 tt h)
+other-drawn (Pair t) h = refl
+other-drawn (Compensable o t) h = refl
+other-drawn (Paired b) h = refl
+other-drawn Unknown h = refl
+
+pub other-moved : (n : Node) (m : ℕ) → m ≢ as-drawn → OneOf (0 ∷ 5 ∷ 6 ∷ 7 ∷ 8 ∷ []) (tagOf the-type n) → standing.Basic Skip ≡ stand-drawn n m
+unfolding stand-drawn
+other-moved (Event e) m d h = rw (ne-eqb m as-drawn d)
+other-moved (Basic b) m d h = absurd (miss (0 ∷ 5 ∷ 6 ∷ 7 ∷ 8 ∷ []) 1 tt h)
+other-moved (Standard o t) m d h = absurd (miss (0 ∷ 5 ∷ 6 ∷ 7 ∷ 8 ∷ []) 2 tt h)
+other-moved (Handler t) m d h = absurd (miss (0 ∷ 5 ∷ 6 ∷ 7 ∷ 8 ∷ []) 3 tt h)
+other-moved (Block c) m d h = absurd (miss (0 ∷ 5 ∷ 6 ∷ 7 ∷ 8 ∷ []) 4 tt h)
+other-moved (Pair t) m d h = refl
+other-moved (Compensable o t) m d h = refl
+other-moved (Paired b) m d h = refl
+other-moved Unknown m d h = refl
 
 pub other-undoing : (n : Node) (m : ℕ) → OneOf (0 ∷ 1 ∷ 2 ∷ 3 ∷ 4 ∷ 7 ∷ 8 ∷ []) (tagOf the-type n) → standing.Basic Skip ≡ stand-undoing n m
 unfolding stand-undoing

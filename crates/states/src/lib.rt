@@ -5,10 +5,11 @@ use flow::Operator;
 use flow::Simple;
 use flow::Two;
 ghost use mathlib.Core.Path.{_≡_};
+ghost use mathlib.Core.Logic.{_≢_};
 ghost use Prim.Native.Nat.{_<_};
 ghost use lib.ListN.{length, set};
 ghost use Rattle.flow.specs.Kinds.{node};
-ghost use Rattle.states.specs.Standings.{only, drawn-two, undoing-two, stand-drawn, stand-undoing, stand, course-two, course-of};
+ghost use Rattle.states.specs.Standings.{as-drawn, only, drawn-two, undoing-two, stand-drawn, stand-undoing, stand, course-two, course-of};
 ghost use Rattle.states.specs.State.{modes};
 ghost use Rattle.states.specs.Contracts.{Spot};
 
@@ -127,33 +128,30 @@ fn drawn_two(operator: Operator, two: Two, mode: u8) -> Standing
     }
 }
 
-fn stand_drawn(node: Node, mode: u8) -> Standing
+// A standard part as drawn.
+fn as_drawn(node: Node) -> Standing
+    ensures { λ r. ⌜ r ≡ stand-drawn node as-drawn ⌝ }
+{
+    match node {
+        Node::Event(event) => Standing::Event(event),
+        Node::Basic(simple) => Standing::Basic(simple),
+        Node::Standard(operator, two) => Standing::Both(operator, two),
+        Node::Handler(two) => Standing::Handler(two),
+        Node::Block(child) => Standing::Block(child),
+        _ => Standing::Basic(Simple::Skip),
+    }
+}
+
+// What is left of one that is drawn no more.
+fn moved(node: Node, mode: u8) -> Standing
+    requires { ⌜ mode ≢ as-drawn ⌝ }
     ensures { λ r. ⌜ r ≡ stand-drawn node mode ⌝ }
 {
     match node {
-        Node::Event(event) => {
-            if mode == AS_DRAWN {
-                Standing::Event(event)
-            } else {
-                Standing::Basic(Simple::Skip)
-            }
-        }
-        Node::Basic(word) => Standing::Basic(word),
+        Node::Basic(simple) => Standing::Basic(simple),
         Node::Standard(operator, two) => drawn_two(operator, two, mode),
-        Node::Handler(two) => {
-            if mode == AS_DRAWN {
-                Standing::Handler(two)
-            } else {
-                only(two.second, Sense::Drawn)
-            }
-        }
-        Node::Block(child) => {
-            if mode == AS_DRAWN {
-                Standing::Block(child)
-            } else {
-                only(child, Sense::Undoing)
-            }
-        }
+        Node::Handler(two) => only(two.second, Sense::Drawn),
+        Node::Block(child) => only(child, Sense::Undoing),
         _ => Standing::Basic(Simple::Skip),
     }
 }
@@ -201,16 +199,21 @@ fn stand_undoing(node: Node, mode: u8) -> Standing
     }
 }
 
-// What node i is as a standard part.
+// What node i is as a standard part. The node is decoded in each way by itself, so that the compiler makes one table of jumps of it.
 pub fn stand_at(ns: &[u16], t: &[u8], i: usize, sense: Sense) -> Standing
     requires { ⌜ Spot (now ns) (now t) i ⌝ }
     ensures { λ r. ⌜ r ≡ stand sense (node (now (ns .entry)) i) (modes (now (t .entry)) i) ⌝ }
 {
-    let node = flow::node_at(ns, i);
     let mode = mode_of(t, i);
     match sense {
-        Sense::Drawn => stand_drawn(node, mode),
-        Sense::Undoing => stand_undoing(node, mode),
+        Sense::Drawn => {
+            if mode == AS_DRAWN {
+                as_drawn(flow::node_at(ns, i))
+            } else {
+                moved(flow::node_at(ns, i), mode)
+            }
+        }
+        Sense::Undoing => stand_undoing(flow::node_at(ns, i), mode),
     }
 }
 
