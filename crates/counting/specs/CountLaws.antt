@@ -29,7 +29,7 @@ use Rattle.states.specs.Standings.{stand, course-of}
 use Rattle.states.specs.State.{modes, counts, std-of, run-of, part}
 use Rattle.states.specs.Stored.{std-right, run-right, stored}
 use Rattle.states.specs.StateLaws.{std-part, run-part, std-stored, run-stored}
-use Rattle.states.specs.Roles.{Seen, moves-of}
+use Rattle.states.specs.Roles.{Sight, moves-of}
 use Rattle.states.specs.Contracts.{Spot, Sets, Scene, scene, part-at, stored-at, Counted}
 use Rattle.states.specs.Rests.{Rests, CRests, stand-rests, course-rests, Lower, CLower, stand-lower, course-lower}
 use Rattle.counting.specs.Wholes.{simpleV, operatorV, simpleW, operatorW}
@@ -37,7 +37,7 @@ use Rattle.counting.specs.WholeLaws.{view-basic, view-both, word-basic, 
 use Rattle.counting.specs.Noting.{tree, own-at, none-noted, one-noted, two-noted}
 
 -- what is noted is what is answered
-answered : (r : Role) {c c′ : List ℕ} {i : ℕ} (w v : Seen r) → (v ≡ w) × Sets c i (moves-of r w) c′ → Sets c i (moves-of r v) c′
+answered : (r : Role) {c c′ : List ℕ} {i : ℕ} (w v : Sight r) → (v ≡ w) × Sets c i (moves-of r w) c′ → Sets c i (moves-of r v) c′
 answered r {c} {c′} {i} w v n = subst (λ z. Sets c i (moves-of r z) c′) (sym (n .0)) (n .1)
 
 module _ {ns t : List ℕ} {i : ℕ} (spot : Spot ns t i) (a : ℕ) where

@@ -15,7 +15,7 @@ use Rattle.states.specs.declared.Role.the-variants.{Plain, Running}
 use Rattle.states.specs.State.{part, modes, counts}
 use Rattle.states.specs.Stored.{Right, own, stored}
 use Rattle.states.specs.StateLaws.{stored-frame}
-use Rattle.states.specs.Roles.{get, Seen, look, moves-of, ok}
+use Rattle.states.specs.Roles.{get, Sight, look, moves-of, ok}
 use Rattle.states.specs.Contracts.{Spot, Kept, Sets, Scene, part-at, stored-at, Counted}
 use Rattle.states.specs.Rests.{Twins}
 use Rattle.states.specs.ChildLaws.{not-own, kept-kid}
@@ -45,24 +45,24 @@ module _ (s : Scene) {i : ℕ} (spot : Spot (s .ns) (s .t) i) where
     abbrev pub Whole : List ℕ → Bool → Type 0
     Whole c b = ok r (stored-at s c i) ≡ (ok r (own-at s c i) && b)
 
-    abbrev pub Sees : Seen r → Type 0
+    abbrev pub Sees : Sight r → Type 0
     Sees v = v ≡ look r (s .a) (get r (part-at s i))
 
-    noted : (b : Bool) {c c₁ c₂ : List ℕ} {v : Seen r} → Sees v → Whole c₂ b → T b → Kept (s .ns) i (counts c) (counts c₁) → Sets c₁ i (moves-of r v) c₂ → Counted s r i c c₂ v
+    noted : (b : Bool) {c c₁ c₂ : List ℕ} {v : Sight r} → Sees v → Whole c₂ b → T b → Kept (s .ns) i (counts c) (counts c₁) → Sets c₁ i (moves-of r v) c₂ → Counted s r i c c₂ v
     noted b {c} {c₁} {c₂} e er h k w = record {
       seen = e;
       right = subst T (sym er) (and-in (ok r (own-at s c₂ i)) b (own-right r s c₂ i (w .here ∙ ap (moves-of r) e)) h);
       kept = λ j n. w .others j (λ q. n (self q)) ∙ k j n;
     }
 
-    pub none-noted : (b : Bool) → T b → {c c′ : List ℕ} {v : Seen r} → Sees v → Whole c′ b → Sets c i (moves-of r v) c′ → Counted s r i c c′ v
+    pub none-noted : (b : Bool) → T b → {c c′ : List ℕ} {v : Sight r} → Sees v → Whole c′ b → Sets c i (moves-of r v) c′ → Counted s r i c c′ v
     none-noted b h e er w = noted b e er h (λ j n. refl) w
 
-    pub one-noted : (q : Role) {x : ℕ} → Kid (shape (s .ns)) i x → {c c₁ c₂ : List ℕ} {p : Seen q} {v : Seen r} → Counted s q x c c₁ p
+    pub one-noted : (q : Role) {x : ℕ} → Kid (shape (s .ns)) i x → {c c₁ c₂ : List ℕ} {p : Sight q} {v : Sight r} → Counted s q x c c₁ p
         → Sees v → Whole c₂ (ok q (stored-at s c₂ x)) → Sets c₁ i (moves-of r v) c₂ → Counted s r i c c₂ v
     one-noted q {x} kid {c} {c₁} {c₂} f e er w = noted (ok q (stored-at s c₂ x)) e er (child-noted q kid w (f .right)) (kept-kid (s .ns) tree kid (f .kept)) w
 
-    pub two-noted : (q q′ : Role) {x : Two} → Twins (s .ns) i x → {c c₁ c₂ c₃ : List ℕ} {p : Seen q} {p′ : Seen q′} {v : Seen r}
+    pub two-noted : (q q′ : Role) {x : Two} → Twins (s .ns) i x → {c c₁ c₂ c₃ : List ℕ} {p : Sight q} {p′ : Sight q′} {v : Sight r}
         → Counted s q (x .first) c c₁ p → Counted s q′ (x .second) c₁ c₂ p′
         → (b : Bool) → (T (ok q (stored-at s c₃ (x .first))) → T (ok q′ (stored-at s c₃ (x .second))) → T b)
         → Sees v → Whole c₃ b → Sets c₂ i (moves-of r v) c₃ → Counted s r i c c₃ v

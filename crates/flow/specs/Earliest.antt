@@ -7,7 +7,7 @@ use mathlib.Core.Bool.{not}
 use mathlib.Core.List.{List, [], _∷_}
 use lib.Dec.{T}
 use Rattle.flow.specs.declared.Refusal.{Refusal}
-use Rattle.flow.specs.Refusals.{Ground, Round, one, over}
+use Rattle.flow.specs.Refusals.{Ground, Round, lone, sweep}
 
 ---- In a list of grounds ----
 
@@ -25,15 +25,15 @@ pub data None : List Ground → Type 0 where
 
 -- r is the earliest refusal: of a round it is the first at the lowest place that has one, and no ground of an earlier round holds
 pub data Earliest (r : Refusal) : List Round → Type 0 where
-  is-one : {g : Ground} {order : List Round} → r ≡ g .refusal → T (g .holds) → Earliest r (one g ∷ order)
-  past-one : {g : Ground} {order : List Round} → T (not (g .holds)) → Earliest r order → Earliest r (one g ∷ order)
-  is-over : {n : ℕ} {f : ℕ → List Ground} {order : List Round} (i : ℕ) → i < n → ((j : ℕ) → j < i → None (f j)) → First r (f i)
-      → Earliest r (over n f ∷ order)
-  past-over : {n : ℕ} {f : ℕ → List Ground} {order : List Round} → ((j : ℕ) → j < n → None (f j)) → Earliest r order
-      → Earliest r (over n f ∷ order)
+  is-lone : {g : Ground} {order : List Round} → r ≡ g .refusal → T (g .holds) → Earliest r (lone g ∷ order)
+  past-lone : {g : Ground} {order : List Round} → T (not (g .holds)) → Earliest r order → Earliest r (lone g ∷ order)
+  in-sweep : {n : ℕ} {f : ℕ → List Ground} {order : List Round} (i : ℕ) → i < n → ((j : ℕ) → j < i → None (f j)) → First r (f i)
+      → Earliest r (sweep n f ∷ order)
+  past-sweep : {n : ℕ} {f : ℕ → List Ground} {order : List Round} → ((j : ℕ) → j < n → None (f j)) → Earliest r order
+      → Earliest r (sweep n f ∷ order)
 
 -- no ground of the order holds at any place
 pub data Nowhere : List Round → Type 0 where
   end : Nowhere []
-  not-one : {g : Ground} {order : List Round} → T (not (g .holds)) → Nowhere order → Nowhere (one g ∷ order)
-  not-over : {n : ℕ} {f : ℕ → List Ground} {order : List Round} → ((j : ℕ) → j < n → None (f j)) → Nowhere order → Nowhere (over n f ∷ order)
+  not-lone : {g : Ground} {order : List Round} → T (not (g .holds)) → Nowhere order → Nowhere (lone g ∷ order)
+  not-sweep : {n : ℕ} {f : ℕ → List Ground} {order : List Round} → ((j : ℕ) → j < n → None (f j)) → Nowhere order → Nowhere (sweep n f ∷ order)

@@ -16,11 +16,11 @@ use Rattle.flow.specs.Tests.{is-true, is-false}
 use Rattle.flow.specs.declared.Refusal.{Refusal}
 use Rattle.flow.specs.declared.Check.{Check}
 use Rattle.flow.specs.declared.Check.the-variants.{Fine, Refused}
-use Rattle.flow.specs.Refusals.{Ground, ground, refused, or-else-check, answer, first, each, Round, one, over, grounds, most-records, no-records, too-many-records, records-check, records-grounds, values-check, values-grounds, closings-check, closing-grounds}
-use Rattle.flow.specs.Earliest.{Nowhere, end, not-one, not-over}
+use Rattle.flow.specs.Refusals.{Ground, ground, refused, or-else-check, answer, first, each, Round, lone, sweep, grounds, most-records, no-records, too-many-records, records-check, records-grounds, values-check, values-grounds, closings-check, closing-grounds}
+use Rattle.flow.specs.Earliest.{Nowhere, end, not-lone, not-sweep}
 pub use Rattle.flow.specs.Earliest.{First, here, later, None, none, more}
 
-abbrev is-fine : Check → Type 0
+abbrev pub is-fine : Check → Type 0
 is-fine Fine = Unit {0}
 is-fine (Refused r) = ⊥
 
@@ -28,11 +28,11 @@ abbrev refusal-or : Refusal → Check → Refusal
 refusal-or q Fine = q
 refusal-or q (Refused r) = r
 
-T-not : {b : Bool} → b ≡ false → T (not b)
-T-not e = subst (λ (x : Bool). T (not x)) (sym e) tt
+not-held : {b : Bool} → b ≡ false → T (not b)
+not-held e = subst (λ (x : Bool). T (not x)) (sym e) tt
 
-T-is : {b : Bool} → b ≡ true → T b
-T-is e = subst T (sym e) tt
+is-held : {b : Bool} → b ≡ true → T b
+is-held e = subst T (sym e) tt
 
 -- the check of one ground more, by what the ground says
 module _ (g : Ground) (gs : List Ground) where
@@ -51,8 +51,8 @@ module _ (r : Refusal) where
   answers (g ∷ gs) e = by (g .holds) refl (answers gs)
     where
       by : (b : Bool) → g .holds ≡ b → (first gs ≡ Refused r → First r gs) → First r (g ∷ gs)
-      by true h next = here (ap (refusal-or r) (sym e ∙ first-held g gs h)) (T-is h)
-      by false h next = later (T-not h) (next (sym (first-passed g gs h) ∙ e))
+      by true h next = here (ap (refusal-or r) (sym e ∙ first-held g gs h)) (is-held h)
+      by false h next = later (not-held h) (next (sym (first-passed g gs h) ∙ e))
 
   answered : (gs : List Ground) → First r gs → first gs ≡ Refused r
   answered gs (here {g} {gs = hs} e t) = first-held g hs (is-true (g .holds) t) ∙ ap Refused (sym e)
@@ -64,7 +64,7 @@ passes (g ∷ gs) e = by (g .holds) refl (passes gs)
   where
     by : (b : Bool) → g .holds ≡ b → (first gs ≡ Fine → None gs) → None (g ∷ gs)
     by true h next = absurd (subst is-fine (sym e ∙ first-held g gs h) tt)
-    by false h next = more (T-not h) (next (sym (first-passed g gs h) ∙ e))
+    by false h next = more (not-held h) (next (sym (first-passed g gs h) ∙ e))
 
 passed : (gs : List Ground) → None gs → first gs ≡ Fine
 unfolding first
@@ -145,18 +145,18 @@ module _ (number place : ℕ) (b : Bool) where
 ---- The checks in parts ----
 
 -- the grounds of an order, round by round
-pub grounds-over : (n : ℕ) (f : ℕ → List Ground) (order : List Round) → grounds (over n f ∷ order) ≡ each f 0 n ++ grounds order
-grounds-over n f [] = sym (append-nil (each f 0 n))
-grounds-over n f (next ∷ order) = refl
+pub grounds-sweep : (n : ℕ) (f : ℕ → List Ground) (order : List Round) → grounds (sweep n f ∷ order) ≡ each f 0 n ++ grounds order
+grounds-sweep n f [] = sym (append-nil (each f 0 n))
+grounds-sweep n f (next ∷ order) = refl
 
 pub grounds-append : (a b : List Round) → grounds (a ++ b) ≡ grounds a ++ grounds b
 grounds-append [] b = refl
-grounds-append (one g ∷ a) b = ap (λ (gs : List Ground). g ∷ gs) (grounds-append a b)
-grounds-append (over n f ∷ a) b =
-    grounds-over n f (a ++ b)
+grounds-append (lone g ∷ a) b = ap (λ (gs : List Ground). g ∷ gs) (grounds-append a b)
+grounds-append (sweep n f ∷ a) b =
+    grounds-sweep n f (a ++ b)
     ∙ ap (λ (gs : List Ground). each f 0 n ++ gs) (grounds-append a b)
     ∙ sym (append-assoc (each f 0 n) (grounds a) (grounds b))
-    ∙ ap (λ (gs : List Ground). gs ++ grounds b) (sym (grounds-over n f a))
+    ∙ ap (λ (gs : List Ground). gs ++ grounds b) (sym (grounds-sweep n f a))
 
 -- the check of one order after another
 pub orders-append : (a b : List Round) → first (grounds (a ++ b)) ≡ or-else-check (first (grounds a)) (first (grounds b))
@@ -165,11 +165,11 @@ orders-append a b = ap first (grounds-append a b) ∙ first-append (grounds a) (
 -- no ground of the list holds: none of the order does, anywhere
 pub none-nowhere : (order : List Round) → None (grounds order) → Nowhere order
 none-nowhere [] n = end
-none-nowhere (one g ∷ order) (more t n) = not-one t (none-nowhere order n)
-none-nowhere (over m f ∷ order) n =
-    let p = none-append (each f 0 m) (grounds order) (subst None (grounds-over m f order) n) in
+none-nowhere (lone g ∷ order) (more t n) = not-lone t (none-nowhere order n)
+none-nowhere (sweep m f ∷ order) n =
+    let p = none-append (each f 0 m) (grounds order) (subst None (grounds-sweep m f order) n) in
     let each-none : (j : ℕ) → j < m → None (f j) = λ j h. none-each f 0 m j (p .0) (omega arith) (omega arith) in
-    not-over each-none (none-nowhere order (p .1))
+    not-sweep each-none (none-nowhere order (p .1))
 
 pub fine-nowhere : (order : List Round) → first (grounds order) ≡ Fine → Nowhere order
 fine-nowhere order e = none-nowhere order (fine-exactly (grounds order) .0 e)

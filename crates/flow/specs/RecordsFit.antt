@@ -14,7 +14,7 @@ use Rattle.flow.specs.declared.Check.the-variants.{Fine}
 use Rattle.flow.specs.Kinds.{node, is-standard}
 use Rattle.flow.specs.Records.{done-number, withdrawn-number, failed-number, is-closing-number, record-of, records}
 use Rattle.flow.specs.Refusals.{root, most-records, too-many-records, no-record, closed, closings-wanted, wrong-closings, value-grounds, records-order, records-grounds, table-check, records-check}
-use Rattle.flow.specs.Earliest.{None, Nowhere, end, not-one, not-over}
+use Rattle.flow.specs.Earliest.{None, Nowhere, end, not-lone, not-sweep}
 use Rattle.flow.specs.Tests.{is-false}
 use Rattle.flow.specs.FirstRefusal.{fine-nowhere}
 use Rattle.flow.specs.Closings.{event-closed, closing-closed}
@@ -90,7 +90,7 @@ module _ (ns rs : List ℕ) where
       value i (None.more t n) = is-false (no-record (getD rs i 0)) t
 
       by : Nowhere (records-order ns rs) → FineRecords ns rs
-      by (not-one a (not-one b (not-over v (not-one c end)))) = record {
+      by (not-lone a (not-lone b (not-sweep v (not-lone c end)))) = record {
         few = ltb-false most-records (length rs) (is-false (too-many-records rs) b);
         each = λ i h. value i (v i h);
         closings = not-false (closed rs (closings-wanted ns)) (is-false (wrong-closings ns rs) c);

@@ -159,17 +159,17 @@ unfoldable pub each : (ℕ → List Ground) → ℕ → ℕ → List Ground
 each f i zero = []
 each f i (suc k) = f i ++ each f (suc i) k
 
--- An order is a list of rounds. A round is one ground, or the grounds of each place "from 0 up", so many places.
+-- An order is a list of rounds. A round is a lone ground, or a sweep over so many places "from 0 up", with the grounds at each.
 pub data Round : Type 0 where
-  one : Ground → Round
-  over : ℕ → (ℕ → List Ground) → Round
+  lone : Ground → Round
+  sweep : ℕ → (ℕ → List Ground) → Round
 
 -- an order's grounds, as they stand; nothing is put behind the last round
 abbrev pub grounds : List Round → List Ground
 grounds [] = []
-grounds (one g ∷ order) = g ∷ grounds order
-grounds (over n f ∷ []) = each f 0 n
-grounds (over n f ∷ (next ∷ order)) = each f 0 n ++ grounds (next ∷ order)
+grounds (lone g ∷ order) = g ∷ grounds order
+grounds (sweep n f ∷ []) = each f 0 n
+grounds (sweep n f ∷ (next ∷ order)) = each f 0 n ++ grounds (next ∷ order)
 
 -- "nodes .., each in the order 4 to 8"
 unfoldable pub node-grounds : List ℕ → ℕ → List Ground
@@ -186,27 +186,27 @@ child-grounds ns i = ground 9 i (nobodys-child ns i) ∷ []
 
 -- "then nodes from 0 up ..; then 9", which is of no place but a "node other than the last"
 abbrev pub nodes-order : List ℕ → List Round
-nodes-order ns = over (count ns) (node-grounds ns) ∷ over (count ns - 1) (child-grounds ns) ∷ []
+nodes-order ns = sweep (count ns) (node-grounds ns) ∷ sweep (count ns - 1) (child-grounds ns) ∷ []
 
 -- "Judging checks 1 to 3; then nodes"
 abbrev pub table-order : List ℕ → List Round
 table-order ns =
-    one (ground 1 0 (no-nodes ns)) ∷ one (ground 2 0 (not-whole ns)) ∷ one (ground 3 0 (too-many-nodes ns)) ∷ nodes-order ns
+    lone (ground 1 0 (no-nodes ns)) ∷ lone (ground 2 0 (not-whole ns)) ∷ lone (ground 3 0 (too-many-nodes ns)) ∷ nodes-order ns
 
 unfoldable pub value-grounds : List ℕ → ℕ → List Ground
 value-grounds rs i = ground 12 i (no-record (getD rs i 0)) ∷ []
 
 -- 12, "lowest such"
 abbrev pub values-order : List ℕ → List Round
-values-order rs = over (length rs) (value-grounds rs) ∷ []
+values-order rs = sweep (length rs) (value-grounds rs) ∷ []
 
 abbrev pub closing-order : List ℕ → List ℕ → List Round
-closing-order ns rs = one (ground 13 (after-closings rs (closings-wanted ns)) (wrong-closings ns rs)) ∷ []
+closing-order ns rs = lone (ground 13 (after-closings rs (closings-wanted ns)) (wrong-closings ns rs)) ∷ []
 
 -- "then 9 to 14"
 abbrev pub records-order : List ℕ → List ℕ → List Round
 records-order ns rs =
-    one (ground 10 0 (no-records rs)) ∷ one (ground 11 0 (too-many-records rs)) ∷ (values-order rs ++ closing-order ns rs)
+    lone (ground 10 0 (no-records rs)) ∷ lone (ground 11 0 (too-many-records rs)) ∷ (values-order rs ++ closing-order ns rs)
 
 unfoldable pub nodes-grounds : List ℕ → List Ground
 nodes-grounds ns = grounds (nodes-order ns)

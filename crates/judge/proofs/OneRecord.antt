@@ -30,7 +30,7 @@ use Rattle.states.specs.declared.Sense.{Sense}
 use Rattle.states.specs.declared.Sense.the-variants.{Undoing}
 use Rattle.states.specs.declared.Role.{Role}
 use Rattle.states.specs.declared.Role.the-variants.{Plain, Running}
-use Rattle.states.specs.Roles.{Term, get, nexts, many, Seen, look, moves-of}
+use Rattle.states.specs.Roles.{Term, get, nexts, many, Sight, look, moves-of}
 use Rattle.states.specs.Contracts.{Spot, scene, weight-of, ask, Counted, Ready, Stepped, Chosen}
 use Rattle.judge.specs.Visits.{state, role-next, closing-of, ends-by, onward, Inner, RightCounts, successor-count, SuccessorsCounted, Applied}
 use Rattle.judge.proofs.Numbers.{record-event, record-close, last-close, not-twice}
@@ -70,7 +70,7 @@ module _ (ns t : List ℕ) where
     count-closing h k = ap (λ l. cap (length l)) (next-closing h k) ∙ ap cap (length-map (comps (at-root .run) (closing-of r)) std)
 
 -- the number of steps that is seen
-moves-seen : (q : Role) (a : ℕ) (p : Part) {v : Seen q} → v ≡ look q a (get q p) → moves-of q v ≡ many q a p
+moves-seen : (q : Role) (a : ℕ) (p : Part) {v : Sight q} → v ≡ look q a (get q p) → moves-of q v ≡ many q a p
 unfolding moves
 moves-seen (Plain s) a p e = view-moves a (p .std s) e
 moves-seen Running a p e = word-moves a (p .run) e
@@ -89,7 +89,7 @@ module _ (ns t : List ℕ) (r i : ℕ) (e : i ≡ root ns) {role x : Role} (g : 
   -- An event ------------------------------------------------------------------------------------------------------------
 
   module _ (event : r < done-number) where
-    pub counted-event : {c c′ : List ℕ} {v : Seen x} → Counted (scene ns t r) x i c c′ v → SuccessorsCounted ns role r t c′ (moves-of x v)
+    pub counted-event : {c c′ : List ℕ} {v : Sight x} → Counted (scene ns t r) x i c c′ v → SuccessorsCounted ns role r t c′ (moves-of x v)
     counted-event {c} {c′} {v} k =
         let q : Counted (scene ns t r) x (root ns) c c′ v = subst (λ j. Counted (scene ns t r) x j c c′ v) e k in
         subst (λ z. SuccessorsCounted ns z r t c′ (moves-of x v)) (sym g)

@@ -21,31 +21,31 @@ use Rattle.judge.specs.Visits.{out-of, onward}
 -- What it costs -----------------------------------------------------------------------------------------------------------
 
 -- at most so many records were followed, and at most so much is left
-abbrev pub Within : ℕ → ℕ → Found → Type 0
-Within e n spent = Unit {0}
-Within e n (back b d m) = (d ≤ e) × (m ≤ n)
+abbrev pub CostWithin : ℕ → ℕ → Found → Type 0
+CostWithin e n spent = Unit {0}
+CostWithin e n (back b d m) = (d ≤ e) × (m ≤ n)
 
-within-more : (e n : ℕ) (o : Found) → Within e n o → Within e (suc n) o
+within-more : (e n : ℕ) (o : Found) → CostWithin e n o → CostWithin e (suc n) o
 within-more e n spent h = tt
 within-more e n (back b d m) h = (h .0, omega arith)
 
-bump-within : (e n d m : ℕ) (o : Found) → d ≤ e → m ≤ n → Within e m o → Within e n (bump d o)
+bump-within : (e n d m : ℕ) (o : Found) → d ≤ e → m ≤ n → CostWithin e m o → CostWithin e n (bump d o)
 unfolding bump
 bump-within e n d m spent hd hm h = tt
 bump-within e n d m (back b k l) hd hm h = (omega arith, omega arith)
 
-module _ (f : State → ℕ → Found) (e : ℕ) (h : (t : State) (n : ℕ) → Within e n (f t n)) where
-  tries-within : (ss : List State) (n : ℕ) → Within (suc e) n (triesB f ss n)
+module _ (f : State → ℕ → Found) (e : ℕ) (h : (t : State) (n : ℕ) → CostWithin e n (f t n)) where
+  tries-within : (ss : List State) (n : ℕ) → CostWithin (suc e) n (triesB f ss n)
   unfolding triesB chain
   tries-within [] n = (omega arith, omega arith)
   tries-within (s ∷ ss) n = go (f s n) (h s n) (λ m. tries-within ss m)
     where
-      go : (o : Found) → Within e n o → ((m : ℕ) → Within (suc e) m (triesB f ss m)) → Within (suc e) n (chain o (λ m. triesB f ss m))
+      go : (o : Found) → CostWithin e n o → ((m : ℕ) → CostWithin (suc e) m (triesB f ss m)) → CostWithin (suc e) n (chain o (λ m. triesB f ss m))
       go spent k below = tt
       go (back true d m) k below = (omega arith, k .1)
       go (back false d m) k below = bump-within (suc e) n (suc d) m (triesB f ss m) (omega arith) (k .1) (below m)
 
-visit-within : (rs : List Record) (s : State) (n : ℕ) → Within (length rs) n (visitB rs s n)
+visit-within : (rs : List Record) (s : State) (n : ℕ) → CostWithin (length rs) n (visitB rs s n)
 unfolding visitB
 visit-within [] s zero = tt
 visit-within [] s (suc n) = (omega arith, omega arith)
@@ -53,7 +53,7 @@ visit-within (r ∷ rs) s zero = tt
 visit-within (r ∷ rs) s (suc n) = within-more (suc (length rs)) n (triesB (λ t m. visitB rs t m) (next s r) n) (tries-within (λ t m. visitB rs t m) (length rs) (λ t m. visit-within rs t m) (next s r) n)
 
 -- a state that is entered costs one
-pub visit-costs : (rs : List Record) (s : State) (n : ℕ) → Within (length rs) n (visitB rs s (suc n))
+pub visit-costs : (rs : List Record) (s : State) (n : ℕ) → CostWithin (length rs) n (visitB rs s (suc n))
 unfolding visitB
 visit-costs [] s n = (omega arith, omega arith)
 visit-costs (r ∷ rs) s n = tries-within (λ t m. visitB rs t m) (length rs) (λ t m. visit-within rs t m) (next s r) n
@@ -73,7 +73,7 @@ visit-cost rs s n o trip e g = by n (sym (ap out-of g) ∙ e)
 
     by : (n : ℕ) → back (trip .found) (trip .far) (trip .left) ≡ visitB rs s n → Cost (length rs) n trip
     by zero q = let z : _≡_ {A = ℕ} 0 1 = cc (none rs) in absurd (omega arith)
-    by (suc n) q = let w : Within (length rs) n (back (trip .found) (trip .far) (trip .left)) = subst (Within (length rs) n) (sym q) (visit-costs rs s n) in record { far = w .0; left = omega arith }
+    by (suc n) q = let w : CostWithin (length rs) n (back (trip .found) (trip .far) (trip .left)) = subst (CostWithin (length rs) n) (sym q) (visit-costs rs s n) in record { far = w .0; left = omega arith }
 
 -- The loop over the successors ------------------------------------------------------------------------------------------
 

@@ -15,7 +15,7 @@ use Rattle.flow.specs.declared.Check.{Check}
 use Rattle.flow.specs.declared.Check.the-variants.{Fine}
 use Rattle.flow.specs.declared.Check.the-variants as check
 use Rattle.flow.specs.Records.{records}
-use Rattle.flow.specs.Refusals.{count, ground, first, Round, one, grounds, table-order, records-order}
+use Rattle.flow.specs.Refusals.{count, ground, first, Round, lone, grounds, table-order, records-order}
 use Rattle.flow.specs.Draws.{flow-of}
 use Rattle.judge.specs.declared.Answer.{Answer}
 use Rattle.judge.specs.declared.Answer.the-variants.{Accepted, Rejected, Undecided, Refused}
@@ -59,7 +59,7 @@ too-short ns rs room = ltb room (room-wanted ns rs)
 
 -- 01: "Judging checks 1 to 3; then nodes from 0 up, each in the order 4 to 8; then 9 to 14."
 abbrev pub judge-order : List ℕ → List ℕ → ℕ → List Round
-judge-order ns rs room = table-order ns ++ (records-order ns rs ++ (one (ground 14 0 (too-short ns rs room)) ∷ []))
+judge-order ns rs room = table-order ns ++ (records-order ns rs ++ (lone (ground 14 0 (too-short ns rs room)) ∷ []))
 
 unfoldable pub judge-check : List ℕ → List ℕ → ℕ → Check
 judge-check ns rs room = first (grounds (judge-order ns rs room))

@@ -9,9 +9,9 @@ use native.Mathlib.Omega.{arith}
 use native.Mathlib.Nat.{eq-or-lt-of-le}
 use Rattle.flow.specs.declared.Refusal.{Refusal}
 use Rattle.flow.specs.declared.Check.the-variants.{Fine, Refused}
-use Rattle.flow.specs.Refusals.{Ground, each, first, Round, one, over, grounds, table-order, records-order, table-grounds, records-grounds, table-check, records-check}
-use Rattle.flow.specs.Earliest.{First, here, later, None, none, more, Earliest, is-one, past-one, is-over, past-over, Nowhere, end, not-one, not-over}
-use Rattle.flow.specs.FirstRefusal.{refused-exactly, fine-exactly, none-both, none-each, grounds-over, fine-nowhere}
+use Rattle.flow.specs.Refusals.{Ground, each, first, Round, lone, sweep, grounds, table-order, records-order, table-grounds, records-grounds, table-check, records-check}
+use Rattle.flow.specs.Earliest.{First, here, later, None, none, more, Earliest, is-lone, past-lone, in-sweep, past-sweep, Nowhere, end, not-lone, not-sweep}
+use Rattle.flow.specs.FirstRefusal.{refused-exactly, fine-exactly, none-both, none-each, grounds-sweep, fine-nowhere}
 use Rattle.judge.specs.Judged.{judge-order, judge-check}
 
 ---- Lists of grounds in parts ----
@@ -75,35 +75,35 @@ module _ {r : Refusal} (f : ℕ → List Ground) where
 module _ {r : Refusal} where
   first-earliest : (order : List Round) → First r (grounds order) → Earliest r order
   first-earliest [] f = elim f [ ]
-  first-earliest (one g ∷ order) (here e t) = is-one e t
-  first-earliest (one g ∷ order) (later t f) = past-one t (first-earliest order f)
-  first-earliest (over n f ∷ order) h = by (first-split (each f 0 n) (grounds order) (subst (First r) (grounds-over n f order) h)) (first-earliest order)
+  first-earliest (lone g ∷ order) (here e t) = is-lone e t
+  first-earliest (lone g ∷ order) (later t f) = past-lone t (first-earliest order f)
+  first-earliest (sweep n f ∷ order) h = by (first-split (each f 0 n) (grounds order) (subst (First r) (grounds-sweep n f order) h)) (first-earliest order)
     where
-      by : First r (each f 0 n) ⊎ (None (each f 0 n) × First r (grounds order)) → (First r (grounds order) → Earliest r order) → Earliest r (over n f ∷ order)
+      by : First r (each f 0 n) ⊎ (None (each f 0 n) × First r (grounds order)) → (First r (grounds order) → Earliest r order) → Earliest r (sweep n f ∷ order)
       by (inl x) rec =
           let q = each-first-at f 0 n x in
           let before : (j : ℕ) → j < q .at → None (f j) = λ j l. q .before j (omega arith) l in
-          is-over {n = n} {f = f} (q .at) (omega (arith, q .high)) before (q .found)
+          in-sweep {n = n} {f = f} (q .at) (omega (arith, q .high)) before (q .found)
       by (inr x) rec =
           let passed : (j : ℕ) → j < n → None (f j) = λ j l. none-each f 0 n j (x .0) (omega arith) (omega arith) in
-          past-over passed (rec (x .1))
+          past-sweep passed (rec (x .1))
 
   earliest-first : (order : List Round) → Earliest r order → First r (grounds order)
-  earliest-first (one g ∷ order) (is-one e t) = here e t
-  earliest-first (one g ∷ order) (past-one t x) = later t (earliest-first order x)
-  earliest-first (over n f ∷ order) (is-over i h before x) =
+  earliest-first (lone g ∷ order) (is-lone e t) = here e t
+  earliest-first (lone g ∷ order) (past-lone t x) = later t (earliest-first order x)
+  earliest-first (sweep n f ∷ order) (in-sweep i h before x) =
       let none-at : (j : ℕ) → 0 ≤ j → j < i → None (f j) = λ j lo hi. before j hi in
-      subst (First r) (sym (grounds-over n f order)) (first-left (grounds order) (first-at-each f 0 n i (omega arith) (omega arith) none-at x))
-  earliest-first (over n f ∷ order) (past-over passed x) =
+      subst (First r) (sym (grounds-sweep n f order)) (first-left (grounds order) (first-at-each f 0 n i (omega arith) (omega arith) none-at x))
+  earliest-first (sweep n f ∷ order) (past-sweep passed x) =
       let none-at : (j : ℕ) → 0 ≤ j → j < 0 + n → None (f j) = λ j lo hi. passed j (omega arith) in
-      subst (First r) (sym (grounds-over n f order)) (first-right (none-all f 0 n none-at) (earliest-first order x))
+      subst (First r) (sym (grounds-sweep n f order)) (first-right (none-all f 0 n none-at) (earliest-first order x))
 
 nowhere-none : (order : List Round) → Nowhere order → None (grounds order)
 nowhere-none [] end = none
-nowhere-none (one g ∷ order) (not-one t n) = more t (nowhere-none order n)
-nowhere-none (over n f ∷ order) (not-over passed x) =
+nowhere-none (lone g ∷ order) (not-lone t n) = more t (nowhere-none order n)
+nowhere-none (sweep n f ∷ order) (not-sweep passed x) =
     let none-at : (j : ℕ) → 0 ≤ j → j < 0 + n → None (f j) = λ j lo hi. passed j (omega arith) in
-    subst None (sym (grounds-over n f order)) (none-both (none-all f 0 n none-at) (nowhere-none order x))
+    subst None (sym (grounds-sweep n f order)) (none-both (none-all f 0 n none-at) (nowhere-none order x))
 
 pub earliest-exactly : (order : List Round) (r : Refusal) → (first (grounds order) ≡ Refused r) ↔ Earliest r order
 earliest-exactly order r =

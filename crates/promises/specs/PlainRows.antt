@@ -18,6 +18,7 @@ use Rattle.flow.specs.Kinds.{form, is-standard, node, one-of, two-of, shape}
 use Rattle.flow.specs.Records.{most-events, is-event-number, is-closing-number}
 use Rattle.flow.specs.Refusals.{count, has-one, has-two, wrong-field, taken, wrong-sort, child-taken, nobodys-child, closings-wanted, closed, wrong-closings, after-closings, refused, closings-check}
 use Rattle.flow.specs.Tests.{is-true}
+use Rattle.flow.specs.FirstRefusal.{is-fine}
 use Rattle.flow.specs.FineTable.{kid-taken, taken-kid}
 use Rattle.flow.specs.Closings.{event-closed, event-place, closings-fine, closings-refused, wanted-some}
 use Rattle.promises.specs.Plain.{WrongField, event-out, first-unused, second-unused, WrongSort, wrong-child, ChildTaken, taken-already, same-twice, NobodysChild, closings-in, NthClosing, WrongClosings, goes-on, too-few}
@@ -316,10 +317,6 @@ find-nth (r ∷ rs) (suc n) h = by (is-closing-number r) refl n (find-nth rs)
             → ((k : ℕ) × (suc k ≤ length (r ∷ rs)) × NthClosing (r ∷ rs) (suc m) k) ⊎ (closings-in (r ∷ rs) < suc m)
         on (inl x) = inl (suc (x .0), omega (arith, x .1), event-more r rs (x .2) e)
         on (inr l) = let c = count-event r rs e in inr (omega arith)
-
-abbrev is-fine : Check → Type 0
-is-fine Fine = Unit {0}
-is-fine (Refused r) = ⊥
 
 abbrev place-of : Check → ℕ
 place-of Fine = 0

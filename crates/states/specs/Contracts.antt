@@ -22,7 +22,7 @@ use Rattle.states.specs.Stored.{Right, stored}
 use Rattle.states.specs.declared.Picked.{Picked}
 use Rattle.states.specs.declared.Role.{Role}
 use Rattle.states.specs.declared.Sense.the-variants.{Undoing}
-use Rattle.states.specs.Roles.{get, nexts, many, Seen, look, ok}
+use Rattle.states.specs.Roles.{get, nexts, many, Sight, look, ok}
 
 -- a table that checks 1 to 9 passed
 pub record Sound (ns : List ℕ) : Type 0 where
@@ -84,7 +84,7 @@ pub record Chosen (s : Scene) (i : ℕ) (q : Ask) (t′ : List ℕ) (p : Picked)
   pub kept : Kept (s .ns) i (modes (s .t)) (modes t′)
 
 -- the counting pass in a role: counts c before and c′ after, answer v
-pub record Counted (s : Scene) (r : Role) (i : ℕ) (c c′ : List ℕ) (v : Seen r) : Type 0 where
+pub record Counted (s : Scene) (r : Role) (i : ℕ) (c c′ : List ℕ) (v : Sight r) : Type 0 where
   pub seen : v ≡ look r (s .a) (get r (part-at s i))
   pub right : T (ok r (stored-at s c′ i))
   pub kept : Kept (s .ns) i (counts c) (counts c′)

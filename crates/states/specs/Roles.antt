@@ -33,15 +33,15 @@ abbrev pub many : Role → ℕ → Part → ℕ
 many r a x = cap (length (nexts r (get r x) a))
 
 -- what the counting pass sees of it, and the number of steps in that
-abbrev pub Seen : Role → Type 0
-Seen (Plain s) = View
-Seen Running = Word
+abbrev pub Sight : Role → Type 0
+Sight (Plain s) = View
+Sight Running = Word
 
-abbrev pub look : (r : Role) → ℕ → Term r → Seen r
+abbrev pub look : (r : Role) → ℕ → Term r → Sight r
 look (Plain s) a p = view a p
 look Running a pp = word a pp
 
-abbrev pub moves-of : (r : Role) → Seen r → ℕ
+abbrev pub moves-of : (r : Role) → Sight r → ℕ
 moves-of (Plain s) v = v .moves
 moves-of Running w = w .moves
 
