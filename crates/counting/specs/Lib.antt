@@ -1,5 +1,6 @@
 -- Definitions.
 pub mod Wholes
+pub mod StandIns
 -- Theorems.
 pub mod WholeLaws
 pub mod Noting

@@ -82,33 +82,36 @@ fn both_word(operator: Operator, p: Word, q: Word) -> Word
     }
 }
 
-// What node i can do as a standard part.
+// What node i can do as a standard part. A part that is live in place of another is counted where it stands, without a call.
 pub fn count_std(ns: &[u16], t: &[u8], a: u16, c: &mut [u32; 64], i: usize, sense: Sense) -> View
     requires { ⌜ Spot (now ns) (now t) i ⌝ }
     ensures { λ r. ⌜ Counted (scene (now (ns .entry)) (now (t .entry)) a) (Plain sense) i (now (c .entry)) (now (c .exit)) r ⌝ }
 {
-    let stands = states::stand_at(ns, t, i, sense);
-    match stands {
-        Standing::Event(event) => note(c, i, tallies::event_view(a == event)),
-        Standing::Basic(simple) => note(c, i, basic_view(simple)),
-        Standing::Both(operator, two) => {
-            let p = count_std(ns, t, a, c, two.first, sense);
-            let q = count_std(ns, t, a, c, two.second, sense);
-            note(c, i, both_view(operator, p, q))
-        }
-        Standing::Handler(two) => {
-            let p = count_std(ns, t, a, c, two.first, sense);
-            let q = count_std(ns, t, a, c, two.second, sense);
-            note(c, i, tallies::handler_view(p, q))
-        }
-        Standing::Block(child) => {
-            let w = count_run(ns, t, a, c, child);
-            note(c, i, tallies::block_view(w))
-        }
-        Standing::As(sub) => {
-            let inner = sub.sense;
-            let v = count_std(ns, t, a, c, sub.node, inner);
-            note(c, i, v)
+    let mut here = i;
+    let mut live = sense;
+    loop {
+        let stands = states::stand_at(ns, t, here, live);
+        match stands {
+            Standing::Event(event) => return note(c, i, tallies::event_view(a == event)),
+            Standing::Basic(simple) => return note(c, i, basic_view(simple)),
+            Standing::Both(operator, two) => {
+                let p = count_std(ns, t, a, c, two.first, live);
+                let q = count_std(ns, t, a, c, two.second, live);
+                return note(c, i, both_view(operator, p, q));
+            }
+            Standing::Handler(two) => {
+                let p = count_std(ns, t, a, c, two.first, live);
+                let q = count_std(ns, t, a, c, two.second, live);
+                return note(c, i, tallies::handler_view(p, q));
+            }
+            Standing::Block(child) => {
+                let w = count_run(ns, t, a, c, child);
+                return note(c, i, tallies::block_view(w));
+            }
+            Standing::As(sub) => {
+                here = sub.node;
+                live = sub.sense;
+            }
         }
     }
 }

@@ -8,7 +8,7 @@ use native.Mathlib.Omega.{arith}
 use lib.ListN.{length, getD, set, length-set}
 use lib.Seq.{getD-set-same, getD-set-other}
 use Rattle.flow.specs.Kinds.{shape}
-use Rattle.flow.specs.Nodes.{Kid, Under, self, under-kid, Tree, not-under}
+use Rattle.flow.specs.Nodes.{Kid, Under, self, up, under-trans, under-le, Tree, not-under}
 use Rattle.states.specs.State.{part, modes, counts}
 use Rattle.states.specs.Stored.{stored}
 use Rattle.states.specs.StateLaws.{part-frame, stored-frame}
@@ -35,6 +35,17 @@ lower-spot s h = record { node = record { sound = s .node .sound; inside = omega
 pub same-room : {ns t t′ : List ℕ} {i : ℕ} → Spot ns t i → length t′ ≡ length t → Spot ns t′ i
 same-room s e = record { node = s .node; room = omega (arith, s .room) }
 
+-- Node x is a child of j, which is i or under it -----------------------------------------------------------------------------
+
+module _ (ns : List ℕ) (tree : Tree (shape ns)) {i j x : ℕ} (u : Under (shape ns) i j) (kid : Kid (shape ns) j x) where
+  pub not-above : {n : ℕ} → Under (shape ns) x n → n ≢ i
+  not-above v e = omega (arith, under-le (shape ns) tree v, tree .lower j x kid, under-le (shape ns) tree u, e)
+
+  pub kept-above : {d d′ : ℕ → ℕ} → Kept ns x d d′ → Kept ns i d d′
+  kept-above h n out = h n (λ v. out (under-trans (shape ns) (up kid u) v))
+
+-- A child of the node itself -------------------------------------------------------------------------------------------------
+
 module _ (ns : List ℕ) where
   pub kept-set : {t t′ : List ℕ} {i n : ℕ} → Sets t i n t′ → Kept ns i (modes t) (modes t′)
   kept-set w j u = w .others j (λ e. u (self e))
@@ -46,13 +57,13 @@ module _ (ns : List ℕ) where
   module _ (tree : Tree (shape ns)) {i : ℕ} where
     module _ {c : ℕ} (kid : Kid (shape ns) i c) where
       pub not-own : {j : ℕ} → Under (shape ns) c j → j ≢ i
-      not-own u e = not-under (shape ns) tree kid (subst (Under (shape ns) c) e u)
+      not-own u = not-above ns tree (self refl) kid u
 
       pub kid-lower : c < i
       kid-lower = tree .lower i c kid
 
       pub kept-kid : {d d′ : ℕ → ℕ} → Kept ns c d d′ → Kept ns i d d′
-      kept-kid h j u = h j (λ v. u (under-kid (shape ns) kid v))
+      kept-kid h = kept-above ns tree (self refl) kid h
 
       pub own-kept : {d d′ : ℕ → ℕ} → Kept ns c d d′ → d′ i ≡ d i
       own-kept h = h i (not-under (shape ns) tree kid)

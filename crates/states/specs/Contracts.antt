@@ -18,7 +18,7 @@ use Rattle.tallies.specs.Places.{At}
 use Rattle.tallies.specs.Sought.{Sought}
 use Rattle.tallies.specs.declared.Weight.{Weight}
 use Rattle.states.specs.State.{Part, part, modes, counts}
-use Rattle.states.specs.Stored.{Right, stored}
+use Rattle.states.specs.Stored.{Right, stored, noted}
 use Rattle.states.specs.declared.Picked.{Picked}
 use Rattle.states.specs.declared.Role.{Role}
 use Rattle.states.specs.declared.Sense.the-variants.{Undoing}
@@ -58,12 +58,15 @@ pub record Scene : Type 0 where
 abbrev pub scene : List ℕ → List ℕ → ℕ → Scene
 scene ns t a = record { ns = ns; t = t; a = a }
 
--- the part of node i in it, and whether the counts c under it are right
+-- the part of node i in it, and whether the counts c that a step of it looks at are right, and its own
 abbrev pub part-at : Scene → ℕ → Part
 part-at s i = part (s .ns) (modes (s .t)) i
 
 abbrev pub stored-at : Scene → List ℕ → ℕ → Right
 stored-at s c i = stored (s .ns) (s .a) (modes (s .t)) (counts c) i
+
+abbrev pub noted-at : Scene → List ℕ → ℕ → Right
+noted-at s c i = noted (s .ns) (s .a) (modes (s .t)) (counts c) i
 
 -- how much all compensations of node i by w weigh
 abbrev pub weight-of : Scene → ℕ → Closing → Weight → ℕ
@@ -86,10 +89,10 @@ pub record Chosen (s : Scene) (i : ℕ) (q : Ask) (t′ : List ℕ) (p : Picked)
 -- the counting pass in a role: counts c before and c′ after, answer v
 pub record Counted (s : Scene) (r : Role) (i : ℕ) (c c′ : List ℕ) (v : Sight r) : Type 0 where
   pub seen : v ≡ look r (s .a) (get r (part-at s i))
-  pub right : T (ok r (stored-at s c′ i))
+  pub right : T (ok r (noted-at s c′ i))
   pub kept : Kept (s .ns) i (counts c) (counts c′)
 
--- node i has a step by the event at place k, and the counts c under it are right
+-- node i has a step by the event at place k, and the counts c that it looks at are right
 pub record Ready (s : Scene) (r : Role) (c : List ℕ) (i k : ℕ) : Type 0 where
   pub spot : Spot (s .ns) (s .t) i
   pub right : T (ok r (stored-at s c i))

@@ -7,5 +7,6 @@ pub mod Contracts
 -- Theorems.
 pub mod Rests
 pub mod StateLaws
+pub mod NotedLaws
 pub mod ChildLaws
 pub mod DrawnLaws

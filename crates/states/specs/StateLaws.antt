@@ -8,7 +8,7 @@ use lib.Dec.{eqb}
 use lib.ListN.{length}
 use Rattle.calculus.specs.Term.{hnd, blk, pair, held}
 use Rattle.calculus.specs.Successors.{steps, csteps}
-use Rattle.flow.specs.Nodes.{Kid, Under, under-trans, Tree, Local, descend-node, descend-frame}
+use Rattle.flow.specs.Nodes.{Kid, Under, self, up, under-trans, Tree, Local, descend-node, descend-frame}
 use Rattle.flow.specs.Kinds.{node, shape}
 use Rattle.flow.specs.Draws.{standard, compensable}
 use Rattle.tallies.specs.Capped.{cap}
@@ -20,7 +20,7 @@ use Rattle.states.specs.declared.Course.{Course}
 use Rattle.states.specs.declared.Course.the-variants as course
 use Rattle.states.specs.Standings.{stand, course-of}
 use Rattle.states.specs.State.{Part, nothing, std-of, run-of, build, part}
-use Rattle.states.specs.Stored.{Right, wrong, std-right, run-right, right, own, stored}
+use Rattle.states.specs.Stored.{Right, wrong, together, std-right, run-right, right, own, stored, noted}
 use Rattle.states.specs.Rests.{Twins, Rests, CRests, stand-rests, course-rests}
 
 -- A node looks at its children only -----------------------------------------------------------------------------------------
@@ -44,23 +44,31 @@ module _ (ns : List ℕ) (i : ℕ) where
     run-local (course.Held t) w = λ z. held (e (t .second) (w .other) z .run) (e (t .first) (w .one) z .std Undoing)
     run-local (course.As c) w = λ z. e c w z .run
 
-  module _ (g h : ℕ → Right) (e : (c : ℕ) → Kid (shape ns) i c → g c ≡ h c) where
-    std-right-local : (x : Standing) (s : Sense) → Rests ns i x → std-right x s g ≡ std-right x s h
+  -- the same of counts, where the own ones are looked at (g, h) and where they are not (g′, h′)
+  module _ (g h : ℕ → Right) (e : (c : ℕ) → Kid (shape ns) i c → g c ≡ h c) (g′ h′ : ℕ → Right) (e′ : (c : ℕ) → Kid (shape ns) i c → g′ c ≡ h′ c) where
+    std-right-local : (x : Standing) (s : Sense) → Rests ns i x → std-right x s g g′ ≡ std-right x s h h′
     unfolding std-right
     std-right-local (standing.Event v) s w = refl
     std-right-local (standing.Basic b) s w = refl
     std-right-local (standing.Both o t) s w = λ z. e (t .first) (w .one) z .std s && e (t .second) (w .other) z .std s
     std-right-local (standing.Handler t) s w = λ z. e (t .first) (w .one) z .std s && e (t .second) (w .other) z .std s
     std-right-local (standing.Block c) s w = λ z. e c w z .run
-    std-right-local (standing.As x) s w = λ z. e (x .node) w z .std (x .sense)
+    std-right-local (standing.As x) s w = λ z. e′ (x .node) w z .std (x .sense)
 
-    run-right-local : (x : Course) → CRests ns i x → run-right x g ≡ run-right x h
+    run-right-local : (x : Course) → CRests ns i x → run-right x g g′ ≡ run-right x h h′
     unfolding run-right
     run-right-local (course.Basic b) w = refl
-    run-right-local (course.Pair t) w = λ z. e (t .first) (w .one) z .std Drawn
+    run-right-local (course.Pair t) w = λ z. e′ (t .first) (w .one) z .std Drawn
     run-right-local (course.Both o t) w = λ z. e (t .first) (w .one) z .run && e (t .second) (w .other) z .run
-    run-right-local (course.Held t) w = λ z. e (t .second) (w .other) z .run
-    run-right-local (course.As c) w = λ z. e c w z .run
+    run-right-local (course.Held t) w = λ z. e′ (t .second) (w .other) z .run
+    run-right-local (course.As c) w = λ z. e′ c w z .run
+
+    right-alike : Tree (shape ns) → (m : ℕ) → right (node ns i) m g g′ ≡ right (node ns i) m h h′
+    unfolding right
+    right-alike tree m = λ z. record {
+      std = λ s. std-right-local (stand s (node ns i) m) s (stand-rests ns i tree s m) z;
+      run = run-right-local (course-of (node ns i) m) (course-rests ns i tree m) z;
+    }
 
 module _ (ns : List ℕ) (tree : Tree (shape ns)) where
   build-local : (m : ℕ → ℕ) (i : ℕ) → Local nothing (shape ns) (λ j at. build (node ns j) (m j) at) i
@@ -70,12 +78,9 @@ module _ (ns : List ℕ) (tree : Tree (shape ns)) where
     run = run-local ns i g h e (course-of (node ns i) (m i)) (course-rests ns i tree (m i)) z;
   }
 
-  right-local : (o : ℕ → Right) (m : ℕ → ℕ) (i : ℕ) → Local wrong (shape ns) (λ j at. right (o j) (node ns j) (m j) at) i
-  unfolding right
-  right-local o m i g h e = λ z. record {
-    std = λ s. o i .std s && std-right-local ns i g h e (stand s (node ns i) (m i)) s (stand-rests ns i tree s (m i)) z;
-    run = o i .run && run-right-local ns i g h e (course-of (node ns i) (m i)) (course-rests ns i tree (m i)) z;
-  }
+  right-local : (o : ℕ → Right) (m : ℕ → ℕ) (i : ℕ) → Local wrong (shape ns) (λ j at. right (node ns j) (m j) (λ d. together (o d) (at d)) at) i
+  right-local o m i g h e =
+      right-alike ns i (λ d. together (o d) (g d)) (λ d. together (o d) (h d)) (λ d k z. together (o d) (e d k z)) g h e tree (m i)
 
   -- One node -----------------------------------------------------------------------------------------------------------------
 
@@ -93,15 +98,15 @@ module _ (ns : List ℕ) (tree : Tree (shape ns)) where
     run-part = λ z. part-is z .run
 
   module _ (a : ℕ) (m c : ℕ → ℕ) (i : ℕ) where
-    stored-is : stored ns a m c i ≡ right (own ns a m c i) (node ns i) (m i) (stored ns a m c)
+    stored-is : stored ns a m c i ≡ right (node ns i) (m i) (noted ns a m c) (stored ns a m c)
     unfolding stored
-    stored-is = descend-node wrong (shape ns) tree (λ j at. right (own ns a m c j) (node ns j) (m j) at) i (right-local (own ns a m c) m i)
+    stored-is = descend-node wrong (shape ns) tree (λ j at. right (node ns j) (m j) (λ d. together (own ns a m c d) (at d)) at) i (right-local (own ns a m c) m i)
 
-    pub std-stored : (s : Sense) → stored ns a m c i .std s ≡ (own ns a m c i .std s && std-right (stand s (node ns i) (m i)) s (stored ns a m c))
+    pub std-stored : (s : Sense) → stored ns a m c i .std s ≡ std-right (stand s (node ns i) (m i)) s (noted ns a m c) (stored ns a m c)
     unfolding right
     std-stored s = λ z. stored-is z .std s
 
-    pub run-stored : stored ns a m c i .run ≡ (own ns a m c i .run && run-right (course-of (node ns i) (m i)) (stored ns a m c))
+    pub run-stored : stored ns a m c i .run ≡ run-right (course-of (node ns i) (m i)) (noted ns a m c) (stored ns a m c)
     unfolding right
     run-stored = λ z. stored-is z .run
 
@@ -120,8 +125,22 @@ module _ (ns : List ℕ) (tree : Tree (shape ns)) where
       run = eqb (d z) (cap (length (csteps (e z .run) a)));
     }
 
-    pub stored-frame : (i : ℕ) → ((j : ℕ) → Under (shape ns) i j → m j ≡ m′ j) → ((j : ℕ) → Under (shape ns) i j → c j ≡ c′ j) → stored ns a m c i ≡ stored ns a m′ c′ i
-    unfolding stored
-    stored-frame i e d = descend-frame wrong (shape ns) (λ j at. right (own ns a m c j) (node ns j) (m j) at) (λ j at. right (own ns a m′ c′ j) (node ns j) (m′ j) at)
-        (right-local (own ns a m′ c′) m′) i
-        (λ j u z at. right (own-frame j (part-frame m m′ j (λ k v. e k (under-trans (shape ns) u v))) (d j u) z) (node ns j) (e j u z) at)
+    module _ (i : ℕ) (e : (j : ℕ) → Under (shape ns) i j → m j ≡ m′ j) (d : (j : ℕ) → Under (shape ns) i j → c j ≡ c′ j) where
+      own-under : (j : ℕ) → Under (shape ns) i j → own ns a m c j ≡ own ns a m′ c′ j
+      own-under j u = own-frame j (part-frame m m′ j (λ k v. e k (under-trans (shape ns) u v))) (d j u)
+
+      right-under : (j : ℕ) → Under (shape ns) i j → (at : ℕ → Right)
+          → right (node ns j) (m j) (λ x. together (own ns a m c x) (at x)) at ≡ right (node ns j) (m′ j) (λ x. together (own ns a m′ c′ x) (at x)) at
+      right-under j u at =
+          right-alike ns j (λ x. together (own ns a m c x) (at x)) (λ x. together (own ns a m′ c′ x) (at x))
+          (λ x k z. together (own-under x (up k u) z) (at x)) at at (λ x k. refl) tree (m j)
+          ∙ ap (λ n. right (node ns j) n (λ x. together (own ns a m′ c′ x) (at x)) at) (e j u)
+
+      pub stored-frame : stored ns a m c i ≡ stored ns a m′ c′ i
+      unfolding stored
+      stored-frame = descend-frame wrong (shape ns) (λ j at. right (node ns j) (m j) (λ x. together (own ns a m c x) (at x)) at)
+          (λ j at. right (node ns j) (m′ j) (λ x. together (own ns a m′ c′ x) (at x)) at)
+          (right-local (own ns a m′ c′) m′) i (λ j u z at. right-under j u at z)
+
+      pub noted-frame : noted ns a m c i ≡ noted ns a m′ c′ i
+      noted-frame = λ z. together (own-under i (self refl) z) (stored-frame z)

@@ -1,5 +1,5 @@
--- The counts that a pass over a state leaves in its table: how many steps each live part has by the event a, capped. Only what is
--- live under a node is looked at. Definitions only. Assumes nothing.
+-- The counts that a pass over a state leaves in its table: how many steps a live part has by the event a, capped. Only those that a
+-- step looks at have to be right. Definitions only. Assumes nothing.
 use Prim.Native.Nat.{ℕ}
 use mathlib.Core.Bool.{Bool, true, false, _&&_}
 use mathlib.Core.List.{List}
@@ -19,7 +19,7 @@ use Rattle.states.specs.declared.Course.the-variants as course
 use Rattle.states.specs.Standings.{stand, course-of}
 use Rattle.states.specs.State.{part}
 
--- whether all counts under a node are right, by what it is live as
+-- whether the counts that a step of a node looks at are right, by what it is live as
 pub record Right : Type 0 where
   pub std : Sense → Bool
   pub run : Bool
@@ -27,26 +27,30 @@ pub record Right : Type 0 where
 abbrev pub wrong : Right
 wrong = record { std = λ s. false; run = false }
 
--- the counts of the live parts are right
-unfoldable pub std-right : Standing → Sense → (ℕ → Right) → Bool
-std-right (standing.Event e) s at = true
-std-right (standing.Basic b) s at = true
-std-right (standing.Both o t) s at = at (t .first) .std s && at (t .second) .std s
-std-right (standing.Handler t) s at = at (t .first) .std s && at (t .second) .std s
-std-right (standing.Block c) s at = at c .run
-std-right (standing.As x) s at = at (x .node) .std (x .sense)
+-- both are
+abbrev pub together : Right → Right → Right
+together x y = record { std = λ s. x .std s && y .std s; run = x .run && y .run }
+
+-- Of two live parts, and of the inside of a block, the own count is looked at too (`noted`); of one that is live in place of another
+-- only what is under it (`at`).
+unfoldable pub std-right : Standing → Sense → (ℕ → Right) → (ℕ → Right) → Bool
+std-right (standing.Event e) s noted at = true
+std-right (standing.Basic b) s noted at = true
+std-right (standing.Both o t) s noted at = noted (t .first) .std s && noted (t .second) .std s
+std-right (standing.Handler t) s noted at = noted (t .first) .std s && noted (t .second) .std s
+std-right (standing.Block c) s noted at = noted c .run
+std-right (standing.As x) s noted at = at (x .node) .std (x .sense)
 
 -- the second part of a pair, and what is held, make no step
-unfoldable pub run-right : Course → (ℕ → Right) → Bool
-run-right (course.Basic b) at = true
-run-right (course.Pair t) at = at (t .first) .std Drawn
-run-right (course.Both o t) at = at (t .first) .run && at (t .second) .run
-run-right (course.Held t) at = at (t .second) .run
-run-right (course.As c) at = at c .run
+unfoldable pub run-right : Course → (ℕ → Right) → (ℕ → Right) → Bool
+run-right (course.Basic b) noted at = true
+run-right (course.Pair t) noted at = at (t .first) .std Drawn
+run-right (course.Both o t) noted at = noted (t .first) .run && noted (t .second) .run
+run-right (course.Held t) noted at = at (t .second) .run
+run-right (course.As c) noted at = at c .run
 
--- and so is the node's own
-unfoldable pub right : Right → Node → ℕ → (ℕ → Right) → Right
-right o n m at = record { std = λ s. o .std s && std-right (stand s n m) s at; run = o .run && run-right (course-of n m) at }
+unfoldable pub right : Node → ℕ → (ℕ → Right) → (ℕ → Right) → Right
+right n m noted at = record { std = λ s. std-right (stand s n m) s noted at; run = run-right (course-of n m) noted at }
 
 module _ (ns : List ℕ) (a : ℕ) (m c : ℕ → ℕ) where
   -- the count of node j is that of its part
@@ -56,5 +60,10 @@ module _ (ns : List ℕ) (a : ℕ) (m c : ℕ → ℕ) where
     run = eqb (c j) (cap (length (csteps (part ns m j .run) a)));
   }
 
+  -- what a step of node i looks at
   unfoldable pub stored : ℕ → Right
-  stored i = descend wrong (λ j at. right (own j) (node ns j) (m j) at) i
+  stored i = descend wrong (λ j at. right (node ns j) (m j) (λ d. together (own d) (at d)) at) i
+
+  -- and its own count
+  abbrev pub noted : ℕ → Right
+  noted i = together (own i) (stored i)
