@@ -1,12 +1,10 @@
--- What holds at a node whose child makes a step, whatever it is: its term, its room and its counts from what is left of it, its own
--- count, and how a step of a child is one of the node (`handed`, `handed-by`). Assumes nothing.
+-- What holds at a node whose child makes a step, whatever it is: its term, its room and its counts from what is left of it, and how
+-- a step of a child is one of the node (`handed`, `handed-by`). Assumes nothing.
 use Prim.Native.Nat.{ℕ, _<_}
 use mathlib.Core.Path.{_≡_, sym, _∙_, ap, subst, subst₂}
-use mathlib.Core.Bool.{_&&_}
 use mathlib.Core.List.{List}
-use lib.Dec.{T, eqb→eq}
+use lib.Dec.{T}
 use lib.ListN.{length}
-use Rattle.calculus.specs.Members.{and-left, and-right}
 use Rattle.flow.specs.Kinds.{node, shape}
 use Rattle.flow.specs.Nodes.{Kid, Under, Tree}
 use Rattle.tallies.specs.Capped.{cap}
@@ -14,10 +12,10 @@ use Rattle.tallies.specs.Places.{At}
 use Rattle.states.specs.declared.Role.{Role}
 use Rattle.states.specs.declared.Role.the-variants.{Plain, Running}
 use Rattle.states.specs.State.{Part, part, modes, counts}
-use Rattle.states.specs.Stored.{own, stored}
+use Rattle.states.specs.Stored.{stored, noted}
 use Rattle.states.specs.StateLaws.{std-part, run-part, std-stored, run-stored}
 use Rattle.states.specs.Roles.{get, nexts, many, ok}
-use Rattle.states.specs.Contracts.{Scene, part-at, stored-at, Kept, Sets, Ready}
+use Rattle.states.specs.Contracts.{Scene, part-at, stored-at, noted-at, Kept, Sets, Ready}
 use Rattle.states.specs.ChildLaws.{lower-spot, same-room, kept-set, kept-part, kid-lower, kept-kid, own-kept, same-part, same-stored}
 use Rattle.steps.specs.Turns.{move, Turned, Stance, stance-of, stance-term, stance-right}
 
@@ -28,18 +26,9 @@ module _ (ns : List ℕ) (tree : Tree (shape ns)) (a : ℕ) (m c : ℕ → ℕ) 
   term-is (Plain s) = std-part ns tree m i s
   term-is Running = run-part ns tree m i
 
-  right-is : (r : Role) → ok r (stored ns a m c i) ≡ (ok r (own ns a m c i) && stance-right r (stance-of r (node ns i) (m i)) (stored ns a m c))
+  right-is : (r : Role) → ok r (stored ns a m c i) ≡ stance-right r (stance-of r (node ns i) (m i)) (noted ns a m c) (stored ns a m c)
   right-is (Plain s) = std-stored ns tree a m c i s
   right-is Running = run-stored ns tree a m c i
-
-  own-right : (r : Role) → T (ok r (own ns a m c i)) → c i ≡ many r a (part ns m i)
-  unfolding own
-  own-right (Plain s) t = eqb→eq _ _ t
-  own-right Running t = eqb→eq _ _ t
-
-  -- the count of the node itself
-  pub own-count : (r : Role) → T (ok r (stored ns a m c i)) → c i ≡ many r a (part ns m i)
-  own-count r t = own-right r (and-left (ok r (own ns a m c i)) (stance-right r (stance-of r (node ns i) (m i)) (stored ns a m c)) (subst T (right-is r) t))
 
 -- A step is handed down ------------------------------------------------------------------------------------------------------
 
@@ -54,9 +43,8 @@ module _ {s : Scene} {r : Role} {c : List ℕ} {i k : ℕ} (h : Ready s r c i k)
   pub step-room : k < cap (length (nexts r (stance-term r x (part-at s)) (s .a)))
   step-room = subst (λ z. k < cap (length (nexts r z (s .a)))) term-before (h .room)
 
-  pub parts-right : T (stance-right r x (stored-at s c))
-  parts-right = and-right (ok r (own (s .ns) (s .a) (modes (s .t)) (counts c) i)) (stance-right r x (stored-at s c))
-      (subst T (right-is (s .ns) tree-of (s .a) (modes (s .t)) (counts c) i r ∙ ap (λ z. ok r (own (s .ns) (s .a) (modes (s .t)) (counts c) i) && stance-right r z (stored-at s c)) e) (h .right))
+  pub parts-right : T (stance-right r x (noted-at s c) (stored-at s c))
+  parts-right = subst T (right-is (s .ns) tree-of (s .a) (modes (s .t)) (counts c) i r ∙ ap (λ z. stance-right r z (noted-at s c) (stored-at s c)) e) (h .right)
 
   -- and in modes t″ x′
   pub step-goes : {x′ : Stance r} (t″ : List ℕ) → stance-of r (node (s .ns) i) (modes t″ i) ≡ x′

@@ -39,14 +39,15 @@ use Rattle.states.specs.declared.Picked.{Picked}
 use Rattle.states.specs.Standings.{only, stand, course-of}
 use Rattle.states.specs.State.{Part, std-of, run-of, part, modes, counts}
 use Rattle.states.specs.Stored.{std-right, run-right}
+use Rattle.states.specs.NotedLaws.{own-count, noted-stored}
 use Rattle.states.specs.Rests.{Twins, Rests, CRests, stand-rests, course-rests}
 use Rattle.states.specs.Roles.{get, nexts, many, ok}
-use Rattle.states.specs.Contracts.{Spot, Sets, Scene, scene, part-at, stored-at, weight-of, ask, Chosen, Counted, Ready, Stepped}
+use Rattle.states.specs.Contracts.{Spot, Sets, Scene, scene, part-at, stored-at, noted-at, weight-of, ask, Chosen, Counted, Ready, Stepped}
 use Rattle.states.specs.ChildLaws.{set-sets, sets-none, same-room, kept-set, kid-lower, same-part, spot-down, mode-after, kept-up, beside-part, beside-stored}
 use Rattle.steps.specs.declared.Turn.{Turn}
 use Rattle.steps.specs.Turns.{move, Turned, event-taken, compensating, holding, moved-on, gone, stand-in, course-in, first-mode, second-mode, halves, Forked, in-first, in-second, Stance, stance-of, stance-term}
 use Rattle.steps.specs.AfterLaws.{After, CAfter, stand-after, course-after}
-use Rattle.steps.specs.NodeLaws.{own-count, tree-of, step-room, parts-right, step-goes, handed, handed-by}
+use Rattle.steps.specs.NodeLaws.{tree-of, step-room, parts-right, step-goes, handed, handed-by}
 
 -- Node numbers are small ------------------------------------------------------------------------------------------------------
 
@@ -60,15 +61,21 @@ module _ {s : Scene} {r : Role} {c : List ℕ} {i k : ℕ} (h : Ready s r c i k)
 -- Two live parts -------------------------------------------------------------------------------------------------------------
 
 module _ {s : Scene} {r : Role} {c : List ℕ} {i k : ℕ} (h : Ready s r c i k) {x : Stance r} (e : stance-of r (node (s .ns) i) (modes (s .t) i) ≡ x)
-    {p : Two} (tw : Twins (s .ns) i p) (right : T (ok r (stored-at s c (p .first)) && ok r (stored-at s c (p .second)))) where
-  first-right : T (ok r (stored-at s c (p .first)))
-  first-right = and-left (ok r (stored-at s c (p .first))) (ok r (stored-at s c (p .second))) right
+    {p : Two} (tw : Twins (s .ns) i p) (right : T (ok r (noted-at s c (p .first)) && ok r (noted-at s c (p .second)))) where
+  first-noted : T (ok r (noted-at s c (p .first)))
+  first-noted = and-left (ok r (noted-at s c (p .first))) (ok r (noted-at s c (p .second))) right
 
-  second-right : T (ok r (stored-at s c (p .second)))
-  second-right = and-right (ok r (stored-at s c (p .first))) (ok r (stored-at s c (p .second))) right
+  second-noted : T (ok r (noted-at s c (p .second)))
+  second-noted = and-right (ok r (noted-at s c (p .first))) (ok r (noted-at s c (p .second))) right
 
   pub first-count : counts c (p .first) ≡ many r (s .a) (part-at s (p .first))
-  first-count = own-count (s .ns) (tree-of h e) (s .a) (modes (s .t)) (counts c) (p .first) r first-right
+  first-count = own-count (s .ns) (s .a) (modes (s .t)) (counts c) (p .first) r first-noted
+
+  first-right : T (ok r (stored-at s c (p .first)))
+  first-right = noted-stored (s .ns) (s .a) (modes (s .t)) (counts c) (p .first) r first-noted
+
+  second-right : T (ok r (stored-at s c (p .second)))
+  second-right = noted-stored (s .ns) (s .a) (modes (s .t)) (counts c) (p .second) r second-noted
 
   module _ {m : ℕ} {t′ : List ℕ} (w : Sets (s .t) i m t′) {x′ : Stance r} (e′ : stance-of r (node (s .ns) i) m ≡ x′) where
     to-first : k < counts c (p .first)
@@ -213,7 +220,7 @@ module _ {s : Scene} {c : List ℕ} {i k : ℕ} (h : Ready s Running c i k) {p :
     pub run-small : (p .first < 64) × (p .second < 64)
     run-small = twins-small h run-twins
 
-    both-right : T (stored-at s c (p .first) .run && stored-at s c (p .second) .run)
+    both-right : T (noted-at s c (p .first) .run && noted-at s c (p .second) .run)
     unfolding run-right
     both-right = parts-right h e
 
@@ -256,7 +263,7 @@ module _ {s : Scene} {c : List ℕ} {i k : ℕ} (h : Ready s Running c i k) {p :
     per-step = holdG (counts c (p .second))
 
     second-count : counts c (p .second) ≡ many Running (s .a) (part-at s (p .second))
-    second-count = own-count (s .ns) (tree-of h e) (s .a) (modes (s .t)) (counts c) (p .second) Running (second-right h e (run-twins e) (both-right e))
+    second-count = own-count (s .ns) (s .a) (modes (s .t)) (counts c) (p .second) Running (second-noted h e (run-twins e) (both-right e))
 
     on-same : part (s .ns) (modes t₁) (p .first) ≡ part-at s (p .first)
     on-same = same-part (s .ns) (tree-of h e) (run-twins e .one) w
@@ -342,6 +349,10 @@ module _ {s : Scene} {c : List ℕ} {i k : ℕ} where
       let kid = subst (CRests (s .ns) i) e (course-rests (s .ns) i (tree-of h e) (modes (s .t) i)) in
       handed-by h e Running kid (sets-none refl) e (parts-right h e) (step-room h e) (λ at same u. u)
 
+-- what was counted is right for a step
+counted-right : {s : Scene} {i : ℕ} {v : Sense} {c c′ : List ℕ} {x : View} → Counted s (Plain v) i c c′ x → T (stored-at s c′ i .std v)
+counted-right {s} {i} {v} {c′ = c′} m = noted-stored (s .ns) (s .a) (modes (s .t)) (counts c′) i (Plain v) (m .right)
+
 -- Blocks ---------------------------------------------------------------------------------------------------------------------
 
 module _ {s : Scene} {v : Sense} {c : List ℕ} {i k : ℕ} (h : Ready s (Plain v) c i k) {d : ℕ} (e : stand-in s v i ≡ standing.Block d) where
@@ -366,12 +377,15 @@ module _ {s : Scene} {v : Sense} {c : List ℕ} {i k : ℕ} (h : Ready s (Plain 
   pub block-small : d < 64
   block-small = number-small h block-kid
 
-  block-right : T (stored-at s c d .run)
+  block-noted : T (noted-at s c d .run)
   unfolding std-right
-  block-right = parts-right h e
+  block-noted = parts-right h e
+
+  block-right : T (stored-at s c d .run)
+  block-right = noted-stored (s .ns) (s .a) (modes (s .t)) (counts c) d Running block-noted
 
   block-count : counts c d ≡ many Running (s .a) (part-at s d)
-  block-count = own-count (s .ns) (tree-of h e) (s .a) (modes (s .t)) (counts c) d Running block-right
+  block-count = own-count (s .ns) (s .a) (modes (s .t)) (counts c) d Running block-noted
 
   pub inside-turned : k < counts c d → Turned s c (move (Plain v) i k) (s .t) (move Running d k)
   unfolding std-of
@@ -404,7 +418,7 @@ module _ {s : Scene} {v : Sense} {c : List ℕ} {i k : ℕ} (h : Ready s (Plain 
       unfolding std-of moves
       out-turned m = handed h e (Plain Undoing) block-kid
           (ap (stand v (node (s .ns) i)) (mode-after (s .ns) (tree-of h e) block-kid w t₂ (ch .kept)) ∙ block-after .1)
-          (kept-up (s .ns) (tree-of h e) block-kid w t₂ (ch .kept)) (long ∙ w .long) (m .right)
+          (kept-up (s .ns) (tree-of h e) block-kid w t₂ (ch .kept)) (long ∙ w .long) (counted-right m)
           (blk-rest (s .a) (part-at s d .run) block-count out-left g out-found)
           (λ at beside u. at-blk-second (s .a) (part-at s d .run) block-count out-left g out-found u)
 

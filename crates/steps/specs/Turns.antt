@@ -105,6 +105,6 @@ abbrev pub stance-term : (r : Role) → Stance r → (ℕ → Part) → Term r
 stance-term (Plain s) x at = std-of x s at
 stance-term Running x at = run-of x at
 
-abbrev pub stance-right : (r : Role) → Stance r → (ℕ → Right) → Bool
-stance-right (Plain s) x at = std-right x s at
-stance-right Running x at = run-right x at
+abbrev pub stance-right : (r : Role) → Stance r → (ℕ → Right) → (ℕ → Right) → Bool
+stance-right (Plain s) x noted at = std-right x s noted at
+stance-right Running x noted at = run-right x noted at
