@@ -1,8 +1,9 @@
 -- What holds at a node whose child makes a step, whatever it is: its term, its room and its counts from what is left of it, and how
 -- a step of a child is one of the node (`handed`, `handed-by`). Assumes nothing.
 use Prim.Native.Nat.{ℕ, _<_}
-use mathlib.Core.Path.{_≡_, sym, _∙_, ap, subst, subst₂}
+use mathlib.Core.Path.{_≡_, refl, sym, _∙_, ap, subst, subst₂}
 use mathlib.Core.List.{List}
+use native.Mathlib.Omega.{arith}
 use lib.Dec.{T}
 use lib.ListN.{length}
 use Rattle.flow.specs.Kinds.{node, shape}
@@ -15,9 +16,9 @@ use Rattle.states.specs.State.{Part, part, modes, counts}
 use Rattle.states.specs.Stored.{stored, noted}
 use Rattle.states.specs.StateLaws.{std-part, run-part, std-stored, run-stored}
 use Rattle.states.specs.Roles.{get, nexts, many, ok}
-use Rattle.states.specs.Contracts.{Scene, part-at, stored-at, noted-at, Kept, Sets, Ready}
+use Rattle.states.specs.Contracts.{Scene, scene, part-at, stored-at, noted-at, Kept, Sets, Ready}
 use Rattle.states.specs.ChildLaws.{lower-spot, same-room, kept-set, kept-part, kid-lower, kept-kid, own-kept, same-part, same-stored}
-use Rattle.steps.specs.Turns.{move, Turned, Stance, stance-of, stance-term, stance-right}
+use Rattle.steps.specs.Turns.{Move, move, Turned, Reached, Stance, stance-of, stance-term, stance-right}
 
 -- A node by its role ---------------------------------------------------------------------------------------------------------
 
@@ -83,3 +84,11 @@ module _ {s : Scene} {r : Role} {c : List ℕ} {i k : ℕ} (h : Ready s r c i k)
         (subst (λ z. T (ok q z)) (sym (same-stored (s .ns) tree-of kid w (s .a) c)) good)
         (subst (λ z. l < many q (s .a) z) (sym same) room)
         (λ at beside u. goes at (λ j other free. beside j free ∙ same-part (s .ns) tree-of other w) (subst (λ z. At (nexts q (get q z) (s .a)) l (get q (at g))) same u))
+
+-- A step comes down ----------------------------------------------------------------------------------------------------------
+
+pub reached-self : {s : Scene} {c : List ℕ} {r : Role} {i k : ℕ} → Ready s r c i k → Reached s c (move r i k) (s .t) (move r i k)
+reached-self h = record { low = omega arith; long = refl; ready = h; back = λ t″ w. w }
+
+pub reached-on : {s : Scene} {c : List ℕ} {x y z : Move} {t′ t″ : List ℕ} → Reached s c x t′ y → Turned (scene (s .ns) t′ (s .a)) c y t″ z → length t″ ≡ length t′ → Reached s c x t″ z
+reached-on h w long = record { low = omega (arith, h .low, w .lower); long = long ∙ h .long; ready = w .ready; back = λ u v. h .back u (w .back u v) }

@@ -3,6 +3,8 @@
 use Prim.Native.Nat.{ℕ, _<_, _≤_, _-_}
 use mathlib.Core.Bool.{Bool, true, false}
 use mathlib.Core.List.{List}
+use mathlib.Core.Path.{_≡_}
+use lib.ListN.{length}
 use Rattle.flow.specs.declared.Operator.{Operator}
 use Rattle.flow.specs.declared.Operator.the-variants.{Sequence, Choice, Parallel}
 use Rattle.flow.specs.declared.Two.{Two}
@@ -33,6 +35,13 @@ move r i k = record { role = r; node = i; place = k }
 -- the step x is handed down: from modes t′ on, the step y of a lower node, by the counts c, makes it
 pub record Turned (s : Scene) (c : List ℕ) (x : Move) (t′ : List ℕ) (y : Move) : Type 0 where
   pub lower : y .node < x .node
+  pub ready : Ready (scene (s .ns) t′ (s .a)) (y .role) c (y .node) (y .place)
+  pub back : (t″ : List ℕ) → Stepped (scene (s .ns) t′ (s .a)) (y .role) (y .node) (y .place) t″ → Stepped s (x .role) (x .node) (x .place) t″
+
+-- the step x has come down to y, by being handed down or as it was
+pub record Reached (s : Scene) (c : List ℕ) (x : Move) (t′ : List ℕ) (y : Move) : Type 0 where
+  pub low : y .node ≤ x .node
+  pub long : length t′ ≡ length (s .t)
   pub ready : Ready (scene (s .ns) t′ (s .a)) (y .role) c (y .node) (y .place)
   pub back : (t″ : List ℕ) → Stepped (scene (s .ns) t′ (s .a)) (y .role) (y .node) (y .place) t″ → Stepped s (x .role) (x .node) (x .place) t″
 
