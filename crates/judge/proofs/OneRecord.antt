@@ -31,6 +31,7 @@ use Rattle.states.specs.declared.Sense.the-variants.{Undoing}
 use Rattle.states.specs.declared.Role.{Role}
 use Rattle.states.specs.declared.Role.the-variants.{Plain, Running}
 use Rattle.states.specs.Roles.{Term, get, nexts, many, Sight, look, moves-of}
+use Rattle.states.specs.NotedLaws.{counted-right}
 use Rattle.states.specs.Contracts.{Spot, scene, weight-of, ask, Counted, Ready, Stepped, Chosen}
 use Rattle.judge.specs.Visits.{state, role-next, closing-of, ends-by, onward, Inner, RightCounts, successor-count, SuccessorsCounted, Applied}
 use Rattle.judge.proofs.Numbers.{record-event, record-close, last-close, not-twice}
@@ -93,7 +94,7 @@ module _ (ns t : List ℕ) (r i : ℕ) (e : i ≡ root ns) {role x : Role} (g : 
     counted-event {c} {c′} {v} k =
         let q : Counted (scene ns t r) x (root ns) c c′ v = subst (λ j. Counted (scene ns t r) x j c c′ v) e k in
         subst (λ z. SuccessorsCounted ns z r t c′ (moves-of x v)) (sym g)
-        (record { many = moves-seen x r (at-root ns t) (q .seen) ∙ sym (count-event ns t r x event); right = q .right })
+        (record { many = moves-seen x r (at-root ns t) (q .seen) ∙ sym (count-event ns t r x event); right = counted-right q })
 
     pub step-asked : Spot ns t (root ns) → {c : List ℕ} → RightCounts ns role r t c → {k : ℕ} → k < successor-count ns role r t → Ready (scene ns t r) x c i k
     step-asked spot {c} right {k} h = subst (λ j. Ready (scene ns t r) x c j k) (sym e) (record {
@@ -122,7 +123,7 @@ module _ (ns t : List ℕ) (r i : ℕ) (e : i ≡ root ns) {role : Role} (g : ro
       let q : Counted (scene ns t r) Running (root ns) c c′ v = subst (λ j. Counted (scene ns t r) Running j c c′ v) e k in
       subst (λ z. SuccessorsCounted ns z r t c′ (y .many)) (sym g) (record {
         many = ap (λ (z : Tally). z .many) (tally-by r (at-root ns t .run) (closing-of r) (q .seen) (ey ∙ ap (byW v) cw)) ∙ sym (count-closing ns t r low high);
-        right = q .right;
+        right = counted-right q;
       })
 
   pub closing-asked : w < 3 → Spot ns t (root ns) → {k : ℕ} → k < successor-count ns role r t → Spot ns t i × ((w < 3) × (k < weight-of (scene ns t r) i (closing w) oneG))

@@ -8,9 +8,10 @@ use Rattle.calculus.specs.Members.{and-in, and-left, and-right}
 use Rattle.tallies.specs.Counts.{moves, view, word}
 use Rattle.states.specs.declared.Role.{Role}
 use Rattle.states.specs.declared.Role.the-variants.{Plain, Running}
-use Rattle.states.specs.State.{part}
+use Rattle.states.specs.State.{part, modes, counts}
 use Rattle.states.specs.Stored.{Right, together, own, noted, stored}
-use Rattle.states.specs.Roles.{get, many, look, moves-of, ok}
+use Rattle.states.specs.Roles.{get, many, Sight, look, moves-of, ok}
+use Rattle.states.specs.Contracts.{Scene, stored-at, Counted}
 
 together-in : (r : Role) (x y : Right) → T (ok r x) → T (ok r y) → T (ok r (together x y))
 together-in (Plain s) x y h k = and-in (x .std s) (y .std s) h k
@@ -45,3 +46,7 @@ module _ (ns : List ℕ) (a : ℕ) (m c : ℕ → ℕ) (i : ℕ) where
   -- a count that is the number of steps seen is right
   pub noted-in : (r : Role) → c i ≡ moves-of r (look r a (get r (part ns m i))) → T (ok r (stored ns a m c i)) → T (ok r (noted ns a m c i))
   noted-in r e t = together-in r (own ns a m c i) (stored ns a m c i) (own-right r e) t
+
+-- what was counted is right for a step
+pub counted-right : {s : Scene} {r : Role} {i : ℕ} {c c′ : List ℕ} {v : Sight r} → Counted s r i c c′ v → T (ok r (stored-at s c′ i))
+counted-right {s} {r} {i} {c′ = c′} w = noted-stored (s .ns) (s .a) (modes (s .t)) (counts c′) i r (w .right)

@@ -39,7 +39,7 @@ use Rattle.states.specs.declared.Picked.{Picked}
 use Rattle.states.specs.Standings.{only, stand, course-of}
 use Rattle.states.specs.State.{Part, std-of, run-of, part, modes, counts}
 use Rattle.states.specs.Stored.{std-right, run-right}
-use Rattle.states.specs.NotedLaws.{own-count, noted-stored}
+use Rattle.states.specs.NotedLaws.{own-count, noted-stored, counted-right}
 use Rattle.states.specs.Rests.{Twins, Rests, CRests, stand-rests, course-rests}
 use Rattle.states.specs.Roles.{get, nexts, many, ok}
 use Rattle.states.specs.Contracts.{Spot, Sets, Scene, scene, part-at, stored-at, noted-at, weight-of, ask, Chosen, Counted, Ready, Stepped}
@@ -348,10 +348,6 @@ module _ {s : Scene} {c : List ℕ} {i k : ℕ} where
   as-turned h e =
       let kid = subst (CRests (s .ns) i) e (course-rests (s .ns) i (tree-of h e) (modes (s .t) i)) in
       handed-by h e Running kid (sets-none refl) e (parts-right h e) (step-room h e) (λ at same u. u)
-
--- what was counted is right for a step
-counted-right : {s : Scene} {i : ℕ} {v : Sense} {c c′ : List ℕ} {x : View} → Counted s (Plain v) i c c′ x → T (stored-at s c′ i .std v)
-counted-right {s} {i} {v} {c′ = c′} m = noted-stored (s .ns) (s .a) (modes (s .t)) (counts c′) i (Plain v) (m .right)
 
 -- Blocks ---------------------------------------------------------------------------------------------------------------------
 
