@@ -22,7 +22,7 @@ use Rattle.states.specs.declared.Role.{Role}
 use Rattle.states.specs.declared.Role.the-variants.{Plain, Running}
 use Rattle.judge.specs.declared.Out.{Out}
 use Rattle.judge.specs.declared.Out.the-variants.{Spent}
-use Rattle.judge.specs.Visits.{state, role-next, out-of, onward, stretches, Known, VisitReady, Used, Visited, Tried, Followed, Inner, RightCounts, successor-count, Applied}
+use Rattle.judge.specs.Visits.{state, role-next, out-of, onward, stretches, Known, VisitReady, Used, quest, Visited, Tried, Followed, Inner, RightCounts, successor-count, Applied}
 use Rattle.judge.proofs.Numbers.{first-inner}
 use Rattle.judge.proofs.Stretches.{copy-same, copy-length, tail-is, back-is, front-length, stretches-next, stretches-some, used-same, used-deeper, kept-from, state-same, right-same, used-modes}
 
@@ -67,7 +67,7 @@ unfolding visitB onward
 visit-some s r rs n = refl
 
 module _ (ns rs t : List ℕ) (role : Role) (left : ℕ) where
-  pub visited-spent : left ≡ 0 → Visited ns rs t role left t Spent
+  pub visited-spent : left ≡ 0 → Visited (quest ns rs t role left) t Spent
   unfolding out-of
   visited-spent z = record { out = sym (ap (visitB (records rs) (state ns role t)) z ∙ visit-none (records rs) (state ns role t)); used = used-same (count ns) (length rs) t }
 
@@ -77,10 +77,10 @@ module _ (ns rs t : List ℕ) (role : Role) (left : ℕ) where
         let q : suc (left - 1) ≡ left = omega (arith, some) in
         sym (visit-some (state ns role t) r rs′ (left - 1)) ∙ ap (λ l. visitB (records l) (state ns role t) (suc (left - 1))) (sym e) ∙ ap (visitB (records rs) (state ns role t)) q
 
-    pub visited-last : (o : Out) → length rs ≡ 1 → out-of o ≡ onward (state ns role t) (getD rs 0 0) [] (left - 1) → Visited ns rs t role left t o
+    pub visited-last : (o : Out) → length rs ≡ 1 → out-of o ≡ onward (state ns role t) (getD rs 0 0) [] (left - 1) → Visited (quest ns rs t role left) t o
     visited-last o h e = record { out = e ∙ visit-on (getD rs 0 0) [] (only-one rs h); used = used-same (count ns) (length rs) t }
 
-    pub visited-tried : (o : Out) (t′ : List ℕ) → 1 ≤ length rs → Tried ns rs t role (left - 1) t′ o → Visited ns rs t role left t′ o
+    pub visited-tried : (o : Out) (t′ : List ℕ) → 1 ≤ length rs → Tried (quest ns rs t role (left - 1)) t′ o → Visited (quest ns rs t role left) t′ o
     visited-tried o t′ h e = record { out = e .out ∙ visit-on (getD rs 0 0) (drop 1 rs) (first-rest rs h); used = e .used }
 
 pub last-fits : {ns rs t : List ℕ} {role : Role} → VisitReady ns rs t role → length rs ≡ 1 → Fits (state ns role t) (records (getD rs 0 0 ∷ []))
@@ -222,11 +222,11 @@ module _ {ns rs d : List ℕ} {role : Role} (ready : VisitReady ns rs d role) (t
       pub visit-asked : VisitReady ns rs′ part′ role′
       visit-asked = subst (λ l. VisitReady ns l part′ role′) (sym er) (subst (λ l. VisitReady ns (drop 1 rs) l role′) (sym part′-is) (subst (λ o. VisitReady ns (drop 1 rs) p o) (sym eo) deeper))
 
-      pub followed : (left : ℕ) (o : Out) (q : List ℕ) → Visited ns rs′ part′ role′ left q o
-          → Followed ns rs d role left (putMid (2 * count ns) (length y - 2 * count ns) y q) o k
+      pub followed : (left : ℕ) (o : Out) (q : List ℕ) → Visited (quest ns rs′ part′ role′ left) q o
+          → Followed (quest ns rs d role left) (putMid (2 * count ns) (length y - 2 * count ns) y q) o k
       followed left o q v =
-          let v′ : Visited ns (drop 1 rs) p (role-next role (getD rs 0 0)) left q o
-          = subst (λ l. Visited ns l p (role-next role (getD rs 0 0)) left q o) er (subst (λ l. Visited ns rs′ l (role-next role (getD rs 0 0)) left q o) part′-is (subst (λ z. Visited ns rs′ part′ z left q o) eo v)) in
+          let v′ : Visited (quest ns (drop 1 rs) p (role-next role (getD rs 0 0)) left) q o
+          = subst (λ l. Visited (quest ns l p (role-next role (getD rs 0 0)) left) q o) er (subst (λ l. Visited (quest ns rs′ l (role-next role (getD rs 0 0)) left) q o) part′-is (subst (λ z. Visited (quest ns rs′ part′ z left) q o) eo v)) in
           let l = length-drop 1 rs in
           let j : suc (length (drop 1 rs)) ≡ length rs = omega arith in
           let z : List ℕ = putMid (2 * count ns) (length y - 2 * count ns) y q in

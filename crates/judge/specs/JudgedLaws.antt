@@ -41,7 +41,7 @@ use Rattle.judge.specs.declared.Answer.the-variants.{Refused}
 use Rattle.judge.specs.declared.Out.{Out}
 use Rattle.judge.specs.declared.Out.the-variants.{Spent, Back}
 use Rattle.judge.specs.Judged.{room-wanted, too-short, judge-check, answer-of, unless-refused, judged, cleared, work-after, Searched, Judged}
-use Rattle.judge.specs.Visits.{state, out-of, stretches, VisitReady, Used, Visited}
+use Rattle.judge.specs.Visits.{state, out-of, stretches, VisitReady, Used, quest, Visited}
 use Rattle.judge.specs.Settled.{role-of, LeftWithin, answer-to}
 
 ---- All modes 0 are the drawn flow ----
@@ -283,7 +283,7 @@ module _ (ns rs work : List ℕ) (allowance : ℕ) (fine : judge-check ns rs (le
     visit-ready = subst (VisitReady ns rs t) (sym d) (subst (λ (l : List ℕ). VisitReady ns rs l (role-of ns)) (sym e) (ready ns rs work fine))
 
     -- what the visit leaves there and brings back
-    module _ {t′ : List ℕ} {o : Out} (v : Visited ns rs t role allowance t′ o) where
+    module _ {t′ : List ℕ} {o : Out} (v : Visited (quest ns rs t role allowance) t′ o) where
       out-is : out-of o ≡ visitB (records rs) (state ns (role-of ns) (cleared (count ns) work)) allowance
       out-is = v .out ∙ (λ z. visitB (records rs) (state ns (d z) (e z)) allowance)
 

@@ -80,23 +80,42 @@ pub record Used (n m : ℕ) (t t′ : List ℕ) : Type 0 where
   pub own : take (2 * n) t′ ≡ take (2 * n) t
   pub rest : drop (stretches n m) t′ ≡ drop (stretches n m) t
 
-module _ (ns rs t : List ℕ) (role : Role) (left : ℕ) (t′ : List ℕ) (o : Out) where
+-- where a search stands: the table, the records to come, the stretch of the state and what lies behind it, the root's role, and what is
+-- left of the allowance
+pub record Quest : Type 0 where
+  pub ns : List ℕ
+  pub rs : List ℕ
+  pub t : List ℕ
+  pub role : Role
+  pub left : ℕ
+
+abbrev pub quest : List ℕ → List ℕ → List ℕ → Role → ℕ → Quest
+quest ns rs t role left = record { ns = ns; rs = rs; t = t; role = role; left = left }
+
+abbrev pub state-at : Quest → State
+state-at q = state (q .ns) (q .role) (q .t)
+
+-- what comes of it: the work bytes t′, and the answer o
+module _ (q : Quest) (t′ : List ℕ) (o : Out) where
+  abbrev pub QuestUsed : Type 0
+  QuestUsed = Used (count (q .ns)) (length (q .rs)) (q .t) t′
+
   -- into the state and on
   pub record Visited : Type 0 where
-    pub out : out-of o ≡ visitB (records rs) (state ns role t) left
-    pub used : Used (count ns) (length rs) t t′
+    pub out : out-of o ≡ visitB (records (q .rs)) (state-at q) (q .left)
+    pub used : QuestUsed
 
   -- on from the state
   pub record Tried : Type 0 where
-    pub out : out-of o ≡ onward (state ns role t) (getD rs 0 0) (drop 1 rs) left
-    pub used : Used (count ns) (length rs) t t′
+    pub out : out-of o ≡ onward (state-at q) (getD (q .rs) 0 0) (drop 1 (q .rs)) (q .left)
+    pub used : QuestUsed
 
   -- into the k-th successor and on
   pub record Followed (k : ℕ) : Type 0 where
     pub into : State
-    pub goes : At (next (state ns role t) (record-of (getD rs 0 0))) k into
-    pub out : out-of o ≡ visitB (records (drop 1 rs)) into left
-    pub used : Used (count ns) (length rs) t t′
+    pub goes : At (next (state-at q) (record-of (getD (q .rs) 0 0))) k into
+    pub out : out-of o ≡ visitB (records (drop 1 (q .rs))) into (q .left)
+    pub used : QuestUsed
 
 -- One record ------------------------------------------------------------------------------------------------------------
 

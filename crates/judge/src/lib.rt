@@ -20,7 +20,7 @@ ghost use Rattle.tallies.specs.Formulas.{closing};
 ghost use Rattle.states.specs.Contracts.{Spot};
 ghost use Rattle.judge.specs.Judged.{room-wanted, judge-check, cleared, Searched, Judged};
 ghost use Rattle.judge.specs.Settled.{role-of, LeftWithin, answer-to};
-ghost use Rattle.judge.specs.Visits.{state, role-next, out-of, closing-of, ends-by, onward, VisitReady, Visited, Tried, Followed, Inner, RightCounts, successor-count, SuccessorsCounted, Applied};
+ghost use Rattle.judge.specs.Visits.{state, role-next, out-of, closing-of, ends-by, onward, VisitReady, quest, Visited, Tried, Followed, Inner, RightCounts, successor-count, SuccessorsCounted, Applied};
 
 // How far the records were followed, and how many states were entered.
 pub struct Reach {
@@ -194,7 +194,7 @@ fn finish(ns: &[u16], t: &[u8], number: u16, role: Role, left: u32) -> Out
 // Into this state, if the allowance is not used up, and on from it.
 fn visit(ns: &[u16], rs: &[u16], work: &mut [u8], role: Role, left: u32) -> Out
     requires { ⌜ VisitReady (now ns) (now rs) (now work) role ⌝ }
-    ensures { λ r. ⌜ Visited (now (ns .entry)) (now (rs .entry)) (now (work .entry)) role left (now (work .exit)) r ⌝ }
+    ensures { λ r. ⌜ Visited (quest (now (ns .entry)) (now (rs .entry)) (now (work .entry)) role left) (now (work .exit)) r ⌝ }
 {
     if left == 0 {
         return Out::Spent;
@@ -218,7 +218,7 @@ fn further(far: u32, below: u32) -> u32
 fn visit_each(ns: &[u16], rs: &[u16], work: &mut [u8], role: Role, left: u32) -> Out
     requires { ⌜ VisitReady (now ns) (now rs) (now work) role ⌝ }
     requires { ⌜ (2 ≤ length (now rs)) × (left < most) ⌝ }
-    ensures { λ r. ⌜ Tried (now (ns .entry)) (now (rs .entry)) (now (work .entry)) role left (now (work .exit)) r ⌝ }
+    ensures { λ r. ⌜ Tried (quest (now (ns .entry)) (now (rs .entry)) (now (work .entry)) role left) (now (work .exit)) r ⌝ }
 {
     let mut c = [0u32; 64];
     let many = successors(ns, work, rs[0], &mut c, role);
@@ -278,7 +278,7 @@ fn follow(
     requires { ⌜ 2 ≤ length (now rs) ⌝ }
     requires { ⌜ RightCounts (now ns) role (getD (now rs) 0 0) (now work) (now c) ⌝ }
     requires { ⌜ k < successor-count (now ns) role (getD (now rs) 0 0) (now work) ⌝ }
-    ensures { λ r. ⌜ Followed (now (ns .entry)) (now (rs .entry)) (now (work .entry)) role left (now (work .exit)) r k ⌝ }
+    ensures { λ r. ⌜ Followed (quest (now (ns .entry)) (now (rs .entry)) (now (work .entry)) role left) (now (work .exit)) r k ⌝ }
 {
     let n = ns.len() / 3;
     copy_down(work, n);
