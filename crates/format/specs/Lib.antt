@@ -1,9 +1,12 @@
 -- Definitions, in the order a reader needs them.
 pub mod Format
+pub mod Limits
+pub mod Contents
+pub mod Told
+-- Definitions that need not be believed.
 pub mod Plan
 pub mod Sections
-pub mod Contents
-pub mod Limits
+pub mod ContentChecks
 pub mod Items
 -- Theorems on the way to the code.
 pub mod Plans

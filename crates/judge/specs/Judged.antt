@@ -15,8 +15,9 @@ use Rattle.flow.specs.declared.Check.{Check}
 use Rattle.flow.specs.declared.Check.the-variants.{Fine}
 use Rattle.flow.specs.declared.Check.the-variants as check
 use Rattle.flow.specs.Records.{records}
-use Rattle.flow.specs.Refusals.{count, ground, first, Round, lone, grounds, table-order, records-order}
-use Rattle.flow.specs.Draws.{flow-of}
+use Rattle.flow.specs.Refusals.{count, ground, Round, lone, table-order, records-order}
+use Rattle.flow.specs.Checks.{first, grounds}
+use Rattle.flow.specs.Drawn.{flow-of}
 use Rattle.judge.specs.declared.Answer.{Answer}
 use Rattle.judge.specs.declared.Answer.the-variants.{Accepted, Rejected, Undecided, Refused}
 

@@ -18,9 +18,11 @@ use Rattle.flow.specs.declared.Check.{Check}
 use Rattle.flow.specs.declared.Check.the-variants.{Fine}
 use Rattle.flow.specs.declared.Check.the-variants as check
 use Rattle.flow.specs.Records.{record-of, records}
-use Rattle.flow.specs.Refusals.{root, table-check, records-check}
+use Rattle.flow.specs.Refusals.{root}
+use Rattle.flow.specs.Checks.{table-check, records-check}
 use Rattle.flow.specs.Earliest.{Earliest, Nowhere}
-use Rattle.flow.specs.Draws.{Draws, flow-of}
+use Rattle.flow.specs.Draws.{Draws}
+use Rattle.flow.specs.Drawn.{flow-of}
 use Rattle.flow.specs.OneFlow.{flow-drawn, flow-only}
 use Rattle.judge.specs.declared.Answer.{Answer}
 use Rattle.judge.specs.Judged.{VerdictWord, Told, told, verdict, refusal, room-wanted, judge-order, judge-check, answer-of, judged, cleared, work-after, Judged}

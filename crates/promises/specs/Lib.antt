@@ -13,6 +13,7 @@ pub mod FileExact
 pub mod Reader
 pub mod ContentRefusals
 pub mod ReaderRefusals
+pub mod Reads
 pub mod Cuts
 pub mod Collide
 pub mod Worked

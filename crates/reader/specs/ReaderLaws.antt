@@ -1,5 +1,5 @@
 -- What the reader answers by the parts of `reading`, and the ways of a reading. Assumes nothing.
-use Prim.Native.Nat.{ℕ, _+_, _*_, _/_, _≤_, _<_}
+use Prim.Native.Nat.{ℕ, _*_, _/_, _≤_, _<_}
 use mathlib.Core.Bool.{Bool, true, false, _||_, cond}
 use mathlib.Core.List.{List}
 use mathlib.Core.Logic.{_⊎_, inl, inr}
@@ -11,11 +11,11 @@ use lib.ListN.{length}
 use Rattle.flow.specs.declared.Refusal.{Refusal}
 use Rattle.flow.specs.declared.Check.{Check}
 use Rattle.flow.specs.declared.Check.the-variants as check
-use Rattle.flow.specs.Refusals.{first}
+use Rattle.flow.specs.Checks.{first}
 use Rattle.format.specs.Format.{File}
 use Rattle.format.specs.Plan.{Ran, got, bad, run}
-use Rattle.format.specs.Sections.{node-count, record-count, layout}
-use Rattle.format.specs.Contents.{grounds-of, content-check}
+use Rattle.format.specs.Sections.{node-count, layout}
+use Rattle.format.specs.ContentChecks.{grounds-of, content-check}
 use Rattle.format.specs.Items.{refusal-of, at-front, numbers-at}
 use Rattle.format.specs.ItemLaws.{le-or-lt}
 use Rattle.format.specs.SectionLaws.{section-there}
