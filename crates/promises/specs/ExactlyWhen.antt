@@ -121,6 +121,10 @@ pub table-exactly : (ns : List ℕ) (r : Refusal) → (table-check ns ≡ Refuse
 unfolding table-check
 table-exactly ns r = earliest-exactly (table-order ns) r
 
+pub table-passes-exactly : (ns : List ℕ) → (table-check ns ≡ Fine) ↔ Nowhere (table-order ns)
+unfolding table-check
+table-passes-exactly ns = nowhere-exactly (table-order ns)
+
 -- 10 to 13
 pub records-exactly : (ns rs : List ℕ) (r : Refusal) → (records-check ns rs ≡ Refused r) ↔ Earliest r (records-order ns rs)
 unfolding records-check

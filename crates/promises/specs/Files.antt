@@ -32,6 +32,7 @@ use Rattle.reader.specs.Faults.{Refuses}
 use Rattle.reader.specs.ReaderLaws.{read-not-refused}
 use Rattle.judge.specs.Judged.{VerdictWord, Told, told, verdict, refusal, room-wanted, judge-check, judged}
 use Rattle.program.specs.Program.{states-allowed, work-lent, answered, answer-of-file}
+use Rattle.promises.specs.Stated.{Rejection}
 use Rattle.promises.specs.ExactlyWhen.{nowhere-exactly, passes-exactly}
 use Rattle.promises.specs.Verdicts.{records-decide}
 use Rattle.promises.specs.Demands as demand
@@ -227,12 +228,8 @@ module _ (s : List ℕ) (f : File) (readable : Readable s 192 256 f) where
       moves (λ (t : Told). t .word ≡ VerdictWord.accepted → t ≡ verdict VerdictWord.accepted (length (f .records)) entered)
       (demand.accepted-is (f .nodes) (f .records) work-lent states-allowed not-refused)
 
-  -- "the longest beginning of the records, in records, that some run follows"
-  abbrev Longest : ℕ → Type 0
-  Longest place = Follows flow batch place × ((n : ℕ) → Follows flow batch n → n ≤ place)
-
   -- "rejected: place = the longest beginning ..; count"
-  pub file-rejected-is : answer .word ≡ VerdictWord.rejected → Longest (answer .place) × (answer .count ≡ entered)
+  pub file-rejected-is : answer .word ≡ VerdictWord.rejected → Rejection flow batch (answer .place) (answer .count)
   file-rejected-is =
-      moves (λ (t : Told). t .word ≡ VerdictWord.rejected → Longest (t .place) × (t .count ≡ entered))
-      (λ e. let q = demand.rejected-is (f .nodes) (f .records) work-lent states-allowed not-refused e in ((q .follows, q .longest), q .counted))
+      moves (λ (t : Told). t .word ≡ VerdictWord.rejected → Rejection flow batch (t .place) (t .count))
+      (demand.rejected-is (f .nodes) (f .records) work-lent states-allowed not-refused)

@@ -1,7 +1,10 @@
+-- Definitions that the theorems are stated with.
+pub mod Plain
+pub mod Stated
+pub mod FileItems
 -- Theorems about the contracts of the crates below.
 -- Tables and the judge.
 pub mod ExactlyWhen
-pub mod Plain
 pub mod PlainRows
 pub mod Verdicts
 pub mod Demands

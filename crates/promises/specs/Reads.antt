@@ -19,6 +19,7 @@ use Rattle.reader.specs.declared.Reading.the-variants.{Read, Refused}
 use Rattle.reader.specs.Report.{reported, counts-of, read-report, refused-report}
 use Rattle.reader.specs.Faults.{NamesFault, Refuses, Readable}
 use Rattle.reader.specs.Reading.{Outcome, reading, ReadAs}
+use Rattle.reader.specs.ReaderLaws.{read-not-refused}
 use Rattle.promises.specs.FileExact.{names-stand, number-bytes-length}
 use Rattle.promises.specs.Reader.{readable-read, read-readable, read-exactly, scanned, names-scanned}
 use Rattle.promises.specs.ReaderRefusals.{names-refused, names-fault, refuses-refused, refused-refuses, refused-when}
@@ -32,6 +33,11 @@ read-or-refused s b nr rr = by (reading s nr rr .answer) refl
     by : (a : Reading) → reading s nr rr .answer ≡ a → ((f : File) × Readable s nr rr f) ⊎ ((k : ℕ) × (p : ℕ) × Refuses s nr rr k p)
     by (Read c) e = let w = read-readable s b nr rr c e in inl (w .0, w .1)
     by (Refused r) e = inr (r .number, r .place, refused-refuses s b nr rr r e)
+
+-- and not both
+pub readable-not-refused : (s : List ℕ) {nr rr k p : ℕ} {f : File} → Readable s nr rr f → Refuses s nr rr k p → ⊥
+readable-not-refused s {nr} {rr} {f} x y =
+    read-not-refused (ap (λ (o : Outcome). o .answer) (sym (readable-read s nr rr f x) ∙ refuses-refused s nr rr y))
 
 module _ {s nodes records nodes′ records′ : List ℕ} {r : Reading} (bytes : Bytes s) (ensured : ReadAs s nodes records nodes′ records′ r) where
   -- a refusal is reported exactly when one of its ways holds
