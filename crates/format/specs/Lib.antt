@@ -8,6 +8,7 @@ pub mod Plan
 pub mod Sections
 pub mod ContentChecks
 pub mod Items
+pub mod There
 -- Theorems on the way to the code.
 pub mod Plans
 pub mod ItemLaws
