@@ -11,10 +11,12 @@ use lib.Seq.{getD-set-same, getD-set-other}
 use borrow.Author.Tests.{leb-false, eqb-true, eqb-false}
 use Rattle.flow.specs.Tests.{is-false, neither-one, neither-two, then-false}
 use Rattle.flow.specs.Kinds.{one-of, two-of}
-use Rattle.flow.specs.Refusals.{has-one, has-two, not-lower, wrong-sort, child-taken, taken, is-child, count, refused, first, unknown-kind, wrong-field, node-grounds, nobodys-child, child-grounds}
+use Rattle.flow.specs.Refusals.{has-one, has-two, not-lower, wrong-sort, child-taken, taken, is-child, count, unknown-kind, wrong-field, node-grounds, nobodys-child, child-grounds}
+use Rattle.flow.specs.Checks.{refused, first}
 use Rattle.flow.specs.declared.Check.the-variants.{Fine}
 use Rattle.flow.specs.FirstRefusal.{None, more, single-held, single-passed}
 use Rattle.flow.specs.Forms.{Marks}
+pub use Rattle.flow.specs.Fine.{FineNode}
 
 module _ (ns : List ℕ) (i : ℕ) where
   pub lower-one : not-lower ns i ≡ false → T (has-one ns i) → one-of ns i < i
@@ -89,14 +91,6 @@ module _ (ns : List ℕ) (m : List Bool) (marks : Marks ns (count ns) m) (i : �
 pub marks-none : (ns : List ℕ) → Marks ns 0 (replicate 64 false)
 unfolding taken
 marks-none ns = record { size = refl; each = λ c h. getD-replicate 64 c false false h }
-
--- none of 4 to 8
-pub record FineNode (ns : List ℕ) (i : ℕ) : Type 0 where
-  pub known : unknown-kind ns i ≡ false
-  pub fields : wrong-field ns i ≡ false
-  pub lower : not-lower ns i ≡ false
-  pub sorts : wrong-sort ns i ≡ false
-  pub free : child-taken ns i ≡ false
 
 pub fine-node : (ns : List ℕ) (i : ℕ) → None (node-grounds ns i) → FineNode ns i
 unfolding node-grounds

@@ -11,15 +11,10 @@ use lib.Seq.{drop-cons}
 use Rattle.flow.specs.declared.Check.the-variants.{Fine}
 use Rattle.flow.specs.Kinds.{node, is-standard}
 use Rattle.flow.specs.Records.{is-closing-number}
-use Rattle.flow.specs.Refusals.{root, closed, after-closings, closings-wanted, wrong-closings, closing-grounds, closings-check, refused}
+use Rattle.flow.specs.Refusals.{root, closed, after-closings, closings-wanted, wrong-closings}
+use Rattle.flow.specs.Checks.{closings-check, refused}
 use Rattle.flow.specs.FirstRefusal.{single-held, single-passed}
-
--- i records are passed, and `left` closings of the wanted ones are to come
-pub record Passed (rs : List ℕ) (wanted i left : ℕ) : Type 0 where
-  pub within : i ≤ length rs
-  pub some : 1 ≤ left
-  pub closes : closed (drop i rs) left ≡ closed rs wanted
-  pub place : i + after-closings (drop i rs) left ≡ after-closings rs wanted
+pub use Rattle.flow.specs.Forms.{Passed}
 
 -- what one record is to the closings to come
 module _ (r : ℕ) (rs : List ℕ) where
@@ -132,11 +127,11 @@ module _ (rs : List ℕ) (wanted : ℕ) where
 -- the check, by whether the records close as the root needs
 module _ (ns rs : List ℕ) where
   pub closings-fine : closed rs (closings-wanted ns) ≡ true → closings-check ns rs ≡ Fine
-  unfolding closings-check closing-grounds wrong-closings
+  unfolding closings-check wrong-closings
   closings-fine e = single-passed 13 (after-closings rs (closings-wanted ns)) (wrong-closings ns rs) (ap not e)
 
   pub closings-refused : (place : ℕ) → closed rs (closings-wanted ns) ≡ false → place ≡ after-closings rs (closings-wanted ns) → closings-check ns rs ≡ refused 13 place
-  unfolding closings-check closing-grounds wrong-closings
+  unfolding closings-check wrong-closings
   closings-refused place e q = single-held 13 (after-closings rs (closings-wanted ns)) (wrong-closings ns rs) (ap not e) ∙ ap (refused 13) (sym q)
 
 pub wanted-some : (ns : List ℕ) → 1 ≤ closings-wanted ns

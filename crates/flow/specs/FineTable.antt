@@ -1,6 +1,6 @@
 -- What is known of a table that is not refused: how many nodes it has, that children are lower and of the right sort, that each
 -- node but the last is a child exactly once; so the table is a tree. Assumes nothing.
-use Prim.Native.Nat.{ℕ, zero, suc, _+_, _-_, _*_, _%_, _<_, _≤_}
+use Prim.Native.Nat.{ℕ, zero, suc, _+_, _-_, _%_, _<_, _≤_}
 use mathlib.Core.Path.{_≡_, refl, sym, ap, _∙_, subst}
 use mathlib.Core.Bool.{Bool, true, false, not, xor, _&&_, _||_}
 use mathlib.Core.List.{List}
@@ -15,26 +15,20 @@ use Rattle.flow.specs.Nodes.{Kid, kid1, kid2, Tree}
 use Rattle.flow.specs.declared.Node.{Node}
 use Rattle.flow.specs.declared.Node.the-variants.{Unknown}
 use Rattle.flow.specs.Kinds.{node-of, form, node, one-of, two-of, shape, is-standard}
-use Rattle.flow.specs.Refusals.{count, has-one, has-two, no-nodes, not-whole, too-many-nodes, wrong-sort, child-taken, nobodys-child, is-child, taken, table-check, table-grounds, nodes-grounds, node-grounds, child-grounds, each}
+use Rattle.flow.specs.Refusals.{count, has-one, has-two, no-nodes, not-whole, too-many-nodes, wrong-sort, child-taken, nobodys-child, is-child, taken, node-grounds, child-grounds, table-order}
+use Rattle.flow.specs.Checks.{each, grounds, table-check}
 use Rattle.flow.specs.Tests.{is-false, not-both, neither-one, neither-two, then-false, same-of-xor}
 use Rattle.flow.specs.FirstRefusal.{None, more, fine-exactly, none-append, none-each}
-use Rattle.flow.specs.Children.{FineNode, fine-node, lower-one, lower-two}
-
--- none of 1 to 9
-pub record FineTable (ns : List ℕ) : Type 0 where
-  pub some : 1 ≤ count ns
-  pub few : count ns ≤ 64
-  pub whole : length ns ≡ 3 * count ns
-  pub node : (i : ℕ) → i < count ns → FineNode ns i
-  pub child : (i : ℕ) → i + 1 < count ns → nobodys-child ns i ≡ false
+use Rattle.flow.specs.Children.{fine-node, lower-one, lower-two}
+pub use Rattle.flow.specs.Fine.{FineTable}
 
 module _ (ns : List ℕ) where
   pub fine-child : (i : ℕ) → None (child-grounds ns i) → nobodys-child ns i ≡ false
   unfolding child-grounds
   fine-child i (more t n) = is-false (nobodys-child ns i) t
 
-  parts-fine : None (table-grounds ns) → FineTable ns
-  unfolding table-grounds nodes-grounds no-nodes not-whole too-many-nodes
+  parts-fine : None (grounds (table-order ns)) → FineTable ns
+  unfolding no-nodes not-whole too-many-nodes
   parts-fine (more a (more b (more c n))) =
       let m = none-append (each (node-grounds ns) 0 (count ns)) (each (child-grounds ns) 0 (count ns - 1)) n in
       let na = eqb-false (length ns) 0 (is-false (no-nodes ns) a) in
@@ -50,7 +44,7 @@ module _ (ns : List ℕ) where
 
   pub fine-table : table-check ns ≡ Fine → FineTable ns
   unfolding table-check
-  fine-table e = parts-fine (fine-exactly (table-grounds ns) .0 e)
+  fine-table e = parts-fine (fine-exactly (grounds (table-order ns)) .0 e)
 
 ---- Children ----
 

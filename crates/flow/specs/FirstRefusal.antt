@@ -16,7 +16,8 @@ use Rattle.flow.specs.Tests.{is-true, is-false}
 use Rattle.flow.specs.declared.Refusal.{Refusal}
 use Rattle.flow.specs.declared.Check.{Check}
 use Rattle.flow.specs.declared.Check.the-variants.{Fine, Refused}
-use Rattle.flow.specs.Refusals.{Ground, ground, refused, or-else-check, answer, first, each, Round, lone, sweep, grounds, most-records, no-records, too-many-records, records-check, records-grounds, values-check, values-grounds, closings-check, closing-grounds}
+use Rattle.flow.specs.Refusals.{Ground, ground, Round, lone, sweep, most-records, no-records, too-many-records, values-order, closing-order}
+use Rattle.flow.specs.Checks.{refused, or-else-check, answer, first, each, grounds, records-check, values-check, closings-check}
 use Rattle.flow.specs.Earliest.{Nowhere, end, not-lone, not-sweep}
 pub use Rattle.flow.specs.Earliest.{First, here, later, None, none, more}
 
@@ -180,11 +181,11 @@ both-fine Fine b e = (refl, e)
 both-fine (Refused r) b e = absurd (subst is-fine (sym e) tt)
 
 pub records-parts : (ns rs : List ℕ) → no-records rs ≡ false → too-many-records rs ≡ false → records-check ns rs ≡ or-else-check (values-check rs) (closings-check ns rs)
-unfolding records-check records-grounds values-check values-grounds closings-check closing-grounds
+unfolding records-check values-check closings-check
 records-parts ns rs a b =
     first-passed (ground 10 0 (no-records rs)) _ a
     ∙ first-passed (ground 11 0 (too-many-records rs)) _ b
-    ∙ first-append (values-grounds rs) (closing-grounds ns rs)
+    ∙ first-append (grounds (values-order rs)) (grounds (closing-order ns rs))
 
 -- some records, and not too many: 10 and 11 do not hold
 pub some-records : (ns rs : List ℕ) → 1 ≤ length rs → length rs ≤ most-records → records-check ns rs ≡ or-else-check (values-check rs) (closings-check ns rs)

@@ -1,12 +1,12 @@
--- What the small functions of the checks go by: what is asked of a node without children and of one with them, and what the marks
--- of taken children say. Definitions only. Assumes nothing.
-use Prim.Native.Nat.{ℕ, _<_}
+-- What the small functions of the checks go by: what is asked of a node without children and of one with them, what the marks of
+-- taken children say, and what is known of the closings while the records are gone through. Definitions only. Assumes nothing.
+use Prim.Native.Nat.{ℕ, _+_, _<_, _≤_}
 use mathlib.Core.Path.{_≡_}
 use mathlib.Core.Bool.{Bool, true, false}
 use mathlib.Core.List.{List}
-use lib.ListN.{length, getD}
+use lib.ListN.{length, getD, drop}
 use Rattle.flow.specs.declared.Form.{Form}
-use Rattle.flow.specs.Refusals.{taken}
+use Rattle.flow.specs.Refusals.{taken, closed, after-closings}
 
 -- of the kinds without children, and of those with them
 abbrev pub leaf-form : Bool → Bool → Form
@@ -19,3 +19,10 @@ branch-form standard kids inner = record { known = true; standard = standard; ev
 pub record Marks (ns : List ℕ) (i : ℕ) (marks : List Bool) : Type 0 where
   pub size : length marks ≡ 64
   pub each : (c : ℕ) → c < 64 → getD marks c false ≡ taken ns i c
+
+-- i records are passed, and `left` closings of the wanted ones are to come
+pub record Passed (rs : List ℕ) (wanted i left : ℕ) : Type 0 where
+  pub within : i ≤ length rs
+  pub some : 1 ≤ left
+  pub closes : closed (drop i rs) left ≡ closed rs wanted
+  pub place : i + after-closings (drop i rs) left ≡ after-closings rs wanted

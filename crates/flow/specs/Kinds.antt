@@ -1,10 +1,11 @@
--- The sixteen kinds of 01, "Flow and records": what a node's three numbers are, in the calculus's words, and what is asked of
--- its fields and children. Definitions only. Assumes nothing.
+-- The sixteen kinds of 01, "Flow and records": what a node's three numbers are, in the calculus's words; what is asked of its fields
+-- and children; and the calculus's term for each of these words. Definitions only. Assumes nothing.
 use Prim.Native.Nat.{ℕ, _+_, _*_}
 use mathlib.Core.Bool.{Bool, true, false, not}
 use mathlib.Core.List.{List, [], _∷_}
 use lib.Dec.{eqb}
 use lib.ListN.{getD}
+use Rattle.calculus.specs.Term.{Std, Cmp, skip, throw, yield, seq, alt, par, cseq, calt, cpar, skipp, throww, yieldd}
 use Rattle.flow.specs.declared.Simple.{Simple}
 use Rattle.flow.specs.declared.Simple.the-variants.{Skip, Throw, Yield}
 use Rattle.flow.specs.declared.Operator.{Operator}
@@ -13,7 +14,7 @@ use Rattle.flow.specs.declared.Two.{Two}
 use Rattle.flow.specs.declared.Node.{Node}
 use Rattle.flow.specs.declared.Node.the-variants.{Event, Basic, Standard, Handler, Block, Pair, Compensable, Paired, Unknown}
 use Rattle.flow.specs.declared.Form.{Form}
-use Rattle.flow.specs.Nodes.{Shape}
+use Rattle.flow.specs.Shapes.{Shape}
 
 abbrev pub two : ℕ → ℕ → Two
 two first second = record { first = first; second = second }
@@ -75,3 +76,26 @@ module _ (ns : List ℕ) where
 
   abbrev pub shape : Shape
   shape = record { has1 = λ i. not (eqb (form (node i) .kids) 0); has2 = λ i. eqb (form (node i) .kids) 2; one = one-of; two = two-of }
+
+---- The terms ----
+
+-- of a basic part and of an operator, by sort
+abbrev pub basic : Simple → Std
+basic Skip = skip
+basic Throw = throw
+basic Yield = yield
+
+abbrev pub paired : Simple → Cmp
+paired Skip = skipp
+paired Throw = throww
+paired Yield = yieldd
+
+abbrev pub standard : Operator → Std → Std → Std
+standard Sequence p q = seq p q
+standard Choice p q = alt p q
+standard Parallel p q = par p q
+
+abbrev pub compensable : Operator → Cmp → Cmp → Cmp
+compensable Sequence pp qq = cseq pp qq
+compensable Choice pp qq = calt pp qq
+compensable Parallel pp qq = cpar pp qq

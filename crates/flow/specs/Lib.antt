@@ -1,11 +1,16 @@
 -- Definitions, in the order a reader needs them.
-pub mod Nodes
+pub mod Shapes
 pub mod Kinds
 pub mod Records
 pub mod Refusals
 pub mod Earliest
-pub mod Forms
 pub mod Draws
+-- Definitions that need not be believed.
+pub mod Nodes
+pub mod Drawn
+pub mod Checks
+pub mod Forms
+pub mod Fine
 -- Theorems.
 pub mod Tests
 pub mod EachKind

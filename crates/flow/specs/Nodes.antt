@@ -1,37 +1,27 @@
 -- What is read off a table by going down from a node, and what it depends on. What a tree is, and that the parts under two children
 -- are disjoint. Which tables are trees is in FineTable. Assumes nothing.
 use Prim.Native.Nat.{ℕ, zero, suc, _<_, _≤_}
-use mathlib.Core.Path.{_≡_, refl, sym, _∙_, ap, ap₂, subst}
-use mathlib.Core.Bool.{Bool, true, false, not, _&&_, cond}
+use mathlib.Core.Path.{_≡_, refl, sym, _∙_, subst}
+use mathlib.Core.Bool.{Bool, true, false, cond}
 use mathlib.Core.Logic.{_⊎_, inl, inr, _≢_}
 use native.Mathlib.Omega.{arith}
 use lib.Dec.{T, ltb, ltb→lt, lt→ltb}
-
--- which nodes have a first and a second child, and which these are
-pub record Shape : Type 0 where
-  pub has1 : ℕ → Bool
-  pub has2 : ℕ → Bool
-  pub one : ℕ → ℕ
-  pub two : ℕ → ℕ
+pub use Rattle.flow.specs.Shapes.{Shape, Kid, kid1, kid2}
 
 module _ (s : Shape) where
-  pub data Kid : ℕ → ℕ → Type 0 where
-    kid1 : {i c : ℕ} → T (s .has1 i) → c ≡ s .one i → Kid i c
-    kid2 : {i c : ℕ} → T (s .has2 i) → c ≡ s .two i → Kid i c
-
   -- j is i or under it
   pub data Under (i : ℕ) : ℕ → Type 0 where
     self : {j : ℕ} → j ≡ i → Under i j
-    up : {p j : ℕ} → Kid p j → Under i p → Under i j
+    up : {p j : ℕ} → Kid s p j → Under i p → Under i j
 
   -- what checks 1 to 9 give
   pub record Tree : Type 0 where
-    pub lower : (i c : ℕ) → Kid i c → c < i
-    pub once : (i j c : ℕ) → Kid i c → Kid j c → i ≡ j
+    pub lower : (i c : ℕ) → Kid s i c → c < i
+    pub once : (i j c : ℕ) → Kid s i c → Kid s j c → i ≡ j
     pub apart : (i : ℕ) → T (s .has1 i) → T (s .has2 i) → s .one i ≢ s .two i
 
-  pub under-kid : {i c j : ℕ} → Kid i c → Under c j → Under i j
-  under-kid {i} k (self e) = up (subst (Kid i) (sym e) k) (self refl)
+  pub under-kid : {i c j : ℕ} → Kid s i c → Under c j → Under i j
+  under-kid {i} k (self e) = up (subst (Kid s i) (sym e) k) (self refl)
   under-kid k (up k′ u) = up k′ (under-kid k u)
 
   pub under-trans : {i j k : ℕ} → Under i j → Under j k → Under i k
@@ -49,7 +39,7 @@ module _ (s : Shape) where
     linear {c} (up k u) (self e) = inl (subst (Under c) e (up k u))
     linear {d} (up {p} {j} k u) (up {p = q} k′ u′) = linear u (subst (Under d) (tree .once q p j k′ k) u′)
 
-    beside-free : {i c d : ℕ} → Kid i c → Kid i d → c ≢ d → Under c d → ⊥
+    beside-free : {i c d : ℕ} → Kid s i c → Kid s i d → c ≢ d → Under c d → ⊥
     beside-free k k′ n (self e) = n (sym e)
     beside-free {i} {c} {d} k k′ n (up {p} h u) =
         let e : p ≡ i = tree .once p i d h k′ in
@@ -64,7 +54,7 @@ module _ (s : Shape) where
         by (inr x) = beside-free (kid2 b refl) (kid1 a refl) (λ e. tree .apart i a b (sym e)) x
 
     -- the node itself is not under its child
-    pub not-under : {i c : ℕ} → Kid i c → Under c i → ⊥
+    pub not-under : {i c : ℕ} → Kid s i c → Under c i → ⊥
     not-under {i} {c} k u = omega (arith, under-le u, tree .lower i c k)
 
 -- What is read off by going down: what a node makes of what the lower nodes stand for. A node that is not lower stands for nothing.

@@ -1,10 +1,10 @@
 -- A table that is not refused means exactly one flow, standard or compensable as its last node's kind is. Assumes nothing.
 use Prim.Native.Nat.{ℕ, zero, suc, _<_}
 use mathlib.Core.Path.{_≡_, refl, sym, ap, _∙_, subst}
-use mathlib.Core.Bool.{Bool, true, false, not}
+use mathlib.Core.Bool.{Bool, true, false}
 use mathlib.Core.List.{List}
 use native.Mathlib.Omega.{arith}
-use lib.Dec.{T, eqb}
+use lib.Dec.{T}
 use borrow.Author.Tests.{not-false}
 use Rattle.calculus.specs.Term.{Std, Cmp, blk}
 use Rattle.calculus.specs.Records.{State, over, std, cmp}
@@ -14,9 +14,12 @@ use Rattle.flow.specs.declared.Node.{Node}
 use Rattle.flow.specs.declared.Node.the-variants.{Event, Basic, Standard, Handler, Block, Pair, Compensable, Paired, Unknown}
 use Rattle.flow.specs.Kinds.{form, node, shape, is-standard}
 use Rattle.flow.specs.NodeChildren.{one-kid, two-kids}
-use Rattle.flow.specs.Refusals.{count, root, unknown-kind, table-check}
-use Rattle.flow.specs.Draws.{Draws, at-event, at-basic, at-standard, at-handler, at-block, at-pair, at-compensable, at-paired, made, drawn, flow-of}
+use Rattle.flow.specs.Refusals.{count, root, unknown-kind}
+use Rattle.flow.specs.Checks.{table-check}
+use Rattle.flow.specs.Draws.{Draws, at-event, at-basic, at-standard, at-handler, at-block, at-pair, at-compensable, at-paired}
+use Rattle.flow.specs.Drawn.{made, drawn, flow-of}
 use Rattle.flow.specs.FineTable.{FineTable, fine-table, fine-tree, kid-lower, kid-sort}
+pub use Rattle.flow.specs.Fine.{Drawing, standard-part, compensable-part}
 
 ---- What is drawn is what the function says ----
 
@@ -41,11 +44,6 @@ module _ (ns : List ℕ) (tree : Tree (shape ns)) where
   drawn-is (at-paired {i} e) = drawn-at i e
 
 ---- Every node of a table that is not refused draws a part ----
-
--- the part that node i draws is standard (true) or compensable (false)
-pub data Drawing (ns : List ℕ) (i : ℕ) : Bool → Type 0 where
-  standard-part : (p : Std) → Draws ns i (std p) → Drawing ns i true
-  compensable-part : (pp : Cmp) → Draws ns i (cmp pp) → Drawing ns i false
 
 module _ (ns : List ℕ) (fine : FineTable ns) where
   module _ (i : ℕ) (within : i < count ns) (rec : (c : ℕ) → c < i → Drawing ns c (is-standard (node ns c))) where

@@ -1,6 +1,6 @@
 -- What is known of records that are not refused: how many they are, that each is an event or a closing, and that they have the
 -- closings that the table's flow takes. Assumes nothing.
-use Prim.Native.Nat.{ℕ, _<_, _≤_}
+use Prim.Native.Nat.{ℕ}
 use mathlib.Core.Path.{_≡_, refl, sym, ap, _∙_, subst}
 use mathlib.Core.Bool.{Bool, true, false, not, _||_, cond}
 use mathlib.Core.List.{List, [], _∷_}
@@ -13,14 +13,16 @@ use Rattle.calculus.specs.Records.{Record, event, close, State, Closed, last, C
 use Rattle.flow.specs.declared.Check.the-variants.{Fine}
 use Rattle.flow.specs.Kinds.{node, is-standard}
 use Rattle.flow.specs.Records.{done-number, withdrawn-number, failed-number, is-closing-number, record-of, records}
-use Rattle.flow.specs.Refusals.{root, most-records, too-many-records, no-record, closed, closings-wanted, wrong-closings, value-grounds, records-order, records-grounds, table-check, records-check}
+use Rattle.flow.specs.Refusals.{root, most-records, too-many-records, no-record, closed, closings-wanted, wrong-closings, value-grounds, records-order}
+use Rattle.flow.specs.Checks.{table-check, records-check}
 use Rattle.flow.specs.Earliest.{None, Nowhere, end, not-lone, not-sweep}
 use Rattle.flow.specs.Tests.{is-false}
 use Rattle.flow.specs.FirstRefusal.{fine-nowhere}
 use Rattle.flow.specs.Closings.{event-closed, closing-closed}
-use Rattle.flow.specs.Draws.{flow-of}
+use Rattle.flow.specs.Drawn.{flow-of}
 use Rattle.flow.specs.FineTable.{fine-table}
 use Rattle.flow.specs.OneFlow.{flow-standard, flow-compensable}
+pub use Rattle.flow.specs.Fine.{FineRecords}
 
 -- a closing's number is a closing, any other an event
 closing-record : (r : ℕ) → is-closing-number r ≡ true → (w : Closing) × (record-of r ≡ close w)
@@ -75,15 +77,9 @@ closed-twice (r ∷ rs) e = by (is-closing-number r) refl (closed-twice rs)
         subst (λ (x : Record). ClosedTwice (x ∷ records rs)) (sym (w .1)) (turn (closed-once rs (sym (closing-closed r rs 2 (omega arith) h) ∙ e)))
     by false h rec = subst (λ (x : Record). ClosedTwice (x ∷ records rs)) (sym (event-record r h)) (ClosedTwice.more (rec (sym (event-closed r rs 2 (omega arith) h) ∙ e)))
 
--- none of 10 to 13
-pub record FineRecords (ns rs : List ℕ) : Type 0 where
-  pub few : length rs ≤ most-records
-  pub each : (i : ℕ) → i < length rs → no-record (getD rs i 0) ≡ false
-  pub closings : closed rs (closings-wanted ns) ≡ true
-
 module _ (ns rs : List ℕ) where
   pub fine-records : records-check ns rs ≡ Fine → FineRecords ns rs
-  unfolding records-check records-grounds value-grounds too-many-records wrong-closings
+  unfolding records-check value-grounds too-many-records wrong-closings
   fine-records e = by (fine-nowhere (records-order ns rs) e)
     where
       value : (i : ℕ) → None (value-grounds rs i) → no-record (getD rs i 0) ≡ false

@@ -1,16 +1,14 @@
 -- What is refused: the refusal table of 01, numbers 1 to 13. First each number's own condition, in the table's words. Then the
--- order in which they are looked at, as a list of rounds over grounds, each a number, a place and the condition there; a check
--- answers the first ground that holds. `ns` are the numbers of the nodes, `rs` those of the records.
--- Definitions only: Earliest says what it means that a refusal of an order is given, and it is proved that the checks answer just
--- that; FineTable proves what is known of a table that is not refused. 14 belongs to whoever is lent room. Assumes nothing.
+-- order in which they are looked at, as a list of rounds over grounds, each a number, a place and the condition there.
+-- `ns` are the numbers of the nodes, `rs` those of the records.
+-- Definitions only: Earliest says what it means that a refusal of an order is given, and Checks computes it; FineTable proves what is
+-- known of a table that is not refused. 14 belongs to whoever is lent room. Assumes nothing.
 use Prim.Native.Nat.{ℕ, zero, suc, _-_, _/_, _%_}
 use mathlib.Core.Bool.{Bool, true, false, not, xor, _&&_, _||_, cond}
 use mathlib.Core.List.{List, [], _∷_, _++_}
 use lib.Dec.{eqb, leb, ltb}
 use lib.ListN.{length, getD}
 use Rattle.flow.specs.declared.Refusal.{Refusal}
-use Rattle.flow.specs.declared.Check.{Check}
-use Rattle.flow.specs.declared.Check.the-variants.{Fine, Refused}
 use Rattle.flow.specs.Kinds.{form, is-standard, node, one-of, two-of}
 use Rattle.flow.specs.Records.{is-event-number, is-closing-number}
 
@@ -137,39 +135,10 @@ pub record Ground : Type 0 where
 abbrev pub ground : ℕ → ℕ → Bool → Ground
 ground number place holds = record { refusal = record { number = number; place = place }; holds = holds }
 
-abbrev pub refused : ℕ → ℕ → Check
-refused number place = Refused (record { number = number; place = place })
-
--- the first refusal wins
-unfoldable pub or-else-check : Check → Check → Check
-or-else-check Fine c = c
-or-else-check (Refused r) c = Refused r
-
--- the answer of one ground
-unfoldable pub answer : Ground → Check
-answer g = cond (g .holds) (Refused (g .refusal)) Fine
-
--- the first ground that holds
-unfoldable pub first : List Ground → Check
-first [] = Fine
-first (g ∷ gs) = or-else-check (answer g) (first gs)
-
--- the grounds at k places, from place i up
-unfoldable pub each : (ℕ → List Ground) → ℕ → ℕ → List Ground
-each f i zero = []
-each f i (suc k) = f i ++ each f (suc i) k
-
 -- An order is a list of rounds. A round is a lone ground, or a sweep over so many places "from 0 up", with the grounds at each.
 pub data Round : Type 0 where
   lone : Ground → Round
   sweep : ℕ → (ℕ → List Ground) → Round
-
--- an order's grounds, as they stand; nothing is put behind the last round
-abbrev pub grounds : List Round → List Ground
-grounds [] = []
-grounds (lone g ∷ order) = g ∷ grounds order
-grounds (sweep n f ∷ []) = each f 0 n
-grounds (sweep n f ∷ (next ∷ order)) = each f 0 n ++ grounds (next ∷ order)
 
 -- "nodes .., each in the order 4 to 8"
 unfoldable pub node-grounds : List ℕ → ℕ → List Ground
@@ -207,40 +176,3 @@ closing-order ns rs = lone (ground 13 (after-closings rs (closings-wanted ns)) (
 abbrev pub records-order : List ℕ → List ℕ → List Round
 records-order ns rs =
     lone (ground 10 0 (no-records rs)) ∷ lone (ground 11 0 (too-many-records rs)) ∷ (values-order rs ++ closing-order ns rs)
-
-unfoldable pub nodes-grounds : List ℕ → List Ground
-nodes-grounds ns = grounds (nodes-order ns)
-
-unfoldable pub table-grounds : List ℕ → List Ground
-table-grounds ns = grounds (table-order ns)
-
-unfoldable pub values-grounds : List ℕ → List Ground
-values-grounds rs = grounds (values-order rs)
-
-unfoldable pub closing-grounds : List ℕ → List ℕ → List Ground
-closing-grounds ns rs = grounds (closing-order ns rs)
-
-unfoldable pub records-grounds : List ℕ → List ℕ → List Ground
-records-grounds ns rs = grounds (records-order ns rs)
-
----- The checks ----
-
--- 1 to 9
-unfoldable pub table-check : List ℕ → Check
-table-check ns = first (table-grounds ns)
-
--- 4 to 9
-unfoldable pub nodes-check : List ℕ → Check
-nodes-check ns = first (nodes-grounds ns)
-
--- 12
-unfoldable pub values-check : List ℕ → Check
-values-check rs = first (values-grounds rs)
-
--- 13
-unfoldable pub closings-check : List ℕ → List ℕ → Check
-closings-check ns rs = first (closing-grounds ns rs)
-
--- 10 to 13
-unfoldable pub records-check : List ℕ → List ℕ → Check
-records-check ns rs = first (records-grounds ns rs)

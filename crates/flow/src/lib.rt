@@ -10,7 +10,8 @@ ghost use lib.ListN.{length, getD, set};
 ghost use Rattle.flow.specs.Kinds.{node-of, node, one-of, two-of, form, is-standard};
 ghost use Rattle.flow.specs.Forms.{leaf-form, branch-form, Marks};
 ghost use Rattle.flow.specs.Records.{is-event-number, is-closing-number};
-ghost use Rattle.flow.specs.Refusals.{unknown-kind, wrong-field, not-lower, wrong-sort, child-taken, no-record, closings-wanted, refused, first, node-grounds, child-grounds, each, count, table-check, nodes-check, values-check, closings-check, records-check};
+ghost use Rattle.flow.specs.Refusals.{unknown-kind, wrong-field, not-lower, wrong-sort, child-taken, no-record, closings-wanted, node-grounds, child-grounds, count};
+ghost use Rattle.flow.specs.Checks.{refused, first, each, table-check, nodes-check, values-check, closings-check, records-check};
 
 // A refusal of document 01: its number, and the node or record that it names.
 pub struct Refusal {

@@ -1,13 +1,15 @@
 -- The checks of a file's contents one after the other: the first that refuses gives the answer. Assumes nothing.
 use Prim.Native.Nat.{ℕ}
-use mathlib.Core.List.{List}
+use mathlib.Core.List.{List, _++_}
 use mathlib.Core.Path.{_≡_, ap, sym, _∙_}
 use Rattle.flow.specs.declared.Refusal.{Refusal}
 use Rattle.flow.specs.declared.Check.{Check}
 use Rattle.flow.specs.declared.Check.the-variants.{Fine, Refused}
-use Rattle.flow.specs.Refusals.{first, or-else-check, nodes-grounds, values-grounds, closing-grounds, nodes-check, values-check, closings-check}
-use Rattle.flow.specs.FirstRefusal.{first-append}
-use Rattle.format.specs.Contents.{leaves-grounds, events-grounds, grounds-of}
+use Rattle.flow.specs.Refusals.{nodes-order, values-order, closing-order}
+use Rattle.flow.specs.Checks.{first, or-else-check, nodes-check, values-check, closings-check}
+use Rattle.flow.specs.FirstRefusal.{first-append, orders-append}
+use Rattle.format.specs.Contents.{names-order}
+use Rattle.format.specs.ContentChecks.{leaves-grounds, events-grounds, grounds-of}
 
 pub or-else-refused : {a : Check} {r : Refusal} (b : Check) → a ≡ Refused r → a ≡ or-else-check a b
 unfolding or-else-check
@@ -29,11 +31,11 @@ module _ (names : ℕ) (ns rs : List ℕ) where
   values-on = or-else-check (values-check rs) closings-on
 
   contents-is : first (grounds-of names ns rs) ≡ or-else-check (nodes-check ns) values-on
-  unfolding grounds-of nodes-check values-check closings-check
+  unfolding grounds-of leaves-grounds events-grounds nodes-check values-check closings-check
   contents-is =
-      first-append (nodes-grounds ns) _
-      ∙ ap (or-else-check (nodes-check ns)) (first-append (values-grounds rs) _
-      ∙ ap (or-else-check (values-check rs)) (first-append (closing-grounds ns rs) _
+      orders-append (nodes-order ns) (values-order rs ++ (closing-order ns rs ++ names-order names ns rs))
+      ∙ ap (or-else-check (nodes-check ns)) (orders-append (values-order rs) (closing-order ns rs ++ names-order names ns rs)
+      ∙ ap (or-else-check (values-check rs)) (orders-append (closing-order ns rs) (names-order names ns rs)
       ∙ ap (or-else-check (closings-check ns rs)) (first-append (leaves-grounds names ns) (events-grounds names rs))))
 
   pub nodes-refused : {c : Check} {r : Refusal} → c ≡ nodes-check ns → c ≡ Refused r → c ≡ first (grounds-of names ns rs)

@@ -19,7 +19,8 @@ use Rattle.format.specs.Format.{Entry}
 use Rattle.format.specs.Plan.{Plan, done, refuse, place, item, _>>=_, Ran, got, bad, run}
 use Rattle.format.specs.Plans.{bind-bad, bind-got, item-there, item-cut}
 use Rattle.format.specs.Sections.{byte, number, ranged, step-length, machine-length, name, entry}
-use Rattle.format.specs.Items.{refusal-of, as-item, item-in-range, number-at, name-at, name-end, entry-at, entry-end}
+use Rattle.format.specs.Items.{refusal-of, as-item, item-in-range, number-at, name-at, name-end, entry-end}
+pub use Rattle.format.specs.There.{Found, NumberThere, RangedThere, LengthThere, NameThere, EntryRuns, EntryThere}
 
 ---- Answers ----
 
@@ -48,12 +49,6 @@ pub item-got : {A : Type 0} (f : A → ℕ) (x : Ran A) {a : A} {m v n : ℕ} �
     → Has (record { value = v; next = record { at = n } }) ≡ as-item f x
 unfolding as-item
 item-got f x e d h = ap₂ (λ (v n : ℕ). Has (record { value = v; next = record { at = n } })) e d ∙ ap (as-item f) (sym h)
-
--- what an answer tells of the plan's run
-pub record Found {A : Type 0} (f : A → ℕ) (x : Ran A) (g : Got) : Type 0 where
-  pub found : A
-  pub is : x ≡ got found (g .next .at)
-  pub sized : g .value ≡ f found
 
 pub has-found : {A : Type 0} (f : A → ℕ) (x : Ran A) {g : Got} → as-item f x ≡ Has g → Found f x g
 unfolding as-item
@@ -105,12 +100,6 @@ module _ (s : List ℕ) (at : ℕ) where
   unfolding number run
   number-got h = item-there s at 2 (λ b. done (getD b 0 0 + 256 * getD b 1 0)) h ∙ ap (λ (n : ℕ). got n (at + 2)) two-bytes
 
--- what a number that was read is, and where it ends
-pub record NumberThere (s : List ℕ) (at v next : ℕ) : Type 0 where
-  pub is : v ≡ number-at s at
-  pub ends : next ≡ at + 2
-  pub inside : at + 2 ≤ length s
-
 pub number-there : (s : List ℕ) (at : ℕ) {v next : ℕ} → run s at number ≡ got v next → NumberThere s at v next
 number-there s at {v} {next} e = by (le-or-lt (at + 2) (length s))
   where
@@ -142,26 +131,20 @@ module _ (s : List ℕ) (at : ℕ) (g : Range) (p : Plan ℕ) where
       unfolding ranged run in-range
       ranged-got h = bind-got s at p in-range e ∙ rw (le-ltb v (g .least) l, le-ltb (g .most) v h)
 
-  -- a number that is in its range, and where it was read
-  pub record RangedThere (v next : ℕ) : Type 0 where
-    pub read : run s at p ≡ got v next
-    pub low : g .least ≤ v
-    pub high : v ≤ g .most
-
-  pub ranged-there : {v next : ℕ} → run s at (ranged g p) ≡ got v next → RangedThere v next
+  pub ranged-there : {v next : ℕ} → run s at (ranged g p) ≡ got v next → RangedThere s at g p v next
   ranged-there {v} {next} e = by-number (run s at p) refl
     where
-      by-most : {w last : ℕ} → run s at p ≡ got w last → g .least ≤ w → (w ≤ g .most) ⊎ (g .most < w) → RangedThere v next
+      by-most : {w last : ℕ} → run s at p ≡ got w last → g .least ≤ w → (w ≤ g .most) ⊎ (g .most < w) → RangedThere s at g p v next
       by-most {w} {last} a l (inl h) =
           let q : got w last ≡ got v next = sym (ranged-got a l h) ∙ e in
           record { read = a ∙ q; low = subst (λ (x : ℕ). g .least ≤ x) (got-value q) l; high = subst (λ (x : ℕ). x ≤ g .most) (got-value q) h }
       by-most a l (inr h) = got-not-bad e (ranged-many a l h)
 
-      by-least : {w last : ℕ} → run s at p ≡ got w last → (g .least ≤ w) ⊎ (w < g .least) → RangedThere v next
+      by-least : {w last : ℕ} → run s at p ≡ got w last → (g .least ≤ w) ⊎ (w < g .least) → RangedThere s at g p v next
       by-least {w} a (inl l) = by-most a l (le-or-lt w (g .most))
       by-least a (inr l) = got-not-bad e (ranged-few a l)
 
-      by-number : (x : Ran ℕ) → run s at p ≡ x → RangedThere v next
+      by-number : (x : Ran ℕ) → run s at p ≡ x → RangedThere s at g p v next
       by-number (got w last) a = by-least a (le-or-lt (g .least) w)
       by-number (bad k q) a = got-not-bad e (ranged-bad a)
 
@@ -232,14 +215,6 @@ module _ (s : List ℕ) (at : ℕ) (g : Range) where
 pub name-length : (s : List ℕ) (at : ℕ) → name-end s at ≤ length s → length (name-at s at) ≡ getD s at 0
 name-length s at h = length-take-le (getD s at 0) (drop (at + 1) s) (rw length-drop (omega arith))
 
--- a length byte that was read
-pub record LengthThere (s : List ℕ) (at : ℕ) (g : Range) (v next : ℕ) : Type 0 where
-  pub is : v ≡ getD s at 0
-  pub ends : next ≡ at + 1
-  pub inside : at + 1 ≤ length s
-  pub low : g .least ≤ v
-  pub high : v ≤ g .most
-
 pub length-there : (s : List ℕ) (at : ℕ) (g : Range) {v next : ℕ} → run s at (ranged g byte) ≡ got v next → LengthThere s at g v next
 length-there s at g {v} {next} e = by (le-or-lt (at + 1) (length s))
   where
@@ -259,14 +234,6 @@ name-item s at g {v} {next} e h =
     let t = length-there s at g e in
     let l : length (take v (drop next s)) ≡ v = length-take-le v (drop next s) (rw length-drop (omega (arith, t .ends))) in
     item-got length _ (sym l) (omega (arith, t .ends)) (name-whole s at g e (omega (arith, t .ends)))
-
--- what a name that was read is, and where it ends
-pub record NameThere (s : List ℕ) (at : ℕ) (g : Range) (n : List ℕ) (next : ℕ) : Type 0 where
-  pub bytes : n ≡ name-at s at
-  pub ends : next ≡ name-end s at
-  pub inside : name-end s at ≤ length s
-  pub low : g .least ≤ getD s at 0
-  pub high : getD s at 0 ≤ g .most
 
 module _ (s : List ℕ) (at : ℕ) (g : Range) {n : List ℕ} {next : ℕ} where
   pub name-there : run s at (name g) ≡ got n next → NameThere s at g n next
@@ -290,19 +257,6 @@ module _ (s : List ℕ) (at : ℕ) (g : Range) {n : List ℕ} {next : ℕ} where
       by-length (bad k p) a = got-not-bad e (name-length-bad s at g a)
 
 ---- An entry ----
-
--- the two names of an entry that was read
-pub record EntryRuns (s : List ℕ) (at : ℕ) (e : Entry) (next : ℕ) : Type 0 where
-  pub mid : ℕ
-  pub step-run : run s at (name step-length) ≡ got (e .step) mid
-  pub machine-run : run s mid (name machine-length) ≡ got (e .machine) next
-
--- what an entry that was read is, and where it ends
-pub record EntryThere (s : List ℕ) (at : ℕ) (e : Entry) (next : ℕ) : Type 0 where
-  pub is : e ≡ entry-at s at
-  pub ends : next ≡ entry-end s at
-  pub inside : entry-end s at ≤ length s
-  pub short : entry-end s at ≤ at + 82
 
 module _ (s : List ℕ) (at : ℕ) where
   with-step : List ℕ → Plan Entry

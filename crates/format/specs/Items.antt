@@ -1,8 +1,8 @@
--- What the functions of src/ answer: what a plan comes to as an item, what an item tells, and what stands at an offset where whole
--- entries or numbers are known to stand. Definitions only. Assumes nothing.
+-- What the functions of src/ answer: what a plan comes to as an item, and what stands at an offset where whole entries or numbers are
+-- known to stand. What an item tells is in Told. Definitions only. Assumes nothing.
 use Prim.Native.Nat.{ℕ, zero, suc, _+_, _*_, _≤_}
 use mathlib.Core.Bool.{cond}
-use mathlib.Core.List.{List, [], _∷_, _++_}
+use mathlib.Core.List.{List, [], _∷_}
 use lib.Dec.{ltb}
 use lib.ListN.{length, getD, take, drop}
 use Rattle.flow.specs.declared.Refusal.{Refusal}
@@ -10,29 +10,16 @@ use Rattle.format.specs.declared.Item.{Item}
 use Rattle.format.specs.declared.Item.the-variants.{Has, Bad}
 use Rattle.format.specs.declared.Range.{Range}
 use Rattle.format.specs.Format.{Entry}
+pub use Rattle.format.specs.Told.{refusal-of, ItemTold, at-front}
+unfoldable pub use Rattle.format.specs.Told.{item-told}
 use Rattle.format.specs.Plan.{Ran, got, bad}
 
 ---- Answers ----
-
--- a refusal's number and place
-abbrev pub refusal-of : ℕ → ℕ → Refusal
-refusal-of number place = record { number = number; place = place }
 
 -- a number for what was found, and the cursor behind it; or the refusal
 unfoldable pub as-item : {A : Type 0} → (A → ℕ) → Ran A → Item
 as-item f (got a next) = Has (record { value = f a; next = record { at = next } })
 as-item f (bad n p) = Bad (refusal-of n p)
-
--- what an item tells in 01's terms: the refusal number or 0 and its place; the value and the offset behind it
-pub record ItemTold : Type 0 where
-  pub number : ℕ
-  pub place : ℕ
-  pub value : ℕ
-  pub next : ℕ
-
-unfoldable pub item-told : Item → ItemTold
-item-told (Has g) = record { number = 0; place = 0; value = g .value; next = g .next .at }
-item-told (Bad r) = record { number = r .number; place = r .place; value = 0; next = 0 }
 
 abbrev pub refusal-in : Item → Refusal
 refusal-in i = refusal-of (item-told i .number) (item-told i .place)
@@ -42,10 +29,6 @@ unfoldable pub item-in-range : Range → ℕ → Item → Item
 item-in-range g at (Bad r) = Bad r
 item-in-range g at (Has h) =
     cond (ltb (h .value) (g .least)) (Bad (refusal-of (g .few) at)) (cond (ltb (g .most) (h .value)) (Bad (refusal-of (g .many) at)) (Has h))
-
--- "the first numbers of the two tables are the file's and the rest unchanged"
-abbrev pub at-front : List ℕ → List ℕ → List ℕ
-at-front ns table = ns ++ drop (length ns) table
 
 ---- Where something is known to stand whole ----
 

@@ -1,10 +1,14 @@
 -- Definitions, in the order a reader needs them.
 pub mod Format
+pub mod Limits
+pub mod Contents
+pub mod Told
+-- Definitions that need not be believed.
 pub mod Plan
 pub mod Sections
-pub mod Contents
-pub mod Limits
+pub mod ContentChecks
 pub mod Items
+pub mod There
 -- Theorems on the way to the code.
 pub mod Plans
 pub mod ItemLaws

@@ -1,16 +1,37 @@
 -- Which flow files are within the limits of 01, "The flow file", and what it means that bytes stand at an offset of a file.
--- What the numbers mean (4 to 9, 12, 13, 19, 20) is no limit: the grounds of Contents say that. Definitions only. Assumes nothing.
+-- What the numbers mean (4 to 9, 12, 13, 19, 20) is no limit: Contents says that. Definitions only. Assumes nothing.
 use Prim.Native.Nat.{ℕ, _+_, _*_, _≤_, _<_}
 use mathlib.Core.List.{List, [], _∷_, _++_, List·Memᴰ}
 use mathlib.Core.Path.{_≡_}
 use lib.ListN.{length, getD, drop}
 use Rattle.format.specs.declared.Range.{Range}
 use Rattle.format.specs.Format.{Entry, File}
-use Rattle.format.specs.Sections.{step-length, machine-length, name-count, node-count, record-count}
+
+---- Ranges ----
+
+-- "a length byte 1 to 40", and "0 to 40"; 17: "length out of range"
+abbrev pub step-length : Range
+step-length = record { least = 1; few = 17; most = 40; many = 17 }
+
+abbrev pub machine-length : Range
+machine-length = record { least = 0; few = 17; most = 40; many = 17 }
+
+-- 16: "over 256 names"
+abbrev pub name-count : Range
+name-count = record { least = 0; few = 16; most = 256; many = 16 }
+
+-- "1 and 3 on the node count, 10 and 11 on the record count"
+abbrev pub node-count : Range
+node-count = record { least = 1; few = 1; most = 64; many = 3 }
+
+abbrev pub record-count : Range
+record-count = record { least = 1; few = 10; most = 256; many = 11 }
 
 pub record InRange (g : Range) (n : ℕ) : Type 0 where
   pub low : g .least ≤ n
   pub high : n ≤ g .most
+
+---- Files ----
 
 -- "a step name (a length byte 1 to 40, then the bytes) and a machine name (0 to 40)"
 pub record GoodEntry (e : Entry) : Type 0 where

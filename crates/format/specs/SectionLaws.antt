@@ -15,7 +15,8 @@ use Rattle.format.specs.Plan.{Plan, done, refuse, _>>=_, Ran, got, bad, 
 use Rattle.format.specs.Plans.{bind-bad, bind-got}
 use Rattle.format.specs.Sections.{number, ranged, name-count, entry, met, new-entry, entries, names, numbers, section}
 use Rattle.format.specs.Items.{number-at, numbers-at, at-front, entry-at, entry-end, entries-at, entries-end}
-use Rattle.format.specs.ItemLaws.{le-or-lt, got-value, got-next, number-cut, number-got, number-there, NumberThere, ranged-there, entry-there, EntryThere, got-not-bad}
+use Rattle.format.specs.ItemLaws.{le-or-lt, got-value, got-next, number-cut, number-got, number-there, ranged-there, entry-there, got-not-bad}
+pub use Rattle.format.specs.There.{NewThere, Scanned, NumbersThere, SectionThere, NamesThere}
 
 ---- Numbers ----
 
@@ -125,23 +126,17 @@ module _ (s : List ℕ) (at : ℕ) (earlier : List Entry) where
     unfolding new-entry run fresh
     new-entry-got m = bind-got s at entry fresh h ∙ rw m
 
-  -- an entry that is read as a new one is an entry that is read, and none of the earlier ones
-  pub record NewThere (e : Entry) (next : ℕ) : Type 0 where
-    pub read : run s at entry ≡ got e next
-    pub there : EntryThere s at e next
-    pub new : met e earlier ≡ false
-
-  pub new-entry-there : {e : Entry} {next : ℕ} → run s at (new-entry earlier) ≡ got e next → NewThere e next
+  pub new-entry-there : {e : Entry} {next : ℕ} → run s at (new-entry earlier) ≡ got e next → NewThere s at earlier e next
   new-entry-there {e} {next} h = by-entry (run s at entry) refl
     where
-      by-met : {g : Entry} {last : ℕ} → run s at entry ≡ got g last → (b : Bool) → met g earlier ≡ b → NewThere e next
+      by-met : {g : Entry} {last : ℕ} → run s at entry ≡ got g last → (b : Bool) → met g earlier ≡ b → NewThere s at earlier e next
       by-met a true m = got-not-bad h (new-entry-met a m)
       by-met {g} {last} a false m =
           let q : got g last ≡ got e next = sym (new-entry-got a m) ∙ h in
           let d : g ≡ e = got-value q in
           record { read = a ∙ q; there = entry-there s at (a ∙ q); new = subst (λ (x : Entry). met x earlier ≡ false) d m }
 
-      by-entry : (x : Ran Entry) → run s at entry ≡ x → NewThere e next
+      by-entry : (x : Ran Entry) → run s at entry ≡ x → NewThere s at earlier e next
       by-entry (got g last) a = by-met a (met g earlier) refl
       by-entry (bad k p) a = got-not-bad h (new-entry-bad a)
 
@@ -177,15 +172,6 @@ module _ (s : List ℕ) where
   entries-at-length (suc k) at = ap suc (entries-at-length k (entry-end s at))
 
 ---- The names scan ----
-
--- the first i of n entries are read, and `at` is behind them
-pub record Scanned (s : List ℕ) (n i at : ℕ) : Type 0 where
-  pub some : i ≤ n
-  pub few : n ≤ 256
-  pub here : at ≡ entries-end s i 2
-  pub near : at ≤ 2 + 82 * i
-  pub inside : at ≤ length s
-  pub goes-on : run s 0 names ≡ run s at (entries (n - i) (entries-at s i 2))
 
 module _ (s : List ℕ) where
   pub scan-start : {v next : ℕ} → run s 0 (ranged name-count number) ≡ got v next → Scanned s v 0 next
@@ -247,12 +233,6 @@ module _ (s : List ℕ) where
 
 ---- What was read ----
 
--- numbers that were read, and where they end
-pub record NumbersThere (s : List ℕ) (k at : ℕ) (ns : List ℕ) (next : ℕ) : Type 0 where
-  pub is : ns ≡ numbers-at s k at
-  pub ends : next ≡ at + 2 * k
-  pub inside : next ≤ length s
-
 module _ (s : List ℕ) where
   -- as many numbers as there is room for: they stand whole, or some number is cut
   numbers-whole : (k at : ℕ) {ns : List ℕ} {next : ℕ} → at ≤ length s → run s at (numbers k) ≡ got ns next → at + 2 * k ≤ length s
@@ -291,21 +271,10 @@ module _ (s : List ℕ) (at : ℕ) (g : Range) (each : ℕ) where
   unfolding section counted-numbers
   section-from e = bind-got s at (ranged g number) counted-numbers e
 
-  -- a section that was read: its count, and its numbers behind it
-  pub record SectionThere (ns : List ℕ) (next : ℕ) : Type 0 where
-    pub n : ℕ
-    pub counted : n ≡ number-at s at
-    pub low : g .least ≤ n
-    pub high : n ≤ g .most
-    pub is : ns ≡ numbers-at s (each * n) (at + 2)
-    pub sized : length ns ≡ each * n
-    pub ends : next ≡ at + 2 + 2 * (each * n)
-    pub inside : next ≤ length s
-
-  pub section-there : {ns : List ℕ} {next : ℕ} → run s at (section g each) ≡ got ns next → SectionThere ns next
+  pub section-there : {ns : List ℕ} {next : ℕ} → run s at (section g each) ≡ got ns next → SectionThere s at g each ns next
   section-there {ns} {next} e = by (run s at (ranged g number)) refl
     where
-      by : (x : Ran ℕ) → run s at (ranged g number) ≡ x → SectionThere ns next
+      by : (x : Ran ℕ) → run s at (ranged g number) ≡ x → SectionThere s at g each ns next
       by (got v m) a =
           let t = ranged-there s at g number a in
           let u = number-there s at (t .read) in
@@ -324,14 +293,6 @@ module _ (s : List ℕ) (at : ℕ) (g : Range) (each : ℕ) where
       by (bad k p) a = got-not-bad e (section-count-bad a)
 
 ---- Names that were read ----
-
--- and where they end
-pub record NamesThere (s : List ℕ) (es : List Entry) (next : ℕ) : Type 0 where
-  pub is : es ≡ entries-at s (length es) 2
-  pub ends : next ≡ entries-end s (length es) 2
-  pub few : length es ≤ 256
-  pub near : next ≤ 2 + 82 * length es
-  pub inside : next ≤ length s
 
 module _ (s : List ℕ) {es : List Entry} {next : ℕ} (e : run s 0 names ≡ got es next) where
   scan-all : (k : ℕ) {n i at : ℕ} → Scanned s n i at → n - i ≡ k → NamesThere s es next

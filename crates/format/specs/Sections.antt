@@ -1,7 +1,8 @@
 -- How a flow file is gone through, item by item, in the order of 01, "The flow file": 15 to 18 on the names, 1 and 3 on the node
 -- count, 10 and 11 on the record count, and 15 wherever an item is cut. All places are byte offsets.
--- Not here: what the numbers of a file mean (Contents), and what a refusal means in terms of the format. Definitions only.
--- Assumes nothing.
+-- Not here: what the numbers of a file mean (Contents), and what a refusal means in terms of the format (`reader`, Faults). A reader
+-- need not believe this file nor Plan: promises/specs/Reads tells by Format, Limits, Contents and Faults alone what is read and what is
+-- refused. Definitions only. Assumes nothing.
 use Prim.Native.Nat.{ℕ, zero, suc, _+_, _*_}
 use mathlib.Core.Bool.{Bool, true, false, _&&_, _||_, cond}
 use mathlib.Core.List.{List, [], _∷_, _++_}
@@ -9,6 +10,7 @@ use lib.Dec.{eqb, ltb}
 use lib.ListN.{getD}
 use Rattle.format.specs.declared.Range.{Range}
 use Rattle.format.specs.Format.{Entry, File}
+pub use Rattle.format.specs.Limits.{step-length, machine-length, name-count, node-count, record-count}
 use Rattle.format.specs.Plan.{Plan, done, refuse, place, item, _>>=_}
 
 ---- Items ----
@@ -24,24 +26,6 @@ number = item 2 (λ b. done (getD b 0 0 + 256 * getD b 1 0))
 unfoldable pub ranged : Range → Plan ℕ → Plan ℕ
 unfolding _>>=_
 ranged g p = place (λ at. p >>= (λ n. cond (ltb n (g .least)) (refuse (g .few) at) (cond (ltb (g .most) n) (refuse (g .many) at) (done n))))
-
--- "a length byte 1 to 40", and "0 to 40"; 17: "length out of range"
-abbrev pub step-length : Range
-step-length = record { least = 1; few = 17; most = 40; many = 17 }
-
-abbrev pub machine-length : Range
-machine-length = record { least = 0; few = 17; most = 40; many = 17 }
-
--- 16: "over 256 names"
-abbrev pub name-count : Range
-name-count = record { least = 0; few = 16; most = 256; many = 16 }
-
--- "1 and 3 on the node count, 10 and 11 on the record count"
-abbrev pub node-count : Range
-node-count = record { least = 1; few = 1; most = 64; many = 3 }
-
-abbrev pub record-count : Range
-record-count = record { least = 1; few = 10; most = 256; many = 11 }
 
 ---- Names ----
 

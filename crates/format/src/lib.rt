@@ -6,10 +6,11 @@ use flow::Refusal;
 ghost use mathlib.Core.Path.{_≡_};
 ghost use Prim.Native.Nat.{_+_, _*_, _<_, _≤_};
 ghost use lib.ListN.{length};
-ghost use Rattle.flow.specs.Refusals.{first};
+ghost use Rattle.flow.specs.Checks.{first};
 ghost use Rattle.format.specs.Plan.{run};
 ghost use Rattle.format.specs.Sections.{byte, number, name, entry, new-entry, names, numbers, section, same-bytes, same-entry, met};
-ghost use Rattle.format.specs.Contents.{unnamed-leaf, unnamed-event, leaves-grounds, events-grounds, grounds-of};
+ghost use Rattle.format.specs.Contents.{unnamed-leaf, unnamed-event};
+ghost use Rattle.format.specs.ContentChecks.{leaves-grounds, events-grounds, grounds-of};
 ghost use Rattle.format.specs.Items.{refusal-of, refusal-in, as-item, item-in-range, numbers-at, at-front, name-at, name-end, entry-at, entry-end, entries-at, entries-end, Behind};
 
 // The refusals of the items, names and numbers, by document 01's numbers.

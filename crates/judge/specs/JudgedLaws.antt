@@ -24,10 +24,11 @@ use Rattle.flow.specs.Tests.{is-false}
 use Rattle.flow.specs.Nodes.{under-le}
 use Rattle.flow.specs.Kinds.{node, is-standard, shape}
 use Rattle.flow.specs.Records.{record-of, records}
-use Rattle.flow.specs.Refusals.{count, root, ground, first, or-else-check, refused, lone, table-order, records-order, table-grounds, records-grounds, table-check, records-check}
+use Rattle.flow.specs.Refusals.{count, root, ground, lone, table-order, records-order}
+use Rattle.flow.specs.Checks.{first, or-else-check, refused, table-check, records-check}
 use Rattle.flow.specs.FirstRefusal.{None, more, fine-exactly, orders-append, both-fine, single-held, single-passed}
 use Rattle.flow.specs.FineTable.{FineTable, fine-table, fine-tree}
-use Rattle.flow.specs.Draws.{flow-of}
+use Rattle.flow.specs.Drawn.{flow-of}
 use Rattle.flow.specs.OneFlow.{flow-standard, flow-compensable, flow-drawn}
 use Rattle.flow.specs.RecordsFit.{fine-records, records-fit}
 use Rattle.states.specs.declared.Sense.the-variants.{Drawn}
@@ -146,7 +147,7 @@ module _ (ns rs : List ℕ) (room : ℕ) where
   room-check = first (ground 14 0 (too-short ns rs room) ∷ [])
 
   pub check-parts : judge-check ns rs room ≡ or-else-check (table-check ns) (or-else-check (records-check ns rs) room-check)
-  unfolding judge-check table-check table-grounds records-check records-grounds
+  unfolding judge-check table-check records-check
   check-parts =
       orders-append (table-order ns) (records-order ns rs ++ (lone (ground 14 0 (too-short ns rs room)) ∷ []))
       ∙ ap (or-else-check (table-check ns)) (orders-append (records-order ns rs) (lone (ground 14 0 (too-short ns rs room)) ∷ []))

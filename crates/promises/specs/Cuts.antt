@@ -25,8 +25,9 @@ use Rattle.promises.specs.SameNames.{not-among}
 use Rattle.promises.specs.FileStands.{stands-all, stands-left, stands-right, stands-move, number-reads, entry-reads, name-sized}
 use Rattle.promises.specs.FileExact.{count-reads, numbers-read, number-bytes-length, nodes-whole, records-whole, layout-parts, layout-reads}
 use Rattle.promises.specs.Reader.{refused-report}
+unfoldable pub use Rattle.promises.specs.FileItems.{item-of, entry-items, entries-items, number-items, file-items}
 
----- Definitions ----
+---- The items of a plan ----
 
 -- the sizes of the items that a plan takes
 unfoldable pub sizes : {A : Type 0} → List ℕ → ℕ → Plan A → List ℕ
@@ -34,11 +35,6 @@ sizes s at (done a) = []
 sizes s at (refuse n p) = []
 sizes s at (place k) = sizes s at (k at)
 sizes s at (item n k) = n ∷ sizes s (at + n) (k (take n (drop at s)))
-
--- where the item that holds byte m starts, of items that stand one after the other from an offset
-unfoldable pub item-of : List ℕ → ℕ → ℕ → ℕ
-item-of [] at m = at
-item-of (z ∷ zs) at m = cond (ltb m (at + z)) at (item-of zs (at + z) m)
 
 ---- Every plan ----
 
@@ -83,25 +79,6 @@ module _ {A : Type 0} (s : List ℕ) (m : ℕ) (h : m ≤ length s) where
           → run (take m s) at (item n k′) ≡ bad 15 (cond (ltb m (at + n)) at (item-of (sizes s (at + n) (k′ b)) (at + n) m))
       by-whole rec (inl w) = by-cut rec w (le-or-lt (at + n) m)
       by-whole rec (inr w) = let c = item-cut s at n k′ w in let z : _≡_ {A = ℕ} 0 1 = cc in absurd (omega arith)
-
----- The items of a flow file ----
-
--- "A count, length byte, name's bytes and number are items"
-unfoldable pub entry-items : Entry → List ℕ
-entry-items e = 1 ∷ length (e .step) ∷ 1 ∷ length (e .machine) ∷ []
-
-unfoldable pub entries-items : List Entry → List ℕ
-unfolding entry-items
-entries-items [] = []
-entries-items (e ∷ es) = entry-items e ++ entries-items es
-
-unfoldable pub number-items : List ℕ → List ℕ
-number-items [] = []
-number-items (n ∷ ns) = 2 ∷ number-items ns
-
-unfoldable pub file-items : File → List ℕ
-unfolding entries-items number-items
-file-items f = (2 ∷ entries-items (f .names)) ++ ((2 ∷ number-items (f .nodes)) ++ (2 ∷ number-items (f .records)))
 
 ---- Which sizes a plan takes ----
 

@@ -1,6 +1,6 @@
 -- The three demands, over what `judge` answers (`told (judged ..)`) and leaves in the work bytes (`work-after`). Each theorem
 -- stands under the words that it keeps; `judge` itself ensures the record `Judged` for every input (src/lib.rt).
--- The definitions it is stated with: of judge Judged; of the calculus Records, Search and Laws; of flow Refusals, Earliest and Draws.
+-- The definitions it is stated with: Stated; of judge Told; of the calculus Records, Search and Laws; of flow Refusals, Earliest, Draws.
 -- Theorems only. Assumes nothing.
 use Prim.Native.Nat.{ℕ, _<_, _≤_}
 use mathlib.Core.Path.{_≡_, refl, sym, ap, _∙_, subst}
@@ -18,13 +18,16 @@ use Rattle.flow.specs.declared.Check.{Check}
 use Rattle.flow.specs.declared.Check.the-variants.{Fine}
 use Rattle.flow.specs.declared.Check.the-variants as check
 use Rattle.flow.specs.Records.{record-of, records}
-use Rattle.flow.specs.Refusals.{root, table-check, records-check}
+use Rattle.flow.specs.Refusals.{root}
+use Rattle.flow.specs.Checks.{table-check, records-check}
 use Rattle.flow.specs.Earliest.{Earliest, Nowhere}
-use Rattle.flow.specs.Draws.{Draws, flow-of}
+use Rattle.flow.specs.Draws.{Draws}
+use Rattle.flow.specs.Drawn.{flow-of}
 use Rattle.flow.specs.OneFlow.{flow-drawn, flow-only}
 use Rattle.judge.specs.declared.Answer.{Answer}
 use Rattle.judge.specs.Judged.{VerdictWord, Told, told, verdict, refusal, room-wanted, judge-order, judge-check, answer-of, judged, cleared, work-after, Judged}
 use Rattle.judge.specs.JudgedLaws.{fine-is, refused-bytes, fine-bytes}
+pub use Rattle.promises.specs.Stated.{Rejection, SameAnswer}
 use Rattle.promises.specs.ExactlyWhen.{passes-exactly}
 use Rattle.promises.specs.Verdicts.{not-undecided-word, not-accepted-word, Decided, undecides, accepts, rejects, decided-told, not-refused-fine, told-refused, refusal-told, refused-is, records-decide, redrawn-records}
 
@@ -134,15 +137,10 @@ module _ (ns rs : List ℕ) (room allowance : ℕ) (judged-so : told (judged ns 
       by (rejects h f) e = absurd (not-accepted-word (λ x. x) e)
 
   -- 01: "rejected: place = the longest beginning of the records, in records, that some run follows; count"
-  pub record Rejection (place count : ℕ) : Type 0 where
-    pub follows : Follows flow batch place
-    pub longest : (n : ℕ) → Follows flow batch n → n ≤ place
-    pub counted : count ≡ entered
-
-  pub rejected-is : answer .word ≡ VerdictWord.rejected → Rejection (answer .place) (answer .count)
+  pub rejected-is : answer .word ≡ VerdictWord.rejected → Rejection flow batch (answer .place) (answer .count)
   rejected-is w = by decision w
     where
-      by : {t : Told} → Decided flow batch allowance t → t .word ≡ VerdictWord.rejected → Rejection (t .place) (t .count)
+      by : {t : Told} → Decided flow batch allowance t → t .word ≡ VerdictWord.rejected → Rejection flow batch (t .place) (t .count)
       by (undecides h) e = absurd (not-undecided-word (λ x. x) (sym e))
       by (accepts h f) e = absurd (not-accepted-word (λ x. x) (sym e))
       by (rejects h f) e = record { follows = place-follows batch flow f; longest = λ n a. place-longest a f; counted = refl }
@@ -151,14 +149,6 @@ module _ (ns rs : List ℕ) (room allowance : ℕ) (judged-so : told (judged ns 
 -- "Redrawing changes nothing. If one flow becomes another by any number of exchanges from document 01's list of laws, at any
 -- depth, and both are within the limits, then for every record list, with room enough lent to each, both are refused or both get
 -- the same verdict by demand 2, unless either is undecided. Place and count may differ."
-
--- both refused, with the same number and place; or both accepted; or both rejected, at the same place; or either undecided
-pub data SameAnswer : Told → Told → Type 0 where
-  both-refused : {number place : ℕ} → SameAnswer (refusal number place) (refusal number place)
-  both-accepted : {place count count′ : ℕ} → SameAnswer (verdict VerdictWord.accepted place count) (verdict VerdictWord.accepted place count′)
-  both-rejected : {place count count′ : ℕ} → SameAnswer (verdict VerdictWord.rejected place count) (verdict VerdictWord.rejected place count′)
-  first-undecided : {place count : ℕ} {t : Told} → SameAnswer (verdict VerdictWord.undecided place count) t
-  second-undecided : {place count : ℕ} {t : Told} → SameAnswer t (verdict VerdictWord.undecided place count)
 
 alike-same : {v w : Verdict} → Alike v w → SameAnswer (told (answer-of v)) (told (answer-of w))
 unfolding told answer-of

@@ -9,7 +9,8 @@ use native.Mathlib.Omega.{arith}
 use native.Mathlib.Nat.{eq-or-lt-of-le}
 use Rattle.flow.specs.declared.Refusal.{Refusal}
 use Rattle.flow.specs.declared.Check.the-variants.{Fine, Refused}
-use Rattle.flow.specs.Refusals.{Ground, each, first, Round, lone, sweep, grounds, table-order, records-order, table-grounds, records-grounds, table-check, records-check}
+use Rattle.flow.specs.Refusals.{Ground, Round, lone, sweep, table-order, records-order}
+use Rattle.flow.specs.Checks.{each, first, grounds, table-check, records-check}
 use Rattle.flow.specs.Earliest.{First, here, later, None, none, more, Earliest, is-lone, past-lone, in-sweep, past-sweep, Nowhere, end, not-lone, not-sweep}
 use Rattle.flow.specs.FirstRefusal.{refused-exactly, fine-exactly, none-both, none-each, grounds-sweep, fine-nowhere}
 use Rattle.judge.specs.Judged.{judge-order, judge-check}
@@ -117,12 +118,16 @@ nowhere-exactly order = (fine-nowhere order, λ x. fine-exactly (grounds order) 
 
 -- 1 to 9
 pub table-exactly : (ns : List ℕ) (r : Refusal) → (table-check ns ≡ Refused r) ↔ Earliest r (table-order ns)
-unfolding table-check table-grounds
+unfolding table-check
 table-exactly ns r = earliest-exactly (table-order ns) r
+
+pub table-passes-exactly : (ns : List ℕ) → (table-check ns ≡ Fine) ↔ Nowhere (table-order ns)
+unfolding table-check
+table-passes-exactly ns = nowhere-exactly (table-order ns)
 
 -- 10 to 13
 pub records-exactly : (ns rs : List ℕ) (r : Refusal) → (records-check ns rs ≡ Refused r) ↔ Earliest r (records-order ns rs)
-unfolding records-check records-grounds
+unfolding records-check
 records-exactly ns rs r = earliest-exactly (records-order ns rs) r
 
 -- 1 to 14

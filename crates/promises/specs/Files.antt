@@ -6,7 +6,7 @@ use Prim.Native.Nat.{ℕ, _+_, _*_, _%_, _<_, _≤_}
 use native.Mathlib.Nat.{mul-le-mul}
 use native.Mathlib.Omega.{arith}
 use mathlib.Core.Bool.{Bool, false, not}
-use mathlib.Core.List.{List, _++_, append-assoc}
+use mathlib.Core.List.{List}
 use mathlib.Core.Logic.{_↔_}
 use mathlib.Core.Path.{_≡_, refl, sym, ap, _∙_, subst}
 use borrow.Author.Tests.{eq-eqb, ne-eqb, le-ltb}
@@ -17,12 +17,13 @@ use Rattle.calculus.specs.Search.{visit}
 use Rattle.flow.specs.declared.Refusal.{Refusal}
 use Rattle.flow.specs.declared.Check.the-variants.{Fine}
 use Rattle.flow.specs.Records.{records}
-use Rattle.flow.specs.Refusals.{Ground, count, no-nodes, not-whole, too-many-nodes, no-records, too-many-records, nodes-grounds, table-grounds, values-grounds, closing-grounds, records-grounds, table-check, records-check}
-use Rattle.flow.specs.FirstRefusal.{None, more, fine-exactly, none-append}
-use Rattle.flow.specs.Draws.{flow-of}
+use Rattle.flow.specs.Refusals.{count, no-nodes, not-whole, too-many-nodes, no-records, too-many-records, table-order, records-order}
+use Rattle.flow.specs.Checks.{table-check, records-check}
+use Rattle.flow.specs.Earliest.{Nowhere, end, not-lone, not-sweep}
+use Rattle.flow.specs.Drawn.{flow-of}
 use Rattle.format.specs.Format.{File}
 use Rattle.format.specs.Limits.{WithinLimits, Bytes}
-use Rattle.format.specs.Contents.{leaves-grounds, events-grounds, grounds-of, content-grounds}
+use Rattle.format.specs.Contents.{file-order}
 use Rattle.format.specs.Items.{refusal-of}
 use Rattle.reader.specs.declared.Reading.{Reading}
 use Rattle.reader.specs.declared.Reading.the-variants as read
@@ -31,7 +32,8 @@ use Rattle.reader.specs.Faults.{Refuses}
 use Rattle.reader.specs.ReaderLaws.{read-not-refused}
 use Rattle.judge.specs.Judged.{VerdictWord, Told, told, verdict, refusal, room-wanted, judge-check, judged}
 use Rattle.program.specs.Program.{states-allowed, work-lent, answered, answer-of-file}
-use Rattle.promises.specs.ExactlyWhen.{passes-exactly}
+use Rattle.promises.specs.Stated.{Rejection}
+use Rattle.promises.specs.ExactlyWhen.{nowhere-exactly, passes-exactly}
 use Rattle.promises.specs.Verdicts.{records-decide}
 use Rattle.promises.specs.Demands as demand
 use Rattle.promises.specs.Reader.{Readable, readable-read, read-readable, report-refused}
@@ -42,27 +44,12 @@ use Rattle.promises.specs.ReaderRefusals.{refused-when}
 fails : {b : Bool} → b ≡ false → T (not b)
 fails e = subst (λ (x : Bool). T (not x)) (sym e) tt
 
-module _ (f : File) (within : WithinLimits f) (fine : None (content-grounds f)) where
+module _ (f : File) (within : WithinLimits f) (fine : Nowhere (file-order f)) where
   abbrev ns : List ℕ
   ns = f .nodes
 
   abbrev rs : List ℕ
   rs = f .records
-
-  -- 19 and 20, which the judge does not know
-  abbrev names : List Ground
-  names = leaves-grounds (length (f .names)) ns ++ events-grounds (length (f .names)) rs
-
-  -- 4 to 9, and what follows
-  numbers-pass : None (nodes-grounds ns) × None (values-grounds rs ++ (closing-grounds ns rs ++ names))
-  unfolding grounds-of
-  numbers-pass = none-append (nodes-grounds ns) (values-grounds rs ++ (closing-grounds ns rs ++ names)) fine
-
-  -- 12 and 13
-  records-pass : None (values-grounds rs ++ closing-grounds ns rs)
-  records-pass =
-      none-append (values-grounds rs ++ closing-grounds ns rs) names
-      (subst None (sym (append-assoc (values-grounds rs) (closing-grounds ns rs) names)) (numbers-pass .1)) .0
 
   -- 1, 2 and 3, 10 and 11: what the two counts of the file say
   not-none : no-nodes ns ≡ false
@@ -85,13 +72,23 @@ module _ (f : File) (within : WithinLimits f) (fine : None (content-grounds f)) 
   unfolding too-many-records
   not-long = le-ltb 256 (length rs) (omega (arith, within .records .whole, within .records .counted .high))
 
+  -- with 4 to 9
+  table-passes : Nowhere (file-order f) → Nowhere (table-order ns)
+  table-passes (not-sweep nodes (not-sweep children rest)) =
+      not-lone (fails not-none) (not-lone (fails whole) (not-lone (fails not-many) (not-sweep nodes (not-sweep children end))))
+
+  -- with 12 and 13; 19 and 20 the judge does not know
+  records-pass : Nowhere (file-order f) → Nowhere (records-order ns rs)
+  records-pass (not-sweep nodes (not-sweep children (not-sweep values (not-lone closings rest)))) =
+      not-lone (fails not-empty) (not-lone (fails not-long) (not-sweep values (not-lone closings end)))
+
   table-fine : table-check ns ≡ Fine
-  unfolding table-check table-grounds nodes-grounds
-  table-fine = fine-exactly (table-grounds ns) .1 (more (fails not-none) (more (fails whole) (more (fails not-many) (numbers-pass .0))))
+  unfolding table-check
+  table-fine = nowhere-exactly (table-order ns) .1 (table-passes fine)
 
   records-fine : records-check ns rs ≡ Fine
-  unfolding records-check records-grounds values-grounds closing-grounds
-  records-fine = fine-exactly (records-grounds ns rs) .1 (more (fails not-empty) (more (fails not-long) records-pass))
+  unfolding records-check
+  records-fine = nowhere-exactly (records-order ns rs) .1 (records-pass fine)
 
   -- 14: the largest flow wants 2 × 64 × (256 + 1)
   enough : room-wanted ns rs ≤ work-lent
@@ -231,12 +228,8 @@ module _ (s : List ℕ) (f : File) (readable : Readable s 192 256 f) where
       moves (λ (t : Told). t .word ≡ VerdictWord.accepted → t ≡ verdict VerdictWord.accepted (length (f .records)) entered)
       (demand.accepted-is (f .nodes) (f .records) work-lent states-allowed not-refused)
 
-  -- "the longest beginning of the records, in records, that some run follows"
-  abbrev Longest : ℕ → Type 0
-  Longest place = Follows flow batch place × ((n : ℕ) → Follows flow batch n → n ≤ place)
-
   -- "rejected: place = the longest beginning ..; count"
-  pub file-rejected-is : answer .word ≡ VerdictWord.rejected → Longest (answer .place) × (answer .count ≡ entered)
+  pub file-rejected-is : answer .word ≡ VerdictWord.rejected → Rejection flow batch (answer .place) (answer .count)
   file-rejected-is =
-      moves (λ (t : Told). t .word ≡ VerdictWord.rejected → Longest (t .place) × (t .count ≡ entered))
-      (λ e. let q = demand.rejected-is (f .nodes) (f .records) work-lent states-allowed not-refused e in ((q .follows, q .longest), q .counted))
+      moves (λ (t : Told). t .word ≡ VerdictWord.rejected → Rejection flow batch (t .place) (t .count))
+      (demand.rejected-is (f .nodes) (f .records) work-lent states-allowed not-refused)

@@ -1,7 +1,10 @@
+-- Definitions that the theorems are stated with.
+pub mod Plain
+pub mod Stated
+pub mod FileItems
 -- Theorems about the contracts of the crates below.
 -- Tables and the judge.
 pub mod ExactlyWhen
-pub mod Plain
 pub mod PlainRows
 pub mod Verdicts
 pub mod Demands
@@ -13,6 +16,7 @@ pub mod FileExact
 pub mod Reader
 pub mod ContentRefusals
 pub mod ReaderRefusals
+pub mod Reads
 pub mod Cuts
 pub mod Collide
 pub mod Worked

@@ -7,7 +7,7 @@ use mathlib.Core.List.{List, [], _∷_}
 use mathlib.Core.Logic.{_≢_}
 use lib.Dec.{T}
 use lib.ListN.{length, getD, take}
-use Rattle.flow.specs.Nodes.{Kid}
+use Rattle.flow.specs.Shapes.{Kid}
 use Rattle.flow.specs.Kinds.{form, is-standard, node, one-of, two-of, shape}
 use Rattle.flow.specs.Records.{most-events, is-closing-number}
 use Rattle.flow.specs.Refusals.{count, has-two}

@@ -1,5 +1,6 @@
 -- The tests of the refusal table mean the conditions that Plain puts in words: 5, 7, 8 and 9 of a node (`wrong-field-means` and so
--- on), and 13 with its place, in both directions (`wrong-closings-means`, `closings-when`, `closings-fine-when`). Assumes nothing.
+-- on), 13 with its place, in both directions (`wrong-closings-means`, `closings-when`, `closings-fine-when`), and of a file's names 19
+-- and 20 (`unnamed-leaf-means`, `unnamed-event-means`). Assumes nothing.
 use Prim.Native.Nat.{ℕ, zero, suc, _<_, _≤_}
 use mathlib.Core.Path.{_≡_, refl, sym, ap, _∙_, subst}
 use mathlib.Core.Bool.{Bool, true, false, not, xor, _&&_, _||_}
@@ -7,7 +8,7 @@ use mathlib.Core.List.{List, [], _∷_}
 use mathlib.Core.Logic.{_⊎_, inl, inr, _↔_, _≢_}
 use native.Mathlib.Omega.{arith}
 use native.Mathlib.Nat.{eq-or-lt-of-le}
-use lib.Dec.{T, eqb, leb, T-not, eqb→eq, eqb-refl}
+use lib.Dec.{T, eqb, leb, ltb, T-not, eqb→eq, eqb-refl, ltb→lt, lt→ltb}
 use lib.ListN.{length, take}
 use borrow.Author.Tests.{leb-true, le-leb}
 use Rattle.calculus.specs.Members.{or-in-left, or-in-right, or-cases, and-in, and-left, and-right}
@@ -16,11 +17,13 @@ use Rattle.flow.specs.declared.Check.the-variants.{Fine, Refused}
 use Rattle.flow.specs.Nodes.{Kid, kid1, kid2}
 use Rattle.flow.specs.Kinds.{form, is-standard, node, one-of, two-of, shape}
 use Rattle.flow.specs.Records.{most-events, is-event-number, is-closing-number}
-use Rattle.flow.specs.Refusals.{count, has-one, has-two, wrong-field, taken, wrong-sort, child-taken, nobodys-child, closings-wanted, closed, wrong-closings, after-closings, refused, closings-check}
+use Rattle.flow.specs.Refusals.{count, has-one, has-two, wrong-field, taken, wrong-sort, child-taken, nobodys-child, closings-wanted, closed, wrong-closings, after-closings}
+use Rattle.flow.specs.Checks.{refused, closings-check}
 use Rattle.flow.specs.Tests.{is-true}
 use Rattle.flow.specs.FirstRefusal.{is-fine}
 use Rattle.flow.specs.FineTable.{kid-taken, taken-kid}
 use Rattle.flow.specs.Closings.{event-closed, event-place, closings-fine, closings-refused, wanted-some}
+use Rattle.format.specs.Contents.{unnamed-leaf, unnamed-event}
 use Rattle.promises.specs.Plain.{WrongField, event-out, first-unused, second-unused, WrongSort, wrong-child, ChildTaken, taken-already, same-twice, NobodysChild, closings-in, NthClosing, WrongClosings, goes-on, too-few}
 
 ---- Tests ----
@@ -381,3 +384,23 @@ module _ (ns rs : List ℕ) where
           → (k : ℕ) × (suc k ≡ length rs) × NthClosing rs wanted k
       by e (inl x) = x
       by e (inr x) = absurd (subst is-fine (sym e ∙ refused-at (x .1)) tt)
+
+---- The names of a file ----
+
+-- 19: node i is an event leaf, and its event is above the number of names
+pub unnamed-leaf-means : (names : ℕ) (ns : List ℕ) (i : ℕ) → T (unnamed-leaf names ns i) ↔ (T (form (node ns i) .event) × (names < one-of ns i))
+unfolding unnamed-leaf
+unnamed-leaf-means names ns i = (
+  λ t. let p = and-split (form (node ns i) .event) (ltb names (one-of ns i)) t in (p .0, ltb→lt names (one-of ns i) (p .1)),
+  λ q. and-in (form (node ns i) .event) (ltb names (one-of ns i)) (q .0) (lt→ltb names (one-of ns i) (q .1)),
+)
+
+-- 20: the record is an event, and above the number of names
+pub unnamed-event-means : (names r : ℕ) → T (unnamed-event names r) ↔ ((r ≤ most-events) × (names < r))
+unfolding unnamed-event
+unnamed-event-means names r = (
+  λ t.
+      let p = and-split (leb r most-events) (ltb names r) t in
+      (leb-true r most-events (is-true (leb r most-events) (p .0)), ltb→lt names r (p .1)),
+  λ q. and-in (leb r most-events) (ltb names r) (subst T (sym (le-leb r most-events (q .0))) tt) (lt→ltb names r (q .1)),
+)

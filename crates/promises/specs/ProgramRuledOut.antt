@@ -10,8 +10,9 @@ use lib.ListN.{length, drop, replicate}
 use Rattle.calculus.specs.Search as search
 use Rattle.flow.specs.Nodes.{descend}
 use Rattle.flow.specs.Records.{record-of, is-event-number, is-closing-number}
-use Rattle.flow.specs.Refusals.{no-nodes, not-whole, too-many-nodes, unknown-kind, wrong-field, not-lower, is-child, taken, wrong-sort, child-taken, nobodys-child, no-records, too-many-records, no-record, closings-wanted, closed, wrong-closings, after-closings, or-else-check, answer, first, each, node-grounds, child-grounds, value-grounds}
-use Rattle.flow.specs.Draws.{made, drawn, flow-of}
+use Rattle.flow.specs.Refusals.{no-nodes, not-whole, too-many-nodes, unknown-kind, wrong-field, not-lower, is-child, taken, wrong-sort, child-taken, nobodys-child, no-records, too-many-records, no-record, closings-wanted, closed, wrong-closings, after-closings, node-grounds, child-grounds, value-grounds}
+use Rattle.flow.specs.Checks.{or-else-check, answer, first, each}
+use Rattle.flow.specs.Drawn.{made, drawn, flow-of}
 use Rattle.format.specs.Format.{encode}
 use Rattle.format.specs.Plan.{_>>=_, run}
 use Rattle.format.specs.Sections.{byte, number, ranged, name, entry, same-bytes, same-entry, met, new-entry, entries, names, numbers, section, layout}

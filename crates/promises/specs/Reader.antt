@@ -9,20 +9,25 @@ use mathlib.Core.Path.{_≡_, refl, ap, sym, _∙_, subst}
 use native.Mathlib.Omega.{arith}
 use lib.ListN.{length, drop-of-length-le}
 use Rattle.flow.specs.declared.Refusal.{Refusal}
-use Rattle.flow.specs.FirstRefusal.{None, fine-exactly}
 use Rattle.format.specs.declared.Item.{Item}
 use Rattle.format.specs.Format.{Entry, names-section, File, encode}
 use Rattle.format.specs.Plan.{Ran, got, run}
 use Rattle.format.specs.Sections.{names, layout}
-use Rattle.format.specs.Contents.{content-grounds}
+use Rattle.format.specs.Contents.{file-order}
+use Rattle.format.specs.ContentChecks.{grounds-of}
 use Rattle.format.specs.Limits.{GoodNames, WithinLimits, Bytes, Stands}
-use Rattle.format.specs.Items.{refusal-of, as-item, item-told}
+use Rattle.format.specs.Told.{refusal-of, item-told, item-found}
+use Rattle.format.specs.Items.{as-item}
 use Rattle.format.specs.ItemLaws.{got-value}
 use Rattle.reader.specs.declared.Counts.{Counts}
 use Rattle.reader.specs.declared.Reading.{Reading}
 use Rattle.reader.specs.declared.Reading.the-variants.{Read, Refused}
-use Rattle.reader.specs.Reading.{Report, reported, Outcome, refused-outcome, counts-of, read-outcome, checked, reading, ReadAs}
+use Rattle.reader.specs.Report.{Report, reported, counts-of}
+pub use Rattle.reader.specs.Report.{read-report, refused-report}
+pub use Rattle.reader.specs.Faults.{Readable}
+use Rattle.reader.specs.Reading.{Outcome, refused-outcome, read-outcome, checked, reading, ReadAs}
 use Rattle.reader.specs.ReaderLaws.{laid-checked, reading-laid, Way, few-nodes, few-records, stopped, longer, faulty, whole, way, read-not-refused, read-file}
+use Rattle.promises.specs.ExactlyWhen.{nowhere-exactly}
 use Rattle.promises.specs.FileStands.{stands-all}
 use Rattle.promises.specs.FileExact.{names-read, layout-reads, layout-stands}
 
@@ -34,25 +39,18 @@ stands-whole s xs h l =
 
 ---- What is read ----
 
--- a file of the format, within the limits, with nothing to refuse in its numbers, and room for it
-pub record Readable (s : List ℕ) (nr rr : ℕ) (f : File) : Type 0 where
-  pub node-room : 192 ≤ nr
-  pub record-room : 256 ≤ rr
-  pub encoded : s ≡ encode f
-  pub within : WithinLimits f
-  pub fine : None (content-grounds f)
-
--- such a file is read, and gives its counts and numbers
+-- a readable file is read, and gives its counts and numbers
 pub readable-read : (s : List ℕ) (nr rr : ℕ) (f : File) → Readable s nr rr f → reading s nr rr ≡ read-outcome f
-unfolding checked
+unfolding checked grounds-of
 readable-read s nr rr f r =
     let h : Stands s 0 (encode f) = subst (λ (x : List ℕ). Stands s 0 x) (r .encoded) (stands-all s) in
     let e : run s 0 layout ≡ got f (length s) = layout-reads s f (r .within) h ∙ ap (λ (x : List ℕ). got f (length x)) (sym (r .encoded)) in
     reading-laid s nr rr (r .node-room) (r .record-room) ∙ laid-checked s (run s 0 layout) e
-    ∙ ap (checked f) (fine-exactly (content-grounds f) .1 (r .fine))
+    ∙ ap (checked f) (nowhere-exactly (file-order f) .1 (r .fine))
 
 -- and only such a file is
 pub read-readable : (s : List ℕ) → Bytes s → (nr rr : ℕ) (c : Counts) → reading s nr rr .answer ≡ Read c → (f : File) × Readable s nr rr f × (c ≡ counts-of f)
+unfolding grounds-of
 read-readable s b nr rr c e = by (way s nr rr) e
   where
     by : {o : Outcome} → Way s nr rr o → o .answer ≡ Read c → (f : File) × Readable s nr rr f × (c ≡ counts-of f)
@@ -70,19 +68,12 @@ read-readable s b nr rr c e = by (way s nr rr) e
             record-room = l;
             encoded = stands-whole s (encode f) (t .stands) (omega (arith, t .ends));
             within = t .within;
-            fine = fine-exactly (content-grounds f) .0 q;
+            fine = nowhere-exactly (file-order f) .0 q;
           },
           d,
         )
 
 ---- What is reported ----
-
--- "If read, the answer gives the counts of names, nodes and records"
-abbrev pub read-report : Counts → Report
-read-report c = record { number = 0; place = 0; names = c .names; nodes = c .nodes; records = c .records }
-
-abbrev pub refused-report : ℕ → ℕ → Report
-refused-report k p = record { number = k; place = p; names = 0; nodes = 0; records = 0 }
 
 -- a report that counts no nodes is a refusal, since a file that is read has some
 pub report-refused : (s : List ℕ) (nr rr k p : ℕ) → reported (reading s nr rr .answer) ≡ refused-report k p → reading s nr rr .answer ≡ Refused (refusal-of k p)
@@ -139,7 +130,7 @@ scanned s = as-item length (run s 0 names)
 
 -- good names at the start of a file are read: their number, and where they end
 pub names-scanned : (s : List ℕ) {es : List Entry} → GoodNames es → Stands s 0 (names-section es)
-    → item-told (scanned s) ≡ record { number = 0; place = 0; value = length es; next = length (names-section es) }
+    → item-told (scanned s) ≡ item-found (length es) (length (names-section es))
 unfolding as-item item-told
 names-scanned s g h = ap (λ (x : Ran (List Entry)). item-told (as-item length x)) (names-read s g h)
 

@@ -11,12 +11,10 @@ use borrow.Author.Tests.{lt-ltb}
 use lib.ListN.{length, getD, drop, length-append}
 use lib.Seq.{drop-cons}
 use Rattle.flow.specs.declared.Refusal.{Refusal}
-use Rattle.flow.specs.FirstRefusal.{refused-exactly}
 use Rattle.format.specs.declared.Range.{Range}
 use Rattle.format.specs.Format.{number-bytes, Entry, name-bytes, entry-bytes, entries-bytes, names-section, numbers-section, encode}
 use Rattle.format.specs.Plan.{Plan, Ran, got, bad, run}
 use Rattle.format.specs.Sections.{byte, number, ranged, step-length, machine-length, name-count, node-count, record-count, name, entry, met, new-entry, entries, names, section, layout}
-use Rattle.format.specs.Contents.{content-grounds}
 use Rattle.format.specs.Limits.{InRange, GoodEntry, GoodEntries, no-entries, one-entry, Bytes, Stands}
 use Rattle.format.specs.Items.{refusal-of, number-at}
 use Rattle.format.specs.ItemLaws.{le-or-lt, got-not-bad, byte-cut, byte-got, number-cut, number-there, ranged-bad, ranged-few, ranged-many, ranged-got, ranged-there, name-length-bad, name-cut, name-whole, name-there, length-there, entry-step-bad, entry-machine-bad, entry-got}
@@ -29,7 +27,7 @@ use Rattle.reader.specs.ReaderLaws.{reading-short, reading-laid, laid-checked, 
 use Rattle.promises.specs.SameNames.{met-among, among-met, not-met}
 use Rattle.promises.specs.FileStands.{stands-all, stands-left, stands-right, stands-join, stands-head, number-reads, number-stands, name-reads, name-stands, name-in-range, name-ends, entry-reads, entry-stands}
 use Rattle.promises.specs.FileExact.{entries-pass, count-reads, names-read, names-stand, nodes-read, nodes-stand, layout-reads, layout-stands, number-bytes-length}
-use Rattle.promises.specs.ContentRefusals.{fault-first, first-fault}
+use Rattle.promises.specs.ContentRefusals.{contents-exactly}
 use Rattle.promises.specs.Reader.{stands-whole, refused-report, report-refused}
 
 -- a fault of one number and place is one of another that are equal
@@ -289,7 +287,7 @@ module _ (s : List ℕ) where
   refuses-refused nr rr (in-contents {k} {p} f h l w e g) =
       let t : Stands s 0 (encode f) = subst (λ (x : List ℕ). Stands s 0 x) e (stands-all s) in
       let r : run s 0 layout ≡ got f (length s) = layout-reads s f w t ∙ ap (λ (x : List ℕ). got f (length x)) (sym e) in
-      reading-laid s nr rr h l ∙ laid-checked s (run s 0 layout) r ∙ ap (checked f) (refused-exactly (content-grounds f) (refusal-of k p) .1 (fault-first f g))
+      reading-laid s nr rr h l ∙ laid-checked s (run s 0 layout) r ∙ ap (checked f) (contents-exactly f (refusal-of k p) .1 g)
 
   -- every refusal is one of these ways
   pub refused-refuses : Bytes s → (nr rr : ℕ) (r : Refusal) → reading s nr rr .answer ≡ Refused r → Refuses s nr rr (r .number) (r .place)
@@ -308,7 +306,7 @@ module _ (s : List ℕ) where
       by (faulty f end h l g w {r = q} c) a =
           let t = layout-stands s b g in
           let d : s ≡ encode f = stands-whole s (encode f) (t .stands) (omega (arith, t .ends)) in
-          is a (in-contents f h l (t .within) d (first-fault f (refused-exactly (content-grounds f) q .0 c)))
+          is a (in-contents f h l (t .within) d (contents-exactly f q .0 c))
       by (whole f end h l g w c) a = read-not-refused a
 
   -- a refusal is reported exactly when one of its ways holds

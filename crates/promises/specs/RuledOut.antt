@@ -10,8 +10,9 @@ use Rattle.flow.specs.declared.Check.{Check}
 use Rattle.flow.specs.declared.Check.the-variants.{Fine}
 use Rattle.flow.specs.Nodes.{descend}
 use Rattle.flow.specs.Records.{record-of, is-event-number, is-closing-number}
-use Rattle.flow.specs.Refusals.{refused, first, answer, or-else-check, each, no-nodes, not-whole, too-many-nodes, unknown-kind, wrong-field, not-lower, is-child, taken, wrong-sort, child-taken, nobodys-child, no-records, too-many-records, no-record, closings-wanted, closed, wrong-closings, after-closings, node-grounds, child-grounds, value-grounds, nodes-grounds, table-grounds, values-grounds, closing-grounds, records-grounds, nodes-check, table-check, values-check, closings-check, records-check}
-use Rattle.flow.specs.Draws.{made, drawn, flow-of}
+use Rattle.flow.specs.Refusals.{no-nodes, not-whole, too-many-nodes, unknown-kind, wrong-field, not-lower, is-child, taken, wrong-sort, child-taken, nobodys-child, no-records, too-many-records, no-record, closings-wanted, closed, wrong-closings, after-closings, node-grounds, child-grounds, value-grounds}
+use Rattle.flow.specs.Checks.{refused, first, answer, or-else-check, each, nodes-check, table-check, values-check, closings-check, records-check}
+use Rattle.flow.specs.Drawn.{made, drawn, flow-of}
 use Rattle.judge.specs.Judged.{VerdictWord, Told, told, verdict, refusal, room-wanted, too-short, judge-check, answer-of, unless-refused, judged, cleared, work-after}
 
 ---- The judge ----
@@ -132,5 +133,5 @@ check-lines =
     ∷ []
 
 pub checks-told : map (λ l. l .0) check-lines ≡ map (λ l. l .1) check-lines
-unfolding check-lines nodes-grounds table-grounds values-grounds closing-grounds records-grounds first answer or-else-check each no-nodes not-whole too-many-nodes unknown-kind wrong-field not-lower is-child taken wrong-sort child-taken nobodys-child no-records too-many-records no-record closings-wanted closed wrong-closings after-closings node-grounds child-grounds value-grounds is-event-number is-closing-number xor nodes-check table-check values-check closings-check records-check
+unfolding check-lines first answer or-else-check each no-nodes not-whole too-many-nodes unknown-kind wrong-field not-lower is-child taken wrong-sort child-taken nobodys-child no-records too-many-records no-record closings-wanted closed wrong-closings after-closings node-grounds child-grounds value-grounds is-event-number is-closing-number xor nodes-check table-check values-check closings-check records-check
 checks-told = refl

@@ -20,9 +20,10 @@ use Rattle.flow.specs.declared.Check.the-variants.{Fine}
 use Rattle.flow.specs.declared.Check.the-variants as check
 use Rattle.flow.specs.Kinds.{node, is-standard}
 use Rattle.flow.specs.Records.{records}
-use Rattle.flow.specs.Refusals.{root, or-else-check, table-check, records-check, records-grounds, wrong-closings, closings-wanted}
+use Rattle.flow.specs.Refusals.{root, wrong-closings, closings-wanted}
+use Rattle.flow.specs.Checks.{or-else-check, table-check, records-check}
 use Rattle.flow.specs.Earliest.{Earliest}
-use Rattle.flow.specs.Draws.{flow-of}
+use Rattle.flow.specs.Drawn.{flow-of}
 use Rattle.flow.specs.FineTable.{fine-table}
 use Rattle.flow.specs.OneFlow.{flow-standard, flow-compensable}
 use Rattle.judge.specs.declared.Answer.{Answer}
@@ -159,5 +160,5 @@ module _ (ns ns′ : List ℕ) (fine : table-check ns ≡ Fine) (fine′ : table
       by false e true d = absurd (mixed-redrawn h (flow-compensable ns (fine-table ns fine) e .1) (flow-standard ns′ (fine-table ns′ fine′) d .1))
 
   pub redrawn-records : (rs : List ℕ) → records-check ns rs ≡ records-check ns′ rs
-  unfolding records-check records-grounds wrong-closings
+  unfolding records-check wrong-closings
   redrawn-records rs = rw redrawn-closings

@@ -1,16 +1,17 @@
--- When each refusal of the reader is given, in terms of the format and in file order: a constructor for each way, with its number
--- and place as the last two indices. "A count, length byte, name's bytes and number are items; places so far are byte offsets of
--- the item (18: of the entry, 21: of the first byte too many), but 0 for 14. What follows has places as in the table."
--- Definitions only: promises/specs/ReaderRefusals proves that `reading` gives exactly these. Assumes nothing.
+-- What the reader refuses, and where, in terms of the format and in file order: a constructor for each way, with its number and place
+-- as the last two indices (`Refuses`); and what it reads (`Readable`). "A count, length byte, name's bytes and number are items; places
+-- so far are byte offsets of the item (18: of the entry, 21: of the first byte too many), but 0 for 14. What follows has places as in
+-- the table." Definitions only: promises/specs/ReaderRefusals proves that exactly these are refused. Assumes nothing.
 use Prim.Native.Nat.{ℕ, _+_, _*_, _≤_, _<_}
 use mathlib.Core.List.{List, [], _∷_, _++_, List·Memᴰ}
 use mathlib.Core.Path.{_≡_}
 use lib.ListN.{length}
+use Rattle.flow.specs.Earliest.{Earliest, Nowhere}
 use Rattle.format.specs.declared.Range.{Range}
 use Rattle.format.specs.Format.{number-bytes, Entry, name-bytes, entry-bytes, entries-bytes, names-section, numbers-section, File, encode}
-use Rattle.format.specs.Sections.{step-length, machine-length, name-count, node-count, record-count}
-use Rattle.format.specs.Limits.{InRange, GoodEntry, GoodEntries, GoodNames, GoodNumbers, WithinLimits, Stands}
-use Rattle.reader.specs.ContentFaults.{ContentFault}
+use Rattle.format.specs.Limits.{step-length, machine-length, name-count, node-count, record-count, InRange, GoodEntry, GoodEntries, GoodNames, GoodNumbers, WithinLimits, Stands}
+use Rattle.format.specs.Contents.{file-order}
+use Rattle.format.specs.Told.{refusal-of}
 
 module _ (s : List ℕ) where
   -- of a count or a length at an offset, in so many bytes
@@ -71,4 +72,12 @@ module _ (s : List ℕ) where
     -- 21: "bytes after the last record", at "the first byte too many"
     too-long : (f : File) → 192 ≤ nr → 256 ≤ rr → WithinLimits f → Stands s 0 (encode f) → length (encode f) < length s → Refuses nr rr 21 (length (encode f))
     -- "Then 4 to 9, 12, 13; then 19 .., and 20"
-    in-contents : {k p : ℕ} (f : File) → 192 ≤ nr → 256 ≤ rr → WithinLimits f → s ≡ encode f → ContentFault f k p → Refuses nr rr k p
+    in-contents : {k p : ℕ} (f : File) → 192 ≤ nr → 256 ≤ rr → WithinLimits f → s ≡ encode f → Earliest (refusal-of k p) (file-order f) → Refuses nr rr k p
+
+  -- a file of the format within the limits, with nothing to refuse in its numbers, and room for it: such a file is read
+  pub record Readable (nr rr : ℕ) (f : File) : Type 0 where
+    pub node-room : 192 ≤ nr
+    pub record-room : 256 ≤ rr
+    pub encoded : s ≡ encode f
+    pub within : WithinLimits f
+    pub fine : Nowhere (file-order f)

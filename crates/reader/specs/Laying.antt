@@ -1,5 +1,6 @@
 -- What the functions on the way to `read` answer: the refusal in a layout or a check, where the numbers of a file stand, and what
--- `lay_out` answers. Definitions only. Assumes nothing.
+-- `lay_out` answers; and what is known of a layout, of a reading and of a file that is read. Definitions only: LayoutLaws and ReaderLaws
+-- prove them. Assumes nothing.
 use Prim.Native.Nat.{ℕ, _+_, _*_, _≤_, _<_}
 use mathlib.Core.List.{List}
 use mathlib.Core.Path.{_≡_}
@@ -14,7 +15,9 @@ use Rattle.format.specs.Items.{refusal-of}
 use Rattle.reader.specs.declared.Offsets.{Offsets}
 use Rattle.reader.specs.declared.Layout.{Layout}
 use Rattle.reader.specs.declared.Layout.the-variants.{At, Bad}
-use Rattle.reader.specs.Reading.{counts-of}
+use Rattle.format.specs.ContentChecks.{content-check}
+use Rattle.reader.specs.declared.Counts.{Counts}
+use Rattle.reader.specs.Reading.{Outcome, refused-outcome, read-outcome, counts-of, reading}
 
 unfoldable pub layout-refusal : Layout → Refusal
 layout-refusal (At o) = refusal-of 0 0
@@ -49,3 +52,30 @@ pub data Lays (s : List ℕ) : Layout → Type 0 where
   lays-bad : {r : Refusal} → run s 0 layout ≡ bad (r .number) (r .place) → Lays s (Bad r)
   lays-long : {f : File} {end : ℕ} → run s 0 layout ≡ got f end → end < length s → Lays s (Bad (refusal-of 21 end))
   lays-at : {o : Offsets} (f : File) → Placed s f o → Lays s (At o)
+
+---- What is known of a reading ----
+
+-- the three runs that make a layout
+pub record LayoutRuns (s : List ℕ) (f : File) (end : ℕ) : Type 0 where
+  pub from : ℕ
+  pub mid : ℕ
+  pub names-run : run s 0 names ≡ got (f .names) from
+  pub nodes-run : run s from (section node-count 3) ≡ got (f .nodes) mid
+  pub records-run : run s mid (section record-count 1) ≡ got (f .records) end
+
+-- what a reading comes to, by what is found on the way
+pub data Way (s : List ℕ) (nr rr : ℕ) : Outcome → Type 0 where
+  few-nodes : nr < 192 → Way s nr rr (refused-outcome (refusal-of 14 0))
+  few-records : rr < 256 → Way s nr rr (refused-outcome (refusal-of 14 0))
+  stopped : 192 ≤ nr → 256 ≤ rr → {n p : ℕ} → run s 0 layout ≡ bad n p → Way s nr rr (refused-outcome (refusal-of n p))
+  longer : (f : File) (end : ℕ) → 192 ≤ nr → 256 ≤ rr → run s 0 layout ≡ got f end → end < length s → Way s nr rr (refused-outcome (refusal-of 21 end))
+  faulty : (f : File) (end : ℕ) → 192 ≤ nr → 256 ≤ rr → run s 0 layout ≡ got f end → length s ≤ end → {r : Refusal} → content-check f ≡ check.Refused r → Way s nr rr (refused-outcome r)
+  whole : (f : File) (end : ℕ) → 192 ≤ nr → 256 ≤ rr → run s 0 layout ≡ got f end → length s ≤ end → content-check f ≡ check.Fine → Way s nr rr (read-outcome f)
+
+-- a file that is read: its outcome, and that its nodes are whole
+pub record ReadFile (s : List ℕ) (nr rr : ℕ) (c : Counts) : Type 0 where
+  pub file : File
+  pub is : reading s nr rr ≡ read-outcome file
+  pub counted : c ≡ counts-of file
+  pub whole-nodes : length (file .nodes) ≡ 3 * c .nodes
+  pub some-nodes : 1 ≤ c .nodes

@@ -17,10 +17,9 @@ use Rattle.format.specs.ItemLaws.{got-value, got-next, got-not-bad, bad-found}
 use Rattle.format.specs.SectionLaws.{SectionThere, section-there}
 use Rattle.reader.specs.declared.Counts.{Counts}
 use Rattle.reader.specs.declared.Offsets.{Offsets}
-use Rattle.reader.specs.declared.Layout.{Layout}
 use Rattle.reader.specs.declared.Layout.the-variants.{At, Bad}
-use Rattle.reader.specs.Reading.{counts-of}
-use Rattle.reader.specs.Laying.{Inside, Placed, Lays, lays-bad, lays-long, lays-at}
+use Rattle.reader.specs.Laying.{Inside, Placed, Lays, lays-long, lays-at}
+pub use Rattle.reader.specs.Laying.{LayoutRuns}
 
 ---- The sections ----
 
@@ -62,14 +61,6 @@ module _ (s : List ℕ) where
           → run s 0 layout ≡ got (record { names = es; nodes = ns; records = rs }) end
       unfolding with-nodes file-of run
       layout-got e = nodes-on ∙ bind-got s mid (section record-count 1) (file-of es ns) e
-
--- the three runs that make a layout
-pub record LayoutRuns (s : List ℕ) (f : File) (end : ℕ) : Type 0 where
-  pub from : ℕ
-  pub mid : ℕ
-  pub names-run : run s 0 names ≡ got (f .names) from
-  pub nodes-run : run s from (section node-count 3) ≡ got (f .nodes) mid
-  pub records-run : run s mid (section record-count 1) ≡ got (f .records) end
 
 module _ (s : List ℕ) {f : File} {end : ℕ} (e : run s 0 layout ≡ got f end) where
   pub layout-runs : LayoutRuns s f end

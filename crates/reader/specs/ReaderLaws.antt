@@ -1,5 +1,5 @@
 -- What the reader answers by the parts of `reading`, and the ways of a reading. Assumes nothing.
-use Prim.Native.Nat.{ℕ, _+_, _*_, _/_, _≤_, _<_}
+use Prim.Native.Nat.{ℕ, _*_, _/_, _≤_, _<_}
 use mathlib.Core.Bool.{Bool, true, false, _||_, cond}
 use mathlib.Core.List.{List}
 use mathlib.Core.Logic.{_⊎_, inl, inr}
@@ -11,11 +11,11 @@ use lib.ListN.{length}
 use Rattle.flow.specs.declared.Refusal.{Refusal}
 use Rattle.flow.specs.declared.Check.{Check}
 use Rattle.flow.specs.declared.Check.the-variants as check
-use Rattle.flow.specs.Refusals.{first}
+use Rattle.flow.specs.Checks.{first}
 use Rattle.format.specs.Format.{File}
 use Rattle.format.specs.Plan.{Ran, got, bad, run}
-use Rattle.format.specs.Sections.{node-count, record-count, layout}
-use Rattle.format.specs.Contents.{grounds-of, content-check}
+use Rattle.format.specs.Sections.{node-count, layout}
+use Rattle.format.specs.ContentChecks.{grounds-of, content-check}
 use Rattle.format.specs.Items.{refusal-of, at-front, numbers-at}
 use Rattle.format.specs.ItemLaws.{le-or-lt}
 use Rattle.format.specs.SectionLaws.{section-there}
@@ -25,9 +25,10 @@ use Rattle.reader.specs.declared.Reading.the-variants.{Read, Refused}
 use Rattle.reader.specs.declared.Offsets.{Offsets}
 use Rattle.reader.specs.declared.Layout.{Layout}
 use Rattle.reader.specs.declared.Layout.the-variants.{At, Bad}
-use Rattle.reader.specs.Reading.{Outcome, refused-outcome, read-outcome, counts-of, checked, laid, reading, ReadAs}
+use Rattle.reader.specs.Reading.{Outcome, refused-outcome, counts-of, checked, laid, reading, ReadAs}
 use Rattle.reader.specs.Laying.{layout-refusal, check-refusal, Placed, Lays, lays-bad, lays-long, lays-at}
 use Rattle.reader.specs.LayoutLaws.{placed-run, placed-nodes, placed-records, layout-runs}
+pub use Rattle.reader.specs.Laying.{Way, few-nodes, few-records, stopped, longer, faulty, whole, ReadFile}
 
 ---- By the parts of a reading ----
 
@@ -105,15 +106,6 @@ module _ (s nodes records : List ℕ) where
 
 ---- The ways of a reading ----
 
--- what a reading comes to, by what is found on the way
-pub data Way (s : List ℕ) (nr rr : ℕ) : Outcome → Type 0 where
-  few-nodes : nr < 192 → Way s nr rr (refused-outcome (refusal-of 14 0))
-  few-records : rr < 256 → Way s nr rr (refused-outcome (refusal-of 14 0))
-  stopped : 192 ≤ nr → 256 ≤ rr → {n p : ℕ} → run s 0 layout ≡ bad n p → Way s nr rr (refused-outcome (refusal-of n p))
-  longer : (f : File) (end : ℕ) → 192 ≤ nr → 256 ≤ rr → run s 0 layout ≡ got f end → end < length s → Way s nr rr (refused-outcome (refusal-of 21 end))
-  faulty : (f : File) (end : ℕ) → 192 ≤ nr → 256 ≤ rr → run s 0 layout ≡ got f end → length s ≤ end → {r : Refusal} → content-check f ≡ check.Refused r → Way s nr rr (refused-outcome r)
-  whole : (f : File) (end : ℕ) → 192 ≤ nr → 256 ≤ rr → run s 0 layout ≡ got f end → length s ≤ end → content-check f ≡ check.Fine → Way s nr rr (read-outcome f)
-
 pub way : (s : List ℕ) (nr rr : ℕ) → Way s nr rr (reading s nr rr)
 unfolding laid checked
 way s nr rr = by-nodes (le-or-lt 192 nr)
@@ -142,14 +134,6 @@ way s nr rr = by-nodes (le-or-lt 192 nr)
 -- what is read is not refused
 pub read-not-refused : {c : Counts} {r : Refusal} {C : Type 0} → Read c ≡ Refused r → C
 read-not-refused h = let z : _≡_ {A = ℕ} 0 1 = cc in absurd (omega arith)
-
--- a file that is read: its outcome, and that its nodes are whole
-pub record ReadFile (s : List ℕ) (nr rr : ℕ) (c : Counts) : Type 0 where
-  pub file : File
-  pub is : reading s nr rr ≡ read-outcome file
-  pub counted : c ≡ counts-of file
-  pub whole-nodes : length (file .nodes) ≡ 3 * c .nodes
-  pub some-nodes : 1 ≤ c .nodes
 
 pub read-file : (s : List ℕ) (nr rr : ℕ) {c : Counts} → reading s nr rr .answer ≡ Read c → ReadFile s nr rr c
 read-file s nr rr {c} e = by (way s nr rr) refl e

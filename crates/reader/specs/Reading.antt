@@ -1,7 +1,8 @@
 -- What the reader answers, as one definition in the order of 01, "The flow file": 14; then through the file item by item (`format`,
--- Sections); then 21; then what the numbers mean (`format`, Contents). `reported` gives 01's number, place and counts for each case of
--- the answer, and every promise is stated of it. Definitions only: Faults has the refusals one by one. Assumes nothing.
-use Prim.Native.Nat.{ℕ, _/_}
+-- Sections); then 21; then what the numbers mean (`format`, Contents).
+-- A reader need not believe this file, but only that `ReadAs` is what `read` ensures: promises/specs/Reads tells by Report and Faults
+-- alone what is answered then, and what becomes of the two tables. Definitions only. Assumes nothing.
+use Prim.Native.Nat.{ℕ}
 use mathlib.Core.Bool.{_||_, cond}
 use mathlib.Core.List.{List, []}
 use mathlib.Core.Path.{_≡_}
@@ -10,29 +11,15 @@ use lib.ListN.{length}
 use Rattle.flow.specs.declared.Refusal.{Refusal}
 use Rattle.flow.specs.declared.Check.{Check}
 use Rattle.flow.specs.declared.Check.the-variants as check
-use Rattle.flow.specs.Refusals.{first}
 use Rattle.format.specs.Format.{File}
 use Rattle.format.specs.Plan.{Ran, got, bad, run}
 use Rattle.format.specs.Sections.{layout}
-use Rattle.format.specs.Contents.{grounds-of, content-check}
+use Rattle.format.specs.ContentChecks.{content-check}
 use Rattle.format.specs.Items.{refusal-of, at-front}
-use Rattle.reader.specs.declared.Counts.{Counts}
 use Rattle.reader.specs.declared.Reading.{Reading}
 use Rattle.reader.specs.declared.Reading.the-variants.{Read, Refused}
-
----- What an answer tells ----
-
--- the refusal number or 0, and its place; "the counts of names, nodes and records"
-pub record Report : Type 0 where
-  pub number : ℕ
-  pub place : ℕ
-  pub names : ℕ
-  pub nodes : ℕ
-  pub records : ℕ
-
-unfoldable pub reported : Reading → Report
-reported (Read c) = record { number = 0; place = 0; names = c .names; nodes = c .nodes; records = c .records }
-reported (Refused r) = record { number = r .number; place = r .place; names = 0; nodes = 0; records = 0 }
+pub use Rattle.reader.specs.Report.{Report, counts-of}
+unfoldable pub use Rattle.reader.specs.Report.{reported}
 
 ---- What is answered ----
 
@@ -45,10 +32,6 @@ pub record Outcome : Type 0 where
 abbrev pub refused-outcome : Refusal → Outcome
 refused-outcome r = record { answer = Refused r; nodes = []; records = [] }
 
--- "If read, the answer gives the counts of names, nodes and records, the first numbers of the two tables are the file's"
-abbrev pub counts-of : File → Counts
-counts-of f = record { names = length (f .names); nodes = length (f .nodes) / 3; records = length (f .records) }
-
 abbrev pub read-outcome : File → Outcome
 read-outcome f = record { answer = Read (counts-of f); nodes = f .nodes; records = f .records }
 
@@ -58,7 +41,7 @@ checked f (check.Refused r) = refused-outcome r
 
 -- 21: "bytes after the last record", at "the first byte too many"
 unfoldable pub laid : List ℕ → Ran File → Outcome
-unfolding checked first grounds-of
+unfolding checked
 laid s (bad n p) = refused-outcome (refusal-of n p)
 laid s (got f at) = cond (ltb at (length s)) (refused-outcome (refusal-of 21 at)) (checked f (content-check f))
 

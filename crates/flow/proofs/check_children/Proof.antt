@@ -5,7 +5,8 @@ use native.Mathlib.Omega.{arith}
 use borrow.Author.Needs.{needs}
 use Rattle.flow.specs.FirstRefusal.{each-start, each-held, each-passed, each-over}
 use Rattle.flow.specs.Children.{nobody-held, nobody-passed}
-use Rattle.flow.specs.Refusals.{count, first, each, child-grounds}
+use Rattle.flow.specs.Refusals.{count, child-grounds}
+use Rattle.flow.specs.Checks.{first, each}
 use Rattle.flow.proofs.check_children.Statement.{statement}
 use Rattle.flow.proofs.check_children.Tie as tie
 

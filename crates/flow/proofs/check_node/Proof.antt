@@ -2,7 +2,8 @@
 use mathlib.Core.Path.{_≡_, sym, _∙_}
 use mathlib.Core.Bool.{true, false}
 use borrow.Author.Needs.{needs}
-use Rattle.flow.specs.Refusals.{unknown-kind, wrong-field, not-lower, wrong-sort, child-taken, first, node-grounds, answer, or-else-check}
+use Rattle.flow.specs.Refusals.{unknown-kind, wrong-field, not-lower, wrong-sort, child-taken, node-grounds}
+use Rattle.flow.specs.Checks.{first, answer, or-else-check}
 use Rattle.flow.proofs.check_node.Statement.{statement}
 use Rattle.flow.proofs.check_node.Tie as tie
 

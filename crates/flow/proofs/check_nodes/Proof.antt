@@ -8,7 +8,8 @@ use Rattle.flow.specs.declared.Check.the-variants.{Fine}
 use Rattle.flow.specs.FirstRefusal.{fine-exactly, each-start, each-held, each-passed, each-over, first-append}
 use Rattle.flow.specs.Children.{marks-none, fine-node}
 use Rattle.flow.specs.Forms.{Marks}
-use Rattle.flow.specs.Refusals.{count, or-else-check, first, each, node-grounds, child-grounds, nodes-grounds, nodes-check}
+use Rattle.flow.specs.Refusals.{count, node-grounds, child-grounds}
+use Rattle.flow.specs.Checks.{or-else-check, first, each, nodes-check}
 use Rattle.flow.proofs.check_nodes.Statement.{statement}
 use Rattle.flow.proofs.check_nodes.Tie as tie
 
@@ -22,7 +23,7 @@ abbrev μ-loop : tie.MeasureT-loop
 μ-loop nodes n marks₀ i₀ marks i = count nodes - i
 
 loop-holds : tie.Need-loop-holds Inv-loop μ-loop
-unfolding nodes-check nodes-grounds
+unfolding nodes-check
 loop-holds c =
     let ns = c .before .args .nodes .now in
     let start : or-else-check (first (each (node-grounds ns) 0 (count ns - 0))) (first (each (child-grounds ns) 0 (count ns - 1))) ≡ nodes-check ns

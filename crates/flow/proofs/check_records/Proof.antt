@@ -3,7 +3,8 @@ use mathlib.Core.Path.{ap, sym, _∙_}
 use borrow.Author.Tests.{eq-eqb, ne-eqb, lt-ltb, le-ltb}
 use borrow.Author.Needs.{needs}
 use Rattle.flow.specs.declared.Check.{Check}
-use Rattle.flow.specs.Refusals.{records-check, records-grounds, closings-check, first, answer, or-else-check, no-records, too-many-records}
+use Rattle.flow.specs.Refusals.{no-records, too-many-records}
+use Rattle.flow.specs.Checks.{records-check, closings-check, first, answer, or-else-check}
 use Rattle.flow.specs.FirstRefusal.{records-parts}
 use Rattle.flow.proofs.check_records.Statement.{statement}
 use Rattle.flow.proofs.check_records.Tie as tie
@@ -12,14 +13,14 @@ refuse-requires : tie.Need-refuse-requires
 refuse-requires c κs = search needs
 
 returns : tie.Need-returns
-unfolding records-check records-grounds first answer or-else-check no-records too-many-records
+unfolding records-check first answer or-else-check no-records too-many-records
 returns c = rw (c .refuse .ensures, eq-eqb _ _ (c .before .if1 .taken))
 
 refuse-requires-2 : tie.Need-refuse-requires-2
 refuse-requires-2 c κs = search needs
 
 returns-2 : tie.Need-returns-2
-unfolding records-check records-grounds first answer or-else-check no-records too-many-records
+unfolding records-check first answer or-else-check no-records too-many-records
 returns-2 c = rw (c .refuse2 .ensures, ne-eqb _ _ (c .before .before .if1 .left), lt-ltb _ _ (c .before .if2 .taken))
 
 check-values-requires : tie.Need-check-values-requires

@@ -4,7 +4,8 @@ use mathlib.Core.Path.{_≡_, sym, _∙_}
 use native.Mathlib.Omega.{arith}
 use lib.ListN.{length, getD}
 use borrow.Author.Needs.{needs}
-use Rattle.flow.specs.Refusals.{first, each, value-grounds, values-grounds, values-check, no-record}
+use Rattle.flow.specs.Refusals.{value-grounds, no-record}
+use Rattle.flow.specs.Checks.{first, each, values-check}
 use Rattle.flow.specs.FirstRefusal.{each-start, each-held, each-passed, each-over, single-held, single-passed}
 use Rattle.flow.proofs.check_values.Statement.{statement}
 use Rattle.flow.proofs.check_values.Tie as tie
@@ -17,7 +18,7 @@ abbrev μ-loop : tie.MeasureT-loop
 μ-loop records i₀ i = length records - i
 
 loop-holds : tie.Need-loop-holds Inv-loop μ-loop
-unfolding values-check values-grounds
+unfolding values-check
 loop-holds c = (omega arith, each-start (value-grounds (c .before .args .records .now)) (length (c .before .args .records .now)))
 
 mul-no-record : tie.Need-mul-no-record Inv-loop μ-loop

@@ -6,9 +6,10 @@ use native.Mathlib.Omega.{arith}
 use borrow.Author.Needs.{needs}
 use lib.ListN.{length, getD}
 use Rattle.flow.specs.FirstRefusal.{each-start, each-held, each-passed, each-over, single-held, single-passed}
-use Rattle.flow.specs.Refusals.{first, each}
+use Rattle.flow.specs.Checks.{first, each}
 use Rattle.flow.specs.declared.Check.the-variants.{Refused}
-use Rattle.format.specs.Contents.{event-grounds, events-grounds, unnamed-event}
+use Rattle.format.specs.Contents.{event-grounds, unnamed-event}
+use Rattle.format.specs.ContentChecks.{events-grounds}
 use Rattle.format.proofs.check_events.Statement.{statement}
 use Rattle.format.proofs.check_events.Tie as tie
 

@@ -4,9 +4,11 @@ use Prim.Native.Nat.{_-_, _≤_, _<_}
 use mathlib.Core.Path.{_≡_, refl, ap, sym, _∙_}
 use native.Mathlib.Omega.{arith}
 use Rattle.flow.specs.FirstRefusal.{each-start, each-held, each-passed, each-over, single-held, single-passed}
-use Rattle.flow.specs.Refusals.{first, each, count}
+use Rattle.flow.specs.Refusals.{count}
+use Rattle.flow.specs.Checks.{first, each}
 use Rattle.flow.specs.declared.Check.the-variants.{Refused}
-use Rattle.format.specs.Contents.{leaf-grounds, leaves-grounds, unnamed-leaf}
+use Rattle.format.specs.Contents.{leaf-grounds, unnamed-leaf}
+use Rattle.format.specs.ContentChecks.{leaves-grounds}
 use Rattle.format.proofs.check_leaves.Statement.{statement}
 use Rattle.format.proofs.check_leaves.Tie as tie
 

@@ -6,8 +6,8 @@ use mathlib.Core.Path.{ap₂, sym, _∙_}
 use native.Mathlib.Omega.{arith}
 use borrow.Author.Needs.{needs}
 use denote.Ref.{now}
-use Rattle.flow.specs.Refusals.{first}
-use Rattle.format.specs.Contents.{grounds-of}
+use Rattle.flow.specs.Checks.{first}
+use Rattle.format.specs.ContentChecks.{grounds-of}
 use Rattle.format.specs.SectionLaws.{front-is, front-length}
 use Rattle.reader.proofs.check_numbers.Statement.{statement}
 use Rattle.reader.proofs.check_numbers.Tie as tie

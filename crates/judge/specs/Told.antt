@@ -1,0 +1,58 @@
+-- What an answer of `judge` tells in document 01's terms: its word, number, place and count for each case (`told`), of which every
+-- promise is stated; what is refused, in which order; and what the work bytes hold after a verdict. `ns` are the numbers of the nodes,
+-- `rs` those of the records. Definitions only: the promises about them are in the crate above (Demands). Assumes nothing.
+use Prim.Native.Nat.{ℕ, _+_, _*_}
+use mathlib.Core.Bool.{Bool}
+use mathlib.Core.List.{List, [], _∷_, _++_}
+use lib.Dec.{ltb}
+use lib.ListN.{length, drop, replicate}
+use Rattle.flow.specs.Refusals.{count, ground, Round, lone, table-order, records-order}
+use Rattle.judge.specs.declared.Answer.{Answer}
+use Rattle.judge.specs.declared.Answer.the-variants.{Accepted, Rejected, Undecided, Refused}
+
+---- What an answer tells ----
+
+-- 01: "the verdict word, refusal number or 0, place, count"
+pub data VerdictWord : Type 0 where
+  accepted rejected undecided refused : VerdictWord
+
+pub record Told : Type 0 where
+  pub word : VerdictWord
+  pub number : ℕ
+  pub place : ℕ
+  pub count : ℕ
+
+-- a verdict, with its place and count
+abbrev pub verdict : VerdictWord → ℕ → ℕ → Told
+verdict word place count = record { word = word; number = 0; place = place; count = count }
+
+-- 01: "refused: number, place; count 0"
+abbrev pub refusal : ℕ → ℕ → Told
+refusal number place = record { word = VerdictWord.refused; number = number; place = place; count = 0 }
+
+-- 01: "An answer is one of four, each with its own numbers"
+unfoldable pub told : Answer → Told
+told (Accepted r) = verdict VerdictWord.accepted (r .place) (r .count)
+told (Rejected r) = verdict VerdictWord.rejected (r .place) (r .count)
+told (Undecided r) = verdict VerdictWord.undecided (r .place) (r .count)
+told (Refused r) = refusal (r .number) (r .place)
+
+---- What is refused ----
+
+-- 01: "Work bytes wanted: 2 × nodes × (records + 1)."
+unfoldable pub room-wanted : List ℕ → List ℕ → ℕ
+room-wanted ns rs = 2 * count ns * (length rs + 1)
+
+-- 14: "lent room too short"
+unfoldable pub too-short : List ℕ → List ℕ → ℕ → Bool
+too-short ns rs room = ltb room (room-wanted ns rs)
+
+-- 01: "Judging checks 1 to 3; then nodes from 0 up, each in the order 4 to 8; then 9 to 14."
+abbrev pub judge-order : List ℕ → List ℕ → ℕ → List Round
+judge-order ns rs room = table-order ns ++ (records-order ns rs ++ (lone (ground 14 0 (too-short ns rs room)) ∷ []))
+
+---- What becomes of the work bytes ----
+
+-- 01: "the first 2 × nodes × (records + 1) are zero and the others unchanged"
+unfoldable pub cleared : ℕ → List ℕ → List ℕ
+cleared n work = replicate n 0 ++ drop n work
