@@ -159,7 +159,7 @@ module _ {s : Scene} {v : Sense} {c : List ℕ} {i k : ℕ} (h : Ready s (Plain 
   pub handler-small : stand-in s v i ≡ standing.Handler p → p .first < 64
   handler-small e = number-small h (handler-twins e .one)
 
-  pub both-turned : {t′ : List ℕ} {y : Turn} {o : Operator} → stand-in s v i ≡ standing.Both o p → Forked c (s .t) i k (halves o p (gone v)) t′ y
+  pub both-turned : {t′ : List ℕ} {y : Turn} {o : Operator} → stand-in s v i ≡ standing.Both o p → Forked c (s .t) k (halves i o p (gone v)) t′ y
       → Turned s c (move (Plain v) i k) t′ (move (Plain v) (y .node) (y .at))
   unfolding std-of std-right
   both-turned {o = o} e (in-first l w) =
@@ -172,7 +172,7 @@ module _ {s : Scene} {v : Sense} {c : List ℕ} {i k : ℕ} (h : Ready s (Plain 
       (λ at d u. both-second (s .a) v p (part-at s) at k n g o (step-room h e) d u)
 
   -- a handler goes on as a sequence does
-  pub handler-turned : {t′ : List ℕ} {y : Turn} → stand-in s v i ≡ standing.Handler p → Forked c (s .t) i k (halves Sequence p moved-on) t′ y
+  pub handler-turned : {t′ : List ℕ} {y : Turn} → stand-in s v i ≡ standing.Handler p → Forked c (s .t) k (halves i Sequence p moved-on) t′ y
       → Turned s c (move (Plain v) i k) t′ (move (Plain v) (y .node) (y .at))
   unfolding std-of std-right first-mode second-mode moves
   handler-turned e (in-first l w) =
@@ -224,13 +224,13 @@ module _ {s : Scene} {c : List ℕ} {i k : ℕ} (h : Ready s Running c i k) {p :
     unfolding run-right
     both-right = parts-right h e
 
-  pub into-first : {t′ : List ℕ} {y : Turn} {o : Operator} → course-in s i ≡ course.Both o p → Forked c (s .t) i k (halves o p holding) t′ y → y .second ≡ false
+  pub into-first : {t′ : List ℕ} {y : Turn} {o : Operator} → course-in s i ≡ course.Both o p → Forked c (s .t) k (halves i o p holding) t′ y → y .second ≡ false
       → Turned s c (move Running i k) t′ (move Running (y .node) (y .at))
   unfolding run-of
   into-first {o = o} e (in-first l w) b = to-first h e (run-twins e) (both-right e) w (first-runs (node (s .ns) i) (modes (s .t) i) o e) l (λ at d u. run-first (s .a) p (part-at s) at k o d u)
   into-first e (in-second g w) b = absurd (true≢false b)
 
-  pub choice-turned : {t′ : List ℕ} {y : Turn} → course-in s i ≡ course.Both Choice p → Forked c (s .t) i k (halves Choice p holding) t′ y
+  pub choice-turned : {t′ : List ℕ} {y : Turn} → course-in s i ≡ course.Both Choice p → Forked c (s .t) k (halves i Choice p holding) t′ y
       → Turned s c (move Running i k) t′ (move Running (y .node) (y .at))
   unfolding run-of second-mode
   choice-turned e (in-first l w) = into-first e (in-first l w) refl
@@ -240,7 +240,7 @@ module _ {s : Scene} {c : List ℕ} {i k : ℕ} (h : Ready s Running c i k) {p :
       (calt-room (s .a) (part-at s (p .first) .run) (part-at s (p .second) .run) n (step-room h e) g)
       (λ at d u. at-calt-second (s .a) (part-at s (p .first) .run) (part-at s (p .second) .run) n (step-room h e) g u)
 
-  pub parallel-turned : {t′ : List ℕ} {y : Turn} → course-in s i ≡ course.Both Parallel p → Forked c (s .t) i k (halves Parallel p holding) t′ y
+  pub parallel-turned : {t′ : List ℕ} {y : Turn} → course-in s i ≡ course.Both Parallel p → Forked c (s .t) k (halves i Parallel p holding) t′ y
       → Turned s c (move Running i k) t′ (move Running (y .node) (y .at))
   unfolding run-of second-mode
   parallel-turned e (in-first l w) = into-first e (in-first l w) refl
@@ -297,18 +297,18 @@ module _ {s : Scene} {c : List ℕ} {i k : ℕ} (h : Ready s Running c i k) {p :
           (at-cseq-second (s .a) pp qq n on-left g second-count on-found (subst (λ z. At (csteps (z .run) (s .a)) (y .rest) (at (p .second) .run)) on-beside u)))
 
   module _ (e : course-in s i ≡ course.Both Sequence p) where
-    pub held-spot : {t₁ : List ℕ} {y : Turn} → Forked c (s .t) i k (halves Sequence p holding) t₁ y → y .second ≡ true → Spot (s .ns) t₁ (p .first)
+    pub held-spot : {t₁ : List ℕ} {y : Turn} → Forked c (s .t) k (halves i Sequence p holding) t₁ y → y .second ≡ true → Spot (s .ns) t₁ (p .first)
     unfolding second-mode
     held-spot (in-first l w) b = absurd (true≢false (sym b))
     held-spot (in-second g w) b = spot-down (s .ns) (tree-of h e) (run-twins e .one) w (h .spot)
 
-    pub held-number : {t₁ : List ℕ} {y : Turn} → Forked c (s .t) i k (halves Sequence p holding) t₁ y → y .second ≡ true
+    pub held-number : {t₁ : List ℕ} {y : Turn} → Forked c (s .t) k (halves i Sequence p holding) t₁ y → y .second ≡ true
         → y .at < weight-of (scene (s .ns) t₁ (s .a)) (p .first) done (holdG (counts c (p .second)))
     unfolding second-mode
     held-number (in-first l w) b = absurd (true≢false (sym b))
     held-number (in-second g w) b = on-room e g w
 
-    pub sequence-turned : {t₁ t₂ : List ℕ} {y : Turn} {z : Picked} → Forked c (s .t) i k (halves Sequence p holding) t₁ y → y .second ≡ true
+    pub sequence-turned : {t₁ t₂ : List ℕ} {y : Turn} {z : Picked} → Forked c (s .t) k (halves i Sequence p holding) t₁ y → y .second ≡ true
         → Chosen (scene (s .ns) t₁ (s .a)) (p .first) (ask done (holdG (counts c (p .second))) (y .at)) t₂ z → length t₂ ≡ length t₁
         → Turned s c (move Running i k) t₂ (move Running (y .node) (z .rest))
     unfolding second-mode

@@ -84,22 +84,23 @@ second-mode Sequence g m = g
 second-mode Choice g m = second-taken
 second-mode Parallel g m = m
 
--- two live parts, how they are joined, and the mode of a sequence that has gone on
+-- the two live parts of a node, how they are joined, and the mode of a sequence that has gone on
 pub record Halves : Type 0 where
+  pub node : ℕ
   pub operator : Operator
   pub two : Two
   pub gone : ℕ
 
-abbrev pub halves : Operator → Two → ℕ → Halves
-halves o p g = record { operator = o; two = p; gone = g }
+abbrev pub halves : ℕ → Operator → Two → ℕ → Halves
+halves i o p g = record { node = i; operator = o; two = p; gone = g }
 
 abbrev pub turn-to : ℕ → ℕ → Bool → Turn
 turn-to j l b = record { node = j; at = l; second = b }
 
--- step k of node i, which has the parts f, is one of the first or one of the second; the node's mode is set for it
-pub data Forked (c t : List ℕ) (i k : ℕ) (f : Halves) (t′ : List ℕ) : Turn → Type 0 where
-  in-first : k < counts c (f .two .first) → Sets t i (first-mode (f .operator) (modes t i)) t′ → Forked c t i k f t′ (turn-to (f .two .first) k false)
-  in-second : counts c (f .two .first) ≤ k → Sets t i (second-mode (f .operator) (f .gone) (modes t i)) t′ → Forked c t i k f t′ (turn-to (f .two .second) (k - counts c (f .two .first)) true)
+-- step k of a node with the parts f is one of the first or one of the second; the node's mode is set for it
+pub data Forked (c t : List ℕ) (k : ℕ) (f : Halves) (t′ : List ℕ) : Turn → Type 0 where
+  in-first : k < counts c (f .two .first) → Sets t (f .node) (first-mode (f .operator) (modes t (f .node))) t′ → Forked c t k f t′ (turn-to (f .two .first) k false)
+  in-second : counts c (f .two .first) ≤ k → Sets t (f .node) (second-mode (f .operator) (f .gone) (modes t (f .node))) t′ → Forked c t k f t′ (turn-to (f .two .second) (k - counts c (f .two .first)) true)
 
 -- what is left of a part in a role, and its term and counts from those of its live parts
 abbrev pub Stance : Role → Type 0

@@ -81,7 +81,7 @@ fn turn_two(
 ) -> Turn
     requires { ⌜ i < length (now t) ⌝ }
     requires { ⌜ two .first < 64 ⌝ }
-    ensures { λ r. ⌜ Forked (now (c .entry)) (now (t .entry)) i k (halves operator two gone) (now (t .exit)) r ⌝ }
+    ensures { λ r. ⌜ Forked (now (c .entry)) (now (t .entry)) k (halves i operator two gone) (now (t .exit)) r ⌝ }
 {
     let n = count_at(c, two.first);
     if k < n {
