@@ -34,7 +34,7 @@ use Rattle.states.specs.StateLaws.{std-part, run-part, std-stored, run-stored}
 use Rattle.states.specs.NotedLaws.{noted-stored}
 use Rattle.states.specs.Roles.{Sight, moves-of, ok}
 use Rattle.states.specs.Contracts.{Spot, Sets, Scene, scene, part-at, stored-at, noted-at, Counted}
-use Rattle.states.specs.Rests.{Rests, CRests, stand-rests, course-rests, Lower, CLower, stand-lower, course-lower}
+use Rattle.states.specs.Rests.{Twins, Rests, CRests, stand-rests, course-rests, Lower, CLower, stand-lower, course-lower}
 use Rattle.counting.specs.Wholes.{simpleV, operatorV, simpleW, operatorW}
 use Rattle.counting.specs.WholeLaws.{view-basic, view-both, word-basic, word-both}
 use Rattle.counting.specs.StandIns.{StandIn}
@@ -82,19 +82,24 @@ module _ {ns t : List ℕ} {i : ℕ} (spot : Spot ns t i) (a : ℕ) where
     basic-counted {b} e {c} {c′} {y} {w} ey d =
         none-noted s₀ spot (Plain z) true tt (d .0 ∙ ey ∙ sym (ap (view a) (is-part e) ∙ view-basic a b)) (is-right e c′) (answered (Plain z) y w d)
 
+    -- two live parts, whose views make that of the whole by f
+    two-counted : {x : Standing} (e : stand v (node ns j) (modes t j) ≡ x) {x₂ : Two} → Twins ns j x₂ → (f : View → View → View)
+        → view a (std-of x v (part ns (modes t))) ≡ f (view a (part-at s₀ (x₂ .first) .std v)) (view a (part-at s₀ (x₂ .second) .std v))
+        → ((c : List ℕ) → std-right x v (noted-at s₀ c) (stored-at s₀ c) ≡ right-both c x₂) → {c c₁ c₂ c₃ : List ℕ} {p q y w : View}
+        → Counted s₀ (Plain v) (x₂ .first) c c₁ p → Counted s₀ (Plain v) (x₂ .second) c₁ c₂ q → y ≡ f p q → (w ≡ y) × Sets c₂ i (y .moves) c₃ → Counted s₀ (Plain z) i c c₃ w
+    two-counted e {x₂} twins f law both {c₃ = c₃} {y = y} {w} h k ey d =
+        two-noted s₀ spot (Plain z) (g .under) (Plain v) (Plain v) twins h k (right-both c₃ x₂) (λ l l′. and-in (noted-at s₀ c₃ (x₂ .first) .std v) (noted-at s₀ c₃ (x₂ .second) .std v) l l′)
+        (d .0 ∙ ey ∙ (λ r. f (h .seen r) (k .seen r)) ∙ sym (ap (view a) (is-part e) ∙ law)) (is-right e c₃ ∙ both c₃) (answered (Plain z) y w d)
+
     pub both-counted : {o : Operator} {x : Two} → stand v (node ns j) (modes t j) ≡ standing.Both o x → {c c₁ c₂ c₃ : List ℕ} {p q y w : View}
         → Counted s₀ (Plain v) (x .first) c c₁ p → Counted s₀ (Plain v) (x .second) c₁ c₂ q → y ≡ operatorV o p q → (w ≡ y) × Sets c₂ i (y .moves) c₃ → Counted s₀ (Plain z) i c c₃ w
     unfolding std-of std-right
-    both-counted {o} {x} e {c₃ = c₃} {y = y} {w} f h ey d =
-        two-noted s₀ spot (Plain z) (g .under) (Plain v) (Plain v) (rests e) f h (right-both c₃ x) (λ k k′. and-in (noted-at s₀ c₃ (x .first) .std v) (noted-at s₀ c₃ (x .second) .std v) k k′)
-        (d .0 ∙ ey ∙ (λ r. operatorV o (f .seen r) (h .seen r)) ∙ sym (ap (view a) (is-part e) ∙ view-both a o _ _)) (is-right e c₃) (answered (Plain z) y w d)
+    both-counted {o} e = two-counted e (rests e) (operatorV o) (view-both a o _ _) (λ c. refl)
 
     pub handler-counted : {x : Two} → stand v (node ns j) (modes t j) ≡ standing.Handler x → {c c₁ c₂ c₃ : List ℕ} {p q y w : View}
         → Counted s₀ (Plain v) (x .first) c c₁ p → Counted s₀ (Plain v) (x .second) c₁ c₂ q → y ≡ hndV p q → (w ≡ y) × Sets c₂ i (y .moves) c₃ → Counted s₀ (Plain z) i c c₃ w
     unfolding std-of std-right
-    handler-counted {x} e {c₃ = c₃} {y = y} {w} f h ey d =
-        two-noted s₀ spot (Plain z) (g .under) (Plain v) (Plain v) (rests e) f h (right-both c₃ x) (λ k k′. and-in (noted-at s₀ c₃ (x .first) .std v) (noted-at s₀ c₃ (x .second) .std v) k k′)
-        (d .0 ∙ ey ∙ (λ r. hndV (f .seen r) (h .seen r)) ∙ sym (ap (view a) (is-part e) ∙ view-hnd a _ _)) (is-right e c₃) (answered (Plain z) y w d)
+    handler-counted e = two-counted e (rests e) hndV (view-hnd a _ _) (λ c. refl)
 
     pub block-counted : {x : ℕ} → stand v (node ns j) (modes t j) ≡ standing.Block x → {c c₁ c₂ : List ℕ} {p : Word} {y w : View}
         → Counted s₀ Running x c c₁ p → y ≡ blkV p → (w ≡ y) × Sets c₁ i (y .moves) c₂ → Counted s₀ (Plain z) i c c₂ w
