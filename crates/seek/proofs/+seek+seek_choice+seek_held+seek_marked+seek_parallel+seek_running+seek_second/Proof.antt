@@ -1,7 +1,7 @@
 -- `seek::seek` and the functions that it calls by the course of a node, which call it again for the children, meet their contracts.
 -- Each call and each return is answered by its lemma in Branches, from what the code has learnt on its way there. The measure is the
 -- node's number, and below it the order in which functions call each other at one node. Assumes nothing.
-use Rattle.seek.specs.Branches.{wanted, wanted-both, basic-chosen, below-spot, below-room, below-chosen, as-lower, as-room, as-chosen, choice-spot, choice-first-below, choice-first, choice-second-below, choice-second, second-below, second-chosen, held-spot, held-wanted, held-chosen, running-lower, running-first, running-second, own-below, own-chosen, both-room, both-wanted, both-chosen, parallel-first, parallel-second, par-first-room, par-second-room, par-chosen}
+use Rattle.seek.specs.Branches.{wanted, wanted-both, basic-chosen, below-spot, below-room, below-chosen, as-lower, as-room, as-chosen, first-lower, second-lower, first-spot, second-spot, choice-first-below, choice-first, choice-second-below, choice-second, second-below, second-chosen, held-spot, held-wanted, held-chosen, own-below, own-chosen, both-room, both-wanted, both-chosen, par-first-room, par-second-room, par-chosen}
 use Rattle.states.specs.ChildLaws.{lower-spot, same-room, kid-lower}
 use mathlib.Core.Path.{sym, _∙_}
 use native.Mathlib.Omega.{arith}
@@ -243,7 +243,7 @@ seek-returns-7 : (t : ℕ) → seek-lts.Need-returns-7 (seek-calls t) (seek-at t
 seek-returns-7 t c = as-chosen (wanted (c .before .before .before .before .before .before .before .before .before .before .before .pre .1 .0) (c .before .before .before .before .before .before .before .before .before .before .before .pre .1 .1) (c .before .before .before .before .before .before .before .course-at .ensures) (c .before .before .before .before .before .course4 .given .1)) (c .before .before .seek .ensures)
 
 seek-choice-weight-by-requires : (t : ℕ) → seek-choice-lts.Need-weight-by-requires (seek-choice-calls t) (seek-choice-at t) seek-choice.Post
-seek-choice-weight-by-requires t c κs = choice-spot (c .before .before .before .pre .1)
+seek-choice-weight-by-requires t c κs = first-spot (c .before .before .before .pre .1)
 
 seek-choice-seek-marked-requires : (t : ℕ) → seek-choice-lts.Need-seek-marked-requires (seek-choice-calls t) (seek-choice-at t) seek-choice.Post
 seek-choice-seek-marked-requires t c κs = (omega (arith, c .before .before .before .before .before .before .pre .0), choice-first-below (c .before .before .before .before .before .before .pre .1) (c .before .before .weight-by .ensures) (c .before .if1 .taken))
@@ -288,10 +288,10 @@ seek-marked-returns : (t : ℕ) → seek-marked-lts.Need-returns (seek-marked-ca
 seek-marked-returns t c = below-chosen _ (c .before .before .before .before .before .before .set-mode .ensures) (c .before .before .before .before .before .before .before .before .before .before .pre .1) (c .before .before .seek .ensures)
 
 seek-parallel-word-at-requires : (t : ℕ) → seek-parallel-lts.Need-word-at-requires (seek-parallel-calls t) (seek-parallel-at t) seek-parallel.Post
-seek-parallel-word-at-requires t c κs = lower-spot (c .before .before .before .pre .1 .spot) (parallel-first (c .before .before .before .pre .1))
+seek-parallel-word-at-requires t c κs = first-spot (c .before .before .before .pre .1)
 
 seek-parallel-word-at-requires-2 : (t : ℕ) → seek-parallel-lts.Need-word-at-requires-2 (seek-parallel-calls t) (seek-parallel-at t) seek-parallel.Post
-seek-parallel-word-at-requires-2 t c κs = lower-spot (c .before .before .before .before .before .pre .1 .spot) (parallel-second (c .before .before .before .before .before .pre .1))
+seek-parallel-word-at-requires-2 t c κs = second-spot (c .before .before .before .before .before .pre .1)
 
 seek-parallel-first-ending-requires : (t : ℕ) → seek-parallel-lts.Need-first-ending-requires (seek-parallel-calls t) (seek-parallel-at t) seek-parallel.Post
 seek-parallel-first-ending-requires t c κs = c .before .before .before .before .before .before .pre .1 .closes
@@ -300,7 +300,7 @@ seek-parallel-beside-requires : (t : ℕ) → seek-parallel-lts.Need-beside-requ
 seek-parallel-beside-requires t c κs = (c .before .before .before .before .before .before .before .before .pre .1 .closes, c .before .first-ending .ensures .small)
 
 seek-parallel-seek-requires : (t : ℕ) → seek-parallel-lts.Need-seek-requires (seek-parallel-calls t) (seek-parallel-at t) seek-parallel.Post
-seek-parallel-seek-requires t c κs = let l = parallel-first (c .before .before .before .before .before .before .before .before .before .pre .1) in (omega (arith, c .before .before .before .before .before .before .before .before .before .pre .0, l), (lower-spot (c .before .before .before .before .before .before .before .before .before .pre .1 .spot) l, (c .before .before .first-ending .ensures .small, par-first-room (c .before .before .before .before .before .before .before .before .before .pre .1) (c .before .before .before .before .before .word-at .ensures) (c .before .before .before .word-at2 .ensures) (c .before .before .first-ending .ensures) (c .beside .ensures))))
+seek-parallel-seek-requires t c κs = let h = c .before .before .before .before .before .before .before .before .before .pre .1 in (omega (arith, c .before .before .before .before .before .before .before .before .before .pre .0, first-lower h), (first-spot h, (c .before .before .first-ending .ensures .small, par-first-room h (c .before .before .before .before .before .word-at .ensures) (c .before .before .before .word-at2 .ensures) (c .before .before .first-ending .ensures) (c .beside .ensures))))
 
 seek-parallel-weight-within-requires : (t : ℕ) → seek-parallel-lts.Need-weight-within-requires (seek-parallel-calls t) (seek-parallel-at t) seek-parallel.Post
 seek-parallel-weight-within-requires t c κs = search needs
@@ -309,7 +309,7 @@ seek-parallel-second-ending-requires : (t : ℕ) → seek-parallel-lts.Need-seco
 seek-parallel-second-ending-requires t c κs = (c .before .before .before .before .before .before .before .before .before .before .before .before .before .pre .1 .closes, c .before .before .before .before .before .before .first-ending .ensures .small)
 
 seek-parallel-seek-requires-2 : (t : ℕ) → seek-parallel-lts.Need-seek-requires-2 (seek-parallel-calls t) (seek-parallel-at t) seek-parallel.Post
-seek-parallel-seek-requires-2 t c κs = let l = parallel-second (c .before .before .before .before .before .before .before .before .before .before .before .before .before .before .before .pre .1) in (omega (arith, c .before .before .before .before .before .before .before .before .before .before .before .before .before .before .before .pre .0, l), (same-room (lower-spot (c .before .before .before .before .before .before .before .before .before .before .before .before .before .before .before .pre .1 .spot) l) (c .before .before .before .before .before .seek .kept .1 .0), (c .before .second-ending .ensures .small, par-second-room (c .before .before .before .before .before .before .before .before .before .before .before .before .before .before .before .pre .1) (c .before .before .before .before .before .before .before .before .before .before .before .word-at .ensures) (c .before .before .before .before .before .before .before .before .before .word-at2 .ensures) (c .before .before .before .before .before .before .before .before .first-ending .ensures) (c .before .before .before .before .before .before .beside .ensures) (c .before .before .before .before .before .seek .ensures) (c .before .before .weight-within .ensures) (c .before .second-ending .ensures))))
+seek-parallel-seek-requires-2 t c κs = let h = c .before .before .before .before .before .before .before .before .before .before .before .before .before .before .before .pre .1 in (omega (arith, c .before .before .before .before .before .before .before .before .before .before .before .before .before .before .before .pre .0, second-lower h), (same-room (second-spot h) (c .before .before .before .before .before .seek .kept .1 .0), (c .before .second-ending .ensures .small, par-second-room h (c .before .before .before .before .before .before .before .before .before .before .before .word-at .ensures) (c .before .before .before .before .before .before .before .before .before .word-at2 .ensures) (c .before .before .before .before .before .before .before .before .first-ending .ensures) (c .before .before .before .before .before .before .beside .ensures) (c .before .before .before .before .before .seek .ensures) (c .before .before .weight-within .ensures) (c .before .second-ending .ensures))))
 
 seek-parallel-sum-requires : (t : ℕ) → seek-parallel-lts.Need-sum-requires (seek-parallel-calls t) (seek-parallel-at t) seek-parallel.Post
 seek-parallel-sum-requires t c κs = search needs
@@ -321,7 +321,7 @@ seek-parallel-returns : (t : ℕ) → seek-parallel-lts.Need-returns (seek-paral
 seek-parallel-returns t c = rw (c .before .before .sum .ensures) (par-chosen (c .before .before .before .before .before .before .before .before .before .before .before .before .before .before .before .before .before .before .before .before .before .pre .1) (c .before .before .before .before .before .before .before .before .before .before .before .before .before .before .before .before .before .word-at .ensures) (c .before .before .before .before .before .before .before .before .before .before .before .before .before .before .before .word-at2 .ensures) (c .before .before .before .before .before .before .before .before .before .before .before .before .before .before .first-ending .ensures) (c .before .before .before .before .before .before .before .before .before .before .before .before .beside .ensures) (c .before .before .before .before .before .before .before .before .before .before .before .seek .ensures) (c .before .before .before .before .before .before .before .before .weight-within .ensures) (c .before .before .before .before .before .before .before .second-ending .ensures) (c .before .before .before .before .before .seek2 .ensures))
 
 seek-running-own-weight-requires : (t : ℕ) → seek-running-lts.Need-own-weight-requires (seek-running-calls t) (seek-running-at t) seek-running.Post
-seek-running-own-weight-requires t c κs = running-first (c .before .before .before .pre .1)
+seek-running-own-weight-requires t c κs = first-spot (c .before .before .before .pre .1)
 
 seek-running-seek-marked-requires : (t : ℕ) → seek-running-lts.Need-seek-marked-requires (seek-running-calls t) (seek-running-at t) seek-running.Post
 seek-running-seek-marked-requires t c κs = (omega (arith, c .before .before .before .before .before .before .pre .0), own-below (c .before .before .before .before .before .before .pre .1) (c .before .before .own-weight .ensures) (c .before .if1 .taken))
@@ -333,10 +333,10 @@ seek-running-returns : (t : ℕ) → seek-running-lts.Need-returns (seek-running
 seek-running-returns t c = own-chosen (c .before .before .before .before .before .before .before .before .before .pre .1) (c .before .before .before .before .before .own-weight .ensures) (c .before .before .before .before .if1 .taken) (c .before .before .seek-marked .ensures)
 
 seek-running-weight-before-requires : (t : ℕ) → seek-running-lts.Need-weight-before-requires (seek-running-calls t) (seek-running-at t) seek-running.Post
-seek-running-weight-before-requires t c κs = running-second (c .before .before .before .before .before .before .pre .1)
+seek-running-weight-before-requires t c κs = second-spot (c .before .before .before .before .before .before .pre .1)
 
 seek-running-seek-requires : (t : ℕ) → seek-running-lts.Need-seek-requires (seek-running-calls t) (seek-running-at t) seek-running.Post
-seek-running-seek-requires t c κs = let l = running-lower (c .before .before .before .before .before .before .before .before .pre .1) in (omega (arith, c .before .before .before .before .before .before .before .before .pre .0, l), (running-first (c .before .before .before .before .before .before .before .before .pre .1), (omega arith, both-room (c .before .before .before .before .before .before .before .before .pre .1) (c .before .before .before .before .own-weight .ensures) (c .before .before .before .if1 .left) (c .before .weight-before .ensures))))
+seek-running-seek-requires t c κs = let l = first-lower (c .before .before .before .before .before .before .before .before .pre .1) in (omega (arith, c .before .before .before .before .before .before .before .before .pre .0, l), (first-spot (c .before .before .before .before .before .before .before .before .pre .1), (omega arith, both-room (c .before .before .before .before .before .before .before .before .pre .1) (c .before .before .before .before .own-weight .ensures) (c .before .before .before .if1 .left) (c .before .weight-before .ensures))))
 
 seek-running-seek-second-requires : (t : ℕ) → seek-running-lts.Need-seek-second-requires (seek-running-calls t) (seek-running-at t) seek-running.Post
 seek-running-seek-second-requires t c κs = (omega (arith, c .before .before .before .before .before .before .before .before .before .before .before .before .pre .0), both-wanted (c .before .before .before .before .before .before .before .before .before .before .before .before .pre .1) (c .before .before .before .before .before .before .before .before .own-weight .ensures) (c .before .before .before .before .before .before .before .if1 .left) (c .before .before .before .before .before .weight-before .ensures) (c .before .before .before .seek .ensures) (c .before .before .before .seek .kept .1 .0))
