@@ -54,6 +54,28 @@ pub struct Range {
     pub many: u16,
 }
 
+// Of a step name's bytes, of a machine name's, and of the number of names.
+const STEP_BYTES: Range = Range {
+    least: 1,
+    few: BAD_LENGTH,
+    most: MOST_BYTES,
+    many: BAD_LENGTH,
+};
+
+const MACHINE_BYTES: Range = Range {
+    least: 0,
+    few: BAD_LENGTH,
+    most: MOST_BYTES,
+    many: BAD_LENGTH,
+};
+
+const NAMES: Range = Range {
+    least: 0,
+    few: TOO_MANY_NAMES,
+    most: MOST_NAMES,
+    many: TOO_MANY_NAMES,
+};
+
 fn wide(x: u8) -> u16
     ensures { λ r. ⌜ r ≡ x ⌝ }
 {
@@ -164,29 +186,11 @@ fn entry_at(file: &[u8], c: Cursor) -> Item
     requires { ⌜ c .at < 64000 ⌝ }
     ensures { λ r. ⌜ r ≡ as-item (λ e. length (e .step)) (run (now (file .entry)) (c .at) entry) ⌝ }
 {
-    let step = name_at(
-        file,
-        c,
-        Range {
-            least: 1,
-            few: BAD_LENGTH,
-            most: MOST_BYTES,
-            many: BAD_LENGTH,
-        },
-    );
+    let step = name_at(file, c, STEP_BYTES);
     let Item::Has(s) = step else {
         return step;
     };
-    let machine = name_at(
-        file,
-        s.next,
-        Range {
-            least: 0,
-            few: BAD_LENGTH,
-            most: MOST_BYTES,
-            many: BAD_LENGTH,
-        },
-    );
+    let machine = name_at(file, s.next, MACHINE_BYTES);
     let Item::Has(m) = machine else {
         return machine;
     };
@@ -283,16 +287,7 @@ fn new_entry_at(file: &[u8], c: Cursor, earlier: u16) -> Item
 pub fn scan_names(file: &[u8]) -> Item
     ensures { λ r. ⌜ r ≡ as-item length (run (now (file .entry)) 0 names) ⌝ }
 {
-    let head = in_range(
-        number_at(file, Cursor { at: 0 }),
-        0,
-        Range {
-            least: 0,
-            few: TOO_MANY_NAMES,
-            most: MOST_NAMES,
-            many: TOO_MANY_NAMES,
-        },
-    );
+    let head = in_range(number_at(file, Cursor { at: 0 }), 0, NAMES);
     let Item::Has(got) = head else {
         return head;
     };
