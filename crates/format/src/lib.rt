@@ -100,15 +100,18 @@ pub fn refusal(number: u16, at: usize) -> Refusal
     }
 }
 
-// The refusal that an item is, or number 0 and place 0 if it is none.
+// What stands for a refusal where there is none.
+pub const NO_REFUSAL: Refusal = Refusal {
+    number: 0,
+    place: 0,
+};
+
+// The refusal that an item is, if it is one.
 pub fn refusal_in(item: Item) -> Refusal
     ensures { λ r. ⌜ r ≡ refusal-in item ⌝ }
 {
     match item {
-        Item::Has(_) => Refusal {
-            number: 0,
-            place: 0,
-        },
+        Item::Has(_) => NO_REFUSAL,
         Item::Bad(r) => r,
     }
 }

@@ -60,15 +60,12 @@ enum Layout {
     Bad(Refusal),
 }
 
-// The refusal of a file that is not laid out, and of numbers that are not fine; number 0 and place 0 if there is none.
+// The refusal of a file that is not laid out, and of numbers that are not fine, if there is one.
 fn layout_refusal(layout: Layout) -> Refusal
     ensures { λ r. ⌜ r ≡ layout-refusal layout ⌝ }
 {
     match layout {
-        Layout::At(_) => Refusal {
-            number: 0,
-            place: 0,
-        },
+        Layout::At(_) => format::NO_REFUSAL,
         Layout::Bad(r) => r,
     }
 }
@@ -77,10 +74,7 @@ fn check_refusal(check: Check) -> Refusal
     ensures { λ r. ⌜ r ≡ check-refusal check ⌝ }
 {
     match check {
-        Check::Fine => Refusal {
-            number: 0,
-            place: 0,
-        },
+        Check::Fine => format::NO_REFUSAL,
         Check::Refused(r) => r,
     }
 }
