@@ -54,27 +54,16 @@ module _ (x y : ℕ) where
       let no : (c : ℕ) → ⊥ → c ≡ x = λ c h. absurd h in
       each-kind CarriesOne no no no no no no no no no (λ c h. sym h) no no no no no no no (λ k l c h. absurd (subst (λ n. HasOne n c) (unknown k x y l) h))
 
-has-two-first : (n : Node) (t : Two) → Has n t → T (not (eqb (form n .kids) 0))
-has-two-first (Event e) t h = absurd h
-has-two-first (Basic b) t h = absurd h
-has-two-first (Standard o u) t h = tt
-has-two-first (Handler u) t h = tt
-has-two-first (Block c) t h = absurd h
-has-two-first (Pair u) t h = tt
-has-two-first (Compensable o u) t h = tt
-has-two-first (Paired b) t h = absurd h
-has-two-first Unknown t h = absurd h
-
-has-two-second : (n : Node) (t : Two) → Has n t → T (eqb (form n .kids) 2)
-has-two-second (Event e) t h = absurd h
-has-two-second (Basic b) t h = absurd h
-has-two-second (Standard o u) t h = tt
-has-two-second (Handler u) t h = tt
-has-two-second (Block c) t h = absurd h
-has-two-second (Pair u) t h = tt
-has-two-second (Compensable o u) t h = tt
-has-two-second (Paired b) t h = absurd h
-has-two-second Unknown t h = absurd h
+has-count : (n : Node) (t : Two) → Has n t → form n .kids ≡ 2
+has-count (Event e) t h = absurd h
+has-count (Basic b) t h = absurd h
+has-count (Standard o u) t h = refl
+has-count (Handler u) t h = refl
+has-count (Block c) t h = absurd h
+has-count (Pair u) t h = refl
+has-count (Compensable o u) t h = refl
+has-count (Paired b) t h = absurd h
+has-count Unknown t h = absurd h
 
 module _ (ns : List ℕ) (i : ℕ) {n : Node} (e : node ns i ≡ n) where
   module _ (t : Two) (h : Has n t) where
@@ -85,10 +74,10 @@ module _ (ns : List ℕ) (i : ℕ) {n : Node} (e : node ns i ≡ n) where
     is-two = carries (one-of ns i) (two-of ns i) (getD ns (3 * i) 0) t has
 
     first-there : T (not (eqb (form (node ns i) .kids) 0))
-    first-there = has-two-first (node ns i) t has
+    first-there = rw (has-count (node ns i) t has) tt
 
     second-there : T (eqb (form (node ns i) .kids) 2)
-    second-there = has-two-second (node ns i) t has
+    second-there = rw (has-count (node ns i) t has) tt
 
     pub two-kids : Kid (shape ns) i (t .first) × Kid (shape ns) i (t .second)
     two-kids = (kid1 first-there (ap (λ z. z .first) is-two), kid2 second-there (ap (λ z. z .second) is-two))

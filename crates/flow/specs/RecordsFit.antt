@@ -1,10 +1,9 @@
 -- What is known of records that are not refused: how many they are, that each is an event or a closing, and that they have the
 -- closings that the table's flow takes. Assumes nothing.
-use Prim.Native.Nat.{ℕ}
+use Prim.Native.Nat.{ℕ, suc}
 use mathlib.Core.Path.{_≡_, refl, sym, ap, _∙_, subst}
 use mathlib.Core.Bool.{Bool, true, false, not, _||_, cond}
 use mathlib.Core.List.{List, [], _∷_}
-use native.Mathlib.Omega.{arith}
 use lib.Dec.{T, eqb}
 use lib.ListN.{length, getD}
 use borrow.Author.Tests.{ltb-false, not-false}
@@ -18,7 +17,6 @@ use Rattle.flow.specs.Checks.{table-check, records-check}
 use Rattle.flow.specs.Earliest.{None, Nowhere, end, not-lone, not-sweep}
 use Rattle.flow.specs.Tests.{is-false}
 use Rattle.flow.specs.FirstRefusal.{fine-nowhere}
-use Rattle.flow.specs.Closings.{event-closed, closing-closed}
 use Rattle.flow.specs.Drawn.{flow-of}
 use Rattle.flow.specs.FineTable.{fine-table}
 use Rattle.flow.specs.OneFlow.{flow-standard, flow-compensable}
@@ -52,30 +50,24 @@ unfolding closed
 closed-nil [] e = refl
 closed-nil (r ∷ rs) e = absurd (subst T (sym e) tt)
 
+-- events up to a closing, after which n closings are left
+module _ (n : ℕ) (C : List Record → Type 0) (more : (a : ℕ) (rs : List Record) → C rs → C (event a ∷ rs)) (at-closing : (w : Closing) (rs : List ℕ) → closed rs n ≡ true → C (close w ∷ records rs)) where
+  closed-up : (rs : List ℕ) → closed rs (suc n) ≡ true → C (records rs)
+  unfolding closed
+  closed-up [] e = absurd (subst T (sym e) tt)
+  closed-up (r ∷ rs) e = by (is-closing-number r) refl (closed-up rs)
+    where
+      by : (b : Bool) → is-closing-number r ≡ b → (closed rs (suc n) ≡ true → C (records rs)) → C (record-of r ∷ records rs)
+      by true h rec = let w = closing-record r h in rw (w .1) (at-closing (w .0) rs (ap (λ (b : Bool). closed rs (cond b n (suc n))) (sym h) ∙ e))
+      by false h rec = rw (event-record r h) (more r (records rs) (rec (ap (λ (b : Bool). closed rs (cond b n (suc n))) (sym h) ∙ e)))
+
 -- one closing, last
 closed-once : (rs : List ℕ) → closed rs 1 ≡ true → Closed (records rs)
-unfolding closed
-closed-once [] e = absurd (subst T (sym e) tt)
-closed-once (r ∷ rs) e = by (is-closing-number r) refl (closed-once rs)
-  where
-    by : (b : Bool) → is-closing-number r ≡ b → (closed rs 1 ≡ true → Closed (records rs)) → Closed (record-of r ∷ records rs)
-    by true h rec =
-        let w = closing-record r h in
-        let n = closed-nil rs (sym (closing-closed r rs 1 (omega arith) h) ∙ e) in
-        subst (λ (l : List Record). Closed l) (sym (λ x. w .1 x ∷ records (n x))) last
-    by false h rec = subst (λ (x : Record). Closed (x ∷ records rs)) (sym (event-record r h)) (Closed.more (rec (sym (event-closed r rs 1 (omega arith) h) ∙ e)))
+closed-once = closed-up 0 Closed (λ a rs c. Closed.more c) (λ w rs e. rw (closed-nil rs e) last)
 
 -- a closing, and one last
 closed-twice : (rs : List ℕ) → closed rs 2 ≡ true → ClosedTwice (records rs)
-unfolding closed
-closed-twice [] e = absurd (subst T (sym e) tt)
-closed-twice (r ∷ rs) e = by (is-closing-number r) refl (closed-twice rs)
-  where
-    by : (b : Bool) → is-closing-number r ≡ b → (closed rs 2 ≡ true → ClosedTwice (records rs)) → ClosedTwice (record-of r ∷ records rs)
-    by true h rec =
-        let w = closing-record r h in
-        subst (λ (x : Record). ClosedTwice (x ∷ records rs)) (sym (w .1)) (turn (closed-once rs (sym (closing-closed r rs 2 (omega arith) h) ∙ e)))
-    by false h rec = subst (λ (x : Record). ClosedTwice (x ∷ records rs)) (sym (event-record r h)) (ClosedTwice.more (rec (sym (event-closed r rs 2 (omega arith) h) ∙ e)))
+closed-twice = closed-up 1 ClosedTwice (λ a rs c. ClosedTwice.more c) (λ w rs e. turn (closed-once rs e))
 
 module _ (ns rs : List ℕ) where
   pub fine-records : records-check ns rs ≡ Fine → FineRecords ns rs

@@ -80,6 +80,17 @@ pub const MOST_NODES: usize = 64;
 
 pub const MOST_RECORDS: usize = 256;
 
+// The refusals, by document 01's numbers, that others give too: of a count in a flow file, and of room that is too short.
+pub const NO_NODES: u16 = 1;
+
+pub const TOO_MANY_NODES: u16 = 3;
+
+pub const NO_RECORDS: u16 = 10;
+
+pub const TOO_MANY_RECORDS: u16 = 11;
+
+pub const NO_ROOM: u16 = 14;
+
 // A part without children.
 fn leaf(standard: bool, event: bool) -> Form
     ensures { λ r. ⌜ r ≡ leaf-form standard event ⌝ }
@@ -398,13 +409,13 @@ pub fn check_table(nodes: &[u16]) -> Check
     ensures { λ r. ⌜ r ≡ table-check (now (nodes .entry)) ⌝ }
 {
     if nodes.len() == 0 {
-        return refuse(1, 0);
+        return refuse(NO_NODES, 0);
     }
     if nodes.len() % 3 != 0 {
         return refuse(2, 0);
     }
     if nodes.len() / 3 > MOST_NODES {
-        return refuse(3, 0);
+        return refuse(TOO_MANY_NODES, 0);
     }
     check_nodes(nodes)
 }
@@ -462,10 +473,10 @@ pub fn check_records(nodes: &[u16], records: &[u16]) -> Check
     ensures { λ r. ⌜ r ≡ records-check (now (nodes .entry)) (now (records .entry)) ⌝ }
 {
     if records.len() == 0 {
-        return refuse(10, 0);
+        return refuse(NO_RECORDS, 0);
     }
     if records.len() > MOST_RECORDS {
-        return refuse(11, 0);
+        return refuse(TOO_MANY_RECORDS, 0);
     }
     let values = check_values(records);
     if let Check::Refused(refusal) = values {

@@ -55,6 +55,28 @@ pub struct Range {
     pub many: u16,
 }
 
+// Of a step name's bytes, of a machine name's, and of the number of names.
+const STEP_BYTES: Range = Range {
+    least: 1,
+    few: BAD_LENGTH,
+    most: MOST_BYTES,
+    many: BAD_LENGTH,
+};
+
+const MACHINE_BYTES: Range = Range {
+    least: 0,
+    few: BAD_LENGTH,
+    most: MOST_BYTES,
+    many: BAD_LENGTH,
+};
+
+const NAMES: Range = Range {
+    least: 0,
+    few: TOO_MANY_NAMES,
+    most: MOST_NAMES,
+    many: TOO_MANY_NAMES,
+};
+
 fn wide(x: u8) -> u16
     ensures { λ r. ⌜ r ≡ x ⌝ }
 {
@@ -79,15 +101,18 @@ pub fn refusal(number: u16, at: usize) -> Refusal
     }
 }
 
-// The refusal that an item is, or number 0 and place 0 if it is none.
+// What stands for a refusal where there is none.
+pub const NO_REFUSAL: Refusal = Refusal {
+    number: 0,
+    place: 0,
+};
+
+// The refusal that an item is, if it is one.
 pub fn refusal_in(item: Item) -> Refusal
     ensures { λ r. ⌜ r ≡ refusal-in item ⌝ }
 {
     match item {
-        Item::Has(_) => Refusal {
-            number: 0,
-            place: 0,
-        },
+        Item::Has(_) => NO_REFUSAL,
         Item::Bad(r) => r,
     }
 }
@@ -165,29 +190,11 @@ fn entry_at(file: &[u8], c: Cursor) -> Item
     requires { ⌜ c .at < 64000 ⌝ }
     ensures { λ r. ⌜ r ≡ as-item (λ e. length (e .step)) (run (now (file .entry)) (c .at) entry) ⌝ }
 {
-    let step = name_at(
-        file,
-        c,
-        Range {
-            least: 1,
-            few: BAD_LENGTH,
-            most: MOST_BYTES,
-            many: BAD_LENGTH,
-        },
-    );
+    let step = name_at(file, c, STEP_BYTES);
     let Item::Has(s) = step else {
         return step;
     };
-    let machine = name_at(
-        file,
-        s.next,
-        Range {
-            least: 0,
-            few: BAD_LENGTH,
-            most: MOST_BYTES,
-            many: BAD_LENGTH,
-        },
-    );
+    let machine = name_at(file, s.next, MACHINE_BYTES);
     let Item::Has(m) = machine else {
         return machine;
     };
@@ -284,16 +291,7 @@ fn new_entry_at(file: &[u8], c: Cursor, earlier: u16) -> Item
 pub fn scan_names(file: &[u8]) -> Item
     ensures { λ r. ⌜ r ≡ as-item length (run (now (file .entry)) 0 names) ⌝ }
 {
-    let head = in_range(
-        number_at(file, Cursor { at: 0 }),
-        0,
-        Range {
-            least: 0,
-            few: TOO_MANY_NAMES,
-            most: MOST_NAMES,
-            many: TOO_MANY_NAMES,
-        },
-    );
+    let head = in_range(number_at(file, Cursor { at: 0 }), 0, NAMES);
     let Item::Has(got) = head else {
         return head;
     };

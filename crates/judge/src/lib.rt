@@ -363,7 +363,7 @@ fn check_all(nodes: &[u16], records: &[u16], room: usize) -> Check
     }
     if room < room_wanted(nodes, records) {
         return Check::Refused(Refusal {
-            number: 14,
+            number: flow::NO_ROOM,
             place: 0,
         });
     }

@@ -12,27 +12,28 @@ ghost use Rattle.format.specs.Items.{numbers-at};
 ghost use Rattle.reader.specs.Reading.{ReadAs};
 ghost use Rattle.reader.specs.Laying.{layout-refusal, check-refusal, Lays, Inside};
 
-// The refusals of the reader's own, by document 01's numbers.
-const NO_NODES: u16 = 1;
-
-const TOO_MANY_NODES: u16 = 3;
-
-const NO_RECORDS: u16 = 10;
-
-const TOO_MANY_RECORDS: u16 = 11;
-
-const NO_ROOM: u16 = 14;
-
+// The refusal of the reader's own, by document 01's number.
 const TOO_LONG: u16 = 21;
 
-// The most that there may be of nodes and records, and what the two tables must hold: three numbers for each node, and the records.
-const MOST_NODES: u16 = 64;
+// How many nodes and records there may be.
+const NODES: Range = Range {
+    least: 1,
+    few: flow::NO_NODES,
+    most: flow::MOST_NODES as u16,
+    many: flow::TOO_MANY_NODES,
+};
 
-const MOST_RECORDS: u16 = 256;
+const RECORDS: Range = Range {
+    least: 1,
+    few: flow::NO_RECORDS,
+    most: flow::MOST_RECORDS as u16,
+    many: flow::TOO_MANY_RECORDS,
+};
 
-const NODE_ROOM: usize = 192;
+// What the two tables must hold: three numbers for each node, and the records.
+const NODE_ROOM: usize = 3 * flow::MOST_NODES;
 
-const RECORD_ROOM: usize = 256;
+const RECORD_ROOM: usize = flow::MOST_RECORDS;
 
 // How many names, nodes and records a file has.
 pub struct Counts {
@@ -59,15 +60,12 @@ enum Layout {
     Bad(Refusal),
 }
 
-// The refusal of a file that is not laid out, and of numbers that are not fine; number 0 and place 0 if there is none.
+// The refusal of a file that is not laid out, and of numbers that are not fine, if there is one.
 fn layout_refusal(layout: Layout) -> Refusal
     ensures { λ r. ⌜ r ≡ layout-refusal layout ⌝ }
 {
     match layout {
-        Layout::At(_) => Refusal {
-            number: 0,
-            place: 0,
-        },
+        Layout::At(_) => format::NO_REFUSAL,
         Layout::Bad(r) => r,
     }
 }
@@ -76,10 +74,7 @@ fn check_refusal(check: Check) -> Refusal
     ensures { λ r. ⌜ r ≡ check-refusal check ⌝ }
 {
     match check {
-        Check::Fine => Refusal {
-            number: 0,
-            place: 0,
-        },
+        Check::Fine => format::NO_REFUSAL,
         Check::Refused(r) => r,
     }
 }
@@ -92,31 +87,11 @@ fn lay_out(file: &[u8]) -> Layout
     let Item::Has(e) = names else {
         return Layout::Bad(format::refusal_in(names));
     };
-    let nodes = format::section_at(
-        file,
-        e.next,
-        Range {
-            least: 1,
-            few: NO_NODES,
-            most: MOST_NODES,
-            many: TOO_MANY_NODES,
-        },
-        3,
-    );
+    let nodes = format::section_at(file, e.next, NODES, 3);
     let Item::Has(n) = nodes else {
         return Layout::Bad(format::refusal_in(nodes));
     };
-    let records = format::section_at(
-        file,
-        n.next,
-        Range {
-            least: 1,
-            few: NO_RECORDS,
-            most: MOST_RECORDS,
-            many: TOO_MANY_RECORDS,
-        },
-        1,
-    );
+    let records = format::section_at(file, n.next, RECORDS, 1);
     let Item::Has(k) = records else {
         return Layout::Bad(format::refusal_in(records));
     };
@@ -158,10 +133,10 @@ pub fn read(file: &[u8], nodes: &mut [u16], records: &mut [u16]) -> Reading
     ensures { λ r. ⌜ ReadAs (now (file .entry)) (now (nodes .entry)) (now (records .entry)) (now (nodes .exit)) (now (records .exit)) r ⌝ }
 {
     if nodes.len() < NODE_ROOM {
-        return Reading::Refused(format::refusal(NO_ROOM, 0));
+        return Reading::Refused(format::refusal(flow::NO_ROOM, 0));
     }
     if records.len() < RECORD_ROOM {
-        return Reading::Refused(format::refusal(NO_ROOM, 0));
+        return Reading::Refused(format::refusal(flow::NO_ROOM, 0));
     }
     let layout = lay_out(file);
     let Layout::At(o) = layout else {

@@ -1,9 +1,11 @@
 // What a case is read from: bytes from standard input, and numbers of them, the low byte first.
 use libc::STDIN_FILENO;
 use libc::STDOUT_FILENO;
+ghost use mathlib.Core.Bool.{false};
 ghost use mathlib.Core.Path.{_≡_};
 ghost use Prim.Native.Nat.{_+_, _*_, _≤_};
 ghost use lib.ListN.{length};
+ghost use Rattle.replay.specs.Fetched.{Fetched};
 
 // Four bytes as a number, the low one first.
 pub fn four(a: u8, b: u8, c: u8, d: u8) -> u32
@@ -15,11 +17,15 @@ pub fn four(a: u8, b: u8, c: u8, d: u8) -> u32
 // Reads so many bytes, and answers whether they were there.
 pub fn fetch(room: &mut [u8], n: usize) -> bool
     requires { ⌜ n ≤ length (now room) ⌝ }
+    ensures { λ r. ⌜ Fetched n (now (room .entry)) (now (room .exit)) r ⌝ }
 {
     io::read_full(STDIN_FILENO, &mut room[..n]) == n
 }
 
-pub fn bad_case() -> bool {
+// Says that this is no case; there is no going on after it.
+pub fn bad_case() -> bool
+    ensures { λ r. ⌜ r ≡ false ⌝ }
+{
     io::write_all(STDOUT_FILENO, b"bad case\n");
     false
 }

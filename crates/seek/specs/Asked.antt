@@ -22,6 +22,7 @@ use Rattle.states.specs.declared.Course.{Course}
 use Rattle.states.specs.declared.Picked.{Picked}
 use Rattle.states.specs.Standings.{course-of}
 use Rattle.states.specs.State.{part, modes}
+use Rattle.seek.specs.declared.Query.{Query}
 use Rattle.states.specs.Contracts.{Spot, Kept, Scene, part-at, weight-of, Ask, ask, Chosen}
 
 -- an ending, as a small number, that j falls on, where those done and withdrawn weigh x and y
@@ -42,6 +43,10 @@ left ns t i = part ns (modes t) i .std Undoing
 -- what is known of a compensation
 abbrev pub picked : ℕ → ℕ → Bool → Picked
 picked r n b = record { rest = r; moves = n; able = b }
+
+-- what the code is asked, where the closing is a small number
+abbrev pub asked : Query → Ask
+asked q = ask (closing (q .closing)) (q .weight) (q .number)
 
 -- among the compensations l, what is asked falls on k, of which p is known
 abbrev pub Picks : ℕ → Ask → List Std → Std → Picked → Type 0

@@ -2,22 +2,23 @@
 -- takes what the code has learnt, in the code's order; what it says of terms is in SeekLaws of the crate below. Assumes nothing.
 use Prim.Native.Nat.{ℕ, _+_, _-_, _<_, _≤_}
 use mathlib.Core.Path.{_≡_, refl, sym, _∙_, ap, subst}
-use mathlib.Core.Bool.{Bool, true, not, _&&_, cond}
+use mathlib.Core.Bool.{true, not, _&&_, cond}
 use mathlib.Core.List.{List, map}
 use mathlib.Core.Logic.{_≢_}
 use native.Mathlib.Omega.{arith}
 use lib.Dec.{eqb}
 use lib.ListN.{length, set}
-use Rattle.calculus.specs.Term.{done, withdrawn, Std, Cmp, skip, seq, par, pair, cseq, calt, cpar, held}
+use Rattle.calculus.specs.Term.{done, withdrawn, Std, Cmp, skip, seq, par, pair, cseq, held}
 use Rattle.calculus.specs.Successors.{eqc, only, comps}
 use Rattle.flow.specs.declared.Simple.{Simple}
 use Rattle.flow.specs.declared.Simple.the-variants.{Skip, Throw, Yield}
 use Rattle.flow.specs.declared.Operator.{Operator}
 use Rattle.flow.specs.declared.Operator.the-variants.{Sequence, Choice, Parallel}
 use Rattle.flow.specs.declared.Two.{Two}
-use Rattle.flow.specs.Draws.{paired}
+use Rattle.flow.specs.declared.Node.the-variants.{Compensable}
+use Rattle.flow.specs.Draws.{paired, compensable}
 use Rattle.flow.specs.Kinds.{node, shape}
-use Rattle.flow.specs.Nodes.{Tree}
+use Rattle.flow.specs.Nodes.{Kid, Tree}
 use Rattle.flow.specs.NodeChildren.{two-kids, kids-disjoint}
 use Rattle.tallies.specs.Capped.{cap}
 use Rattle.tallies.specs.Counts.{sum-of, moves, view, tally, word, weight}
@@ -33,6 +34,7 @@ use Rattle.states.specs.declared.Role.the-variants.{Plain}
 use Rattle.states.specs.declared.Course.{Course}
 use Rattle.states.specs.declared.Course.the-variants as course
 use Rattle.states.specs.declared.Picked.{Picked}
+use Rattle.states.specs.Standings as standings
 use Rattle.states.specs.Standings.{stand, stand-undoing, undoing-two}
 use Rattle.states.specs.State.{std-of, run-of, part, modes}
 use Rattle.states.specs.StateLaws.{std-part}
@@ -154,48 +156,63 @@ module _ {ns t : List ℕ} {a i c w : ℕ} {g : Weight} {j : ℕ} (h : Wanted (s
       let l : left ns t′ i ≡ left ns t′ c = left-is ns t′ i as-tree refl (own-kept ns as-tree (course-kids (h .spot) (h .is)) (x .kept)) ∙ ap (λ x. std-of x Undoing (part ns (modes t′))) (course-node (h .spot) (h .is)) in
       record { sought = sought-is a g (closing w) (sym as-runs) (sym l) (x .sought); kept = kept-kid ns as-tree (course-kids (h .spot) (h .is)) (x .kept) }
 
+-- Two parts that both run, whatever joins them ------------------------------------------------------------------------------
+
+module _ {ns t : List ℕ} {a i w : ℕ} {g : Weight} {j : ℕ} {o : Operator} {two : Two} (h : Wanted (scene ns t a) i (course.Both o two) w g j) where
+  two-tree : Tree (shape ns)
+  two-tree = h .spot .node .sound .tree
+
+  two-twins : Twins ns i two
+  two-twins = course-kids (h .spot) (h .is)
+
+  two-runs : runs ns t i ≡ compensable o (runs ns t (two .first)) (runs ns t (two .second))
+  unfolding run-of
+  two-runs = course-runs (h .spot) (h .is)
+
+  two-room : j < cap (sum-of (weight a g) (comps (compensable o (runs ns t (two .first)) (runs ns t (two .second))) (closing w)))
+  two-room = room-is a g (closing w) two-runs (h .room)
+
+  pub first-lower : two .first < i
+  first-lower = kid-lower ns two-tree (two-twins .one)
+
+  pub second-lower : two .second < i
+  second-lower = kid-lower ns two-tree (two-twins .other)
+
+  pub first-spot : Spot ns t (two .first)
+  first-spot = lower-spot (h .spot) first-lower
+
+  pub second-spot : Spot ns t (two .second)
+  second-spot = lower-spot (h .spot) second-lower
+
+  -- the mode m leaves the child c alone, and what is picked there is what is picked in the whole
+  alone-chosen : (m : ℕ) {c n : ℕ} → Kid (shape ns) i c → stand Undoing (Compensable o two) m ≡ standings.only c Undoing → {t′ : List ℕ} {p : Picked}
+      → (Picks a (ask (closing w) g n) (comps (runs ns t c) (closing w)) (left ns t′ c) p → Picks a (ask (closing w) g j) (comps (compensable o (runs ns t (two .first)) (runs ns t (two .second))) (closing w)) (left ns t′ c) p)
+      → Chosen (scene ns (set t i m) a) c (ask (closing w) g n) t′ p → Chosen (scene ns t a) i (ask (closing w) g j) t′ p
+  unfolding std-of
+  alone-chosen m {c} kid e {t′} up x =
+      let l : left ns t′ i ≡ left ns t′ c = left-is ns t′ i two-tree (course-node (h .spot) (h .is)) (marked-mode m (h .spot) kid x) ∙ ap (λ x. std-of x Undoing (part ns (modes t′))) e in
+      record { sought = sought-is a g (closing w) (sym two-runs) (sym l) (up (marked-picks m (h .spot) kid x)); kept = marked-kept m (h .spot) kid x }
+
 -- PP□QQ ---------------------------------------------------------------------------------------------------------------------
 
 module _ {ns t : List ℕ} {a i w : ℕ} {g : Weight} {j : ℕ} {two : Two} (h : Wanted (scene ns t a) i (course.Both Choice two) w g j) where
-  calt-tree : Tree (shape ns)
-  calt-tree = h .spot .node .sound .tree
-
-  calt-twins : Twins ns i two
-  calt-twins = course-kids (h .spot) (h .is)
-
-  calt-runs : runs ns t i ≡ calt (runs ns t (two .first)) (runs ns t (two .second))
-  unfolding run-of
-  calt-runs = course-runs (h .spot) (h .is)
-
-  calt-room : j < cap (sum-of (weight a g) (comps (calt (runs ns t (two .first)) (runs ns t (two .second))) (closing w)))
-  calt-room = room-is a g (closing w) calt-runs (h .room)
-
-  pub choice-spot : Spot ns t (two .first)
-  choice-spot = lower-spot (h .spot) (kid-lower ns calt-tree (calt-twins .one))
-
   -- the first's compensations weigh c
   module _ {c : ℕ} (d : c ≡ weight-of (scene ns t a) (two .first) (closing w) g) where
     module _ (lt : j < c) where
       pub choice-first-below : Below (scene ns t a) i (two .first) w g j
-      choice-first-below = record { spot = h .spot; kid = calt-twins .one; closes = h .closes; room = omega (arith, d) }
+      choice-first-below = record { spot = h .spot; kid = two-twins h .one; closes = h .closes; room = omega (arith, d) }
 
       pub choice-first : {t′ : List ℕ} {p : Picked} → Chosen (scene ns (set t i 1) a) (two .first) (ask (closing w) g j) t′ p → Chosen (scene ns t a) i (ask (closing w) g j) t′ p
-      unfolding std-of stand stand-undoing undoing-two
-      choice-first {t′} {p} m =
-          let l : left ns t′ i ≡ left ns t′ (two .first) = left-is ns t′ i calt-tree (course-node (h .spot) (h .is)) (marked-mode 1 (h .spot) (calt-twins .one) m) in
-          let u : Picks a (ask (closing w) g j) (comps (calt (runs ns t (two .first)) (runs ns t (two .second))) (closing w)) (left ns t′ (two .first)) p = seek-calt-first a g _ _ (closing w) (marked-picks 1 (h .spot) (calt-twins .one) m) in
-          record { sought = sought-is a g (closing w) (sym calt-runs) (sym l) u; kept = marked-kept 1 (h .spot) (calt-twins .one) m }
+      unfolding stand stand-undoing undoing-two
+      choice-first = alone-chosen h 1 (two-twins h .one) refl (seek-calt-first a g _ _ (closing w))
 
     module _ (le : c ≤ j) where
       pub choice-second-below : Below (scene ns t a) i (two .second) w g (j - c)
-      choice-second-below = record { spot = h .spot; kid = calt-twins .other; closes = h .closes; room = seek-calt-room a g _ _ (closing w) d calt-room le }
+      choice-second-below = record { spot = h .spot; kid = two-twins h .other; closes = h .closes; room = seek-calt-room a g _ _ (closing w) d (two-room h) le }
 
       pub choice-second : {t′ : List ℕ} {p : Picked} → Chosen (scene ns (set t i 2) a) (two .second) (ask (closing w) g (j - c)) t′ p → Chosen (scene ns t a) i (ask (closing w) g j) t′ p
-      unfolding std-of stand stand-undoing undoing-two
-      choice-second {t′} {p} m =
-          let l : left ns t′ i ≡ left ns t′ (two .second) = left-is ns t′ i calt-tree (course-node (h .spot) (h .is)) (marked-mode 2 (h .spot) (calt-twins .other) m) in
-          let u : Picks a (ask (closing w) g j) (comps (calt (runs ns t (two .first)) (runs ns t (two .second))) (closing w)) (left ns t′ (two .second)) p = seek-calt-second a g _ _ (closing w) d calt-room le (marked-picks 2 (h .spot) (calt-twins .other) m) in
-          record { sought = sought-is a g (closing w) (sym calt-runs) (sym l) u; kept = marked-kept 2 (h .spot) (calt-twins .other) m }
+      unfolding stand stand-undoing undoing-two
+      choice-second = alone-chosen h 2 (two-twins h .other) refl (seek-calt-second a g _ _ (closing w) d (two-room h) le)
 
 -- PP;QQ: the second, before what the first has become -----------------------------------------------------------------------
 
@@ -254,51 +271,26 @@ module _ {ns t : List ℕ} {a i w : ℕ} {g : Weight} {j : ℕ} {two : Two} (h :
 -- PP;QQ whose PP runs -------------------------------------------------------------------------------------------------------
 
 module _ {ns t : List ℕ} {a i w : ℕ} {g : Weight} {j : ℕ} {two : Two} (h : Wanted (scene ns t a) i (course.Both Sequence two) w g j) where
-  cseq-tree : Tree (shape ns)
-  cseq-tree = h .spot .node .sound .tree
-
-  cseq-twins : Twins ns i two
-  cseq-twins = course-kids (h .spot) (h .is)
-
-  cseq-runs : runs ns t i ≡ cseq (runs ns t (two .first)) (runs ns t (two .second))
-  unfolding run-of
-  cseq-runs = course-runs (h .spot) (h .is)
-
-  cseq-room : j < cap (sum-of (weight a g) (comps (cseq (runs ns t (two .first)) (runs ns t (two .second))) (closing w)))
-  cseq-room = room-is a g (closing w) cseq-runs (h .room)
-
-  pub running-lower : two .first < i
-  running-lower = kid-lower ns cseq-tree (cseq-twins .one)
-
-  pub running-first : Spot ns t (two .first)
-  running-first = lower-spot (h .spot) running-lower
-
-  pub running-second : Spot ns t (two .second)
-  running-second = lower-spot (h .spot) (kid-lower ns cseq-tree (cseq-twins .other))
-
   module _ {c : ℕ} (d : c ≡ own-of (scene ns t a) (two .first) (closing w) g) where
     -- PP closes by w
     module _ (lt : j < c) where
       pub own-below : Below (scene ns t a) i (two .first) w g j
-      own-below = record { spot = h .spot; kid = cseq-twins .one; closes = h .closes; room = seek-own-room a g _ _ (closing w) d cseq-room lt }
+      own-below = record { spot = h .spot; kid = two-twins h .one; closes = h .closes; room = seek-own-room a g _ _ (closing w) d (two-room h) lt }
 
       pub own-chosen : {t′ : List ℕ} {p : Picked} → Chosen (scene ns (set t i 2) a) (two .first) (ask (closing w) g j) t′ p → Chosen (scene ns t a) i (ask (closing w) g j) t′ p
-      unfolding std-of stand stand-undoing undoing-two
-      own-chosen {t′} {p} m =
-          let l : left ns t′ i ≡ left ns t′ (two .first) = left-is ns t′ i cseq-tree (course-node (h .spot) (h .is)) (marked-mode 2 (h .spot) (cseq-twins .one) m) in
-          let u : Picks a (ask (closing w) g j) (comps (cseq (runs ns t (two .first)) (runs ns t (two .second))) (closing w)) (left ns t′ (two .first)) p = seek-own a g _ _ (closing w) d cseq-room lt (marked-picks 2 (h .spot) (cseq-twins .one) m) in
-          record { sought = sought-is a g (closing w) (sym cseq-runs) (sym l) u; kept = marked-kept 2 (h .spot) (cseq-twins .one) m }
+      unfolding stand stand-undoing undoing-two
+      own-chosen = alone-chosen h 2 (two-twins h .one) refl (seek-own a g _ _ (closing w) d (two-room h) lt)
 
     -- PP ends done, and QQ closes by w
     module _ (le : c ≤ j) {g₁ : Weight} (eg : g₁ ≡ afterG (tally a (comps (runs ns t (two .second)) (closing w))) g) where
       pub both-room : j - c < weight-of (scene ns t a) (two .first) done g₁
-      both-room = seek-both-room a g _ _ (closing w) d cseq-room le refl eg
+      both-room = seek-both-room a g _ _ (closing w) d (two-room h) le refl eg
 
       module _ {t₁ : List ℕ} {k : Picked} (x : Chosen (scene ns t a) (two .first) (ask done g₁ (j - c)) t₁ k) where
         -- what the first has become is read off the new modes, and the second is as it was
         both-list : map (λ x. seq x (left ns t₁ (two .first))) (comps (runs ns t (two .second)) (closing w)) ≡ seconds (scene ns t₁ a) two (closing w)
         both-list =
-            let q : part ns (modes t₁) (two .second) ≡ part ns (modes t) (two .second) = kept-part ns cseq-tree (two .first) (cseq-twins .free) (x .kept) in
+            let q : part ns (modes t₁) (two .second) ≡ part ns (modes t) (two .second) = kept-part ns (two-tree h) (two .first) (two-twins h .free) (x .kept) in
             λ z. map (λ x. seq x (left ns t₁ (two .first))) (comps (sym q z .run) (closing w))
 
         pub both-wanted : length t₁ ≡ length t → SecondWanted (scene ns t₁ a) i two w g k
@@ -308,56 +300,37 @@ module _ {ns t : List ℕ} {a i w : ℕ} {g : Weight} {j : ℕ} {two : Two} (h :
           closes = h .closes;
           counted = x .sought .counted;
           ended = x .sought .ended;
-          room = subst (λ l. k .rest < cap (sum-of (weight a g) l)) both-list (seek-both-rest a g _ _ (closing w) d cseq-room le refl eg (x .sought));
+          room = subst (λ l. k .rest < cap (sum-of (weight a g) l)) both-list (seek-both-rest a g _ _ (closing w) d (two-room h) le refl eg (x .sought));
         }
 
         pub both-chosen : {t′ : List ℕ} {p : Picked} → SecondChosen (scene ns t₁ a) i two (ask (closing w) g (k .rest)) t′ p → Chosen (scene ns t a) i (ask (closing w) g j) t′ p
         both-chosen {t′} {p} m =
             let v : Picks a (ask (closing w) g (k .rest)) (map (λ x. seq x (left ns t₁ (two .first))) (comps (runs ns t (two .second)) (closing w))) (left ns t′ i) p = subst (λ l. Picks a (ask (closing w) g (k .rest)) l (left ns t′ i) p) (sym both-list) (m .sought) in
-            let u : Picks a (ask (closing w) g j) (comps (cseq (runs ns t (two .first)) (runs ns t (two .second))) (closing w)) (left ns t′ i) p = seek-both a g _ _ (closing w) d cseq-room le refl eg (x .sought) v in
-            record { sought = sought-is a g (closing w) (sym cseq-runs) refl u; kept = λ y u. m .kept y u ∙ kept-kid ns cseq-tree (cseq-twins .one) (x .kept) y u }
+            let u : Picks a (ask (closing w) g j) (comps (cseq (runs ns t (two .first)) (runs ns t (two .second))) (closing w)) (left ns t′ i) p = seek-both a g _ _ (closing w) d (two-room h) le refl eg (x .sought) v in
+            record { sought = sought-is a g (closing w) (sym (two-runs h)) refl u; kept = λ y u. m .kept y u ∙ kept-kid ns (two-tree h) (two-twins h .one) (x .kept) y u }
 
 -- PP∥QQ ---------------------------------------------------------------------------------------------------------------------
 
 module _ {ns t : List ℕ} {a i w : ℕ} {g : Weight} {j : ℕ} {two : Two} (h : Wanted (scene ns t a) i (course.Both Parallel two) w g j) where
-  cpar-tree : Tree (shape ns)
-  cpar-tree = h .spot .node .sound .tree
-
-  cpar-twins : Twins ns i two
-  cpar-twins = course-kids (h .spot) (h .is)
-
-  cpar-runs : runs ns t i ≡ cpar (runs ns t (two .first)) (runs ns t (two .second))
-  unfolding run-of
-  cpar-runs = course-runs (h .spot) (h .is)
-
-  cpar-room : j < cap (sum-of (weight a g) (comps (cpar (runs ns t (two .first)) (runs ns t (two .second))) (closing w)))
-  cpar-room = room-is a g (closing w) cpar-runs (h .room)
-
-  pub parallel-first : two .first < i
-  parallel-first = kid-lower ns cpar-tree (cpar-twins .one)
-
-  pub parallel-second : two .second < i
-  parallel-second = kid-lower ns cpar-tree (cpar-twins .other)
-
   module _ {p q : Word} (ep : p ≡ word a (runs ns t (two .first))) (eq : q ≡ word a (runs ns t (two .second))) {x r : ℕ} (fx : Fallen (total (byW p done) (besideG (partnersT q (closing w) done) g)) (total (byW p withdrawn) (besideG (partnersT q (closing w) withdrawn) g)) j x r) {g₁ : Weight} (e₁ : g₁ ≡ besideG (partnersT q (closing w) (closing x)) g) where
     pub par-first-room : r < weight-of (scene ns t a) (two .first) (closing x) g₁
-    par-first-room = seek-par-first-room a g _ _ (closing w) ep eq cpar-room refl refl (fx .falls) e₁
+    par-first-room = seek-par-first-room a g _ _ (closing w) ep eq (two-room h) refl refl (fx .falls) e₁
 
     module _ {t₁ : List ℕ} {k : Picked} (c₁ : Chosen (scene ns t a) (two .first) (ask (closing x) g₁ r) t₁ k) {g₂ : Weight} (e₂ : g₂ ≡ withinG g (k .moves) (k .able)) {y r₂ : ℕ} (fy : Fallen (total (fittingT q (closing w) (closing x) done) g₂) (total (fittingT q (closing w) (closing x) withdrawn) g₂) (k .rest) y r₂) where
       second-same : part ns (modes t₁) (two .second) ≡ part ns (modes t) (two .second)
-      second-same = kept-part ns cpar-tree (two .first) (cpar-twins .free) (c₁ .kept)
+      second-same = kept-part ns (two-tree h) (two .first) (two-twins h .free) (c₁ .kept)
 
       pub par-second-room : r₂ < weight-of (scene ns t₁ a) (two .second) (closing y) g₂
-      par-second-room = room-is a g₂ (closing y) (ap (λ p. p .run) (sym second-same)) (seek-par-second-room a g _ _ (closing w) ep eq cpar-room refl refl (fx .falls) e₁ (c₁ .sought) e₂ refl refl (fy .falls))
+      par-second-room = room-is a g₂ (closing y) (ap (λ p. p .run) (sym second-same)) (seek-par-second-room a g _ _ (closing w) ep eq (two-room h) refl refl (fx .falls) e₁ (c₁ .sought) e₂ refl refl (fy .falls))
 
       pub par-chosen : {t₂ : List ℕ} {l : Picked} → Chosen (scene ns t₁ a) (two .second) (ask (closing y) g₂ r₂) t₂ l → Chosen (scene ns t a) i (ask (closing w) g j) t₂ (picked (l .rest) (cap (k .moves + l .moves)) (k .able && l .able))
       unfolding std-of stand stand-undoing undoing-two
       par-chosen {t₂} {l} c₂ =
-          let z : part ns (modes t₂) (two .first) ≡ part ns (modes t₁) (two .first) = kept-part ns cpar-tree (two .second) (λ j u v. cpar-twins .free j v u) (c₂ .kept) in
-          let o : left ns t₂ i ≡ par (left ns t₂ (two .first)) (left ns t₂ (two .second)) = left-is ns t₂ i cpar-tree (course-node (h .spot) (h .is)) refl in
+          let z : part ns (modes t₂) (two .first) ≡ part ns (modes t₁) (two .first) = kept-part ns (two-tree h) (two .second) (λ j u v. two-twins h .free j v u) (c₂ .kept) in
+          let o : left ns t₂ i ≡ par (left ns t₂ (two .first)) (left ns t₂ (two .second)) = left-is ns t₂ i (two-tree h) (course-node (h .spot) (h .is)) refl in
           let m : par (left ns t₁ (two .first)) (left ns t₂ (two .second)) ≡ left ns t₂ i = sym (o ∙ ap (λ p. par (p .std Undoing) (left ns t₂ (two .second))) z) in
           let v : Picks a (ask (closing y) g₂ r₂) (comps (runs ns t (two .second)) (closing y)) (left ns t₂ (two .second)) l = sought-is a g₂ (closing y) (ap (λ p. p .run) second-same) refl (c₂ .sought) in
           record {
-            sought = sought-is a g (closing w) (sym cpar-runs) m (seek-par a g _ _ (closing w) ep eq cpar-room refl refl (fx .falls) e₁ (c₁ .sought) e₂ refl refl (fy .falls) v);
-            kept = λ b u. kept-kid ns cpar-tree (cpar-twins .other) (c₂ .kept) b u ∙ kept-kid ns cpar-tree (cpar-twins .one) (c₁ .kept) b u;
+            sought = sought-is a g (closing w) (sym (two-runs h)) m (seek-par a g _ _ (closing w) ep eq (two-room h) refl refl (fx .falls) e₁ (c₁ .sought) e₂ refl refl (fy .falls) v);
+            kept = λ b u. kept-kid ns (two-tree h) (two-twins h .other) (c₂ .kept) b u ∙ kept-kid ns (two-tree h) (two-twins h .one) (c₁ .kept) b u;
           }

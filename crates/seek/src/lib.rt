@@ -22,7 +22,7 @@ ghost use Rattle.tallies.specs.Counts.{tally, word};
 ghost use Rattle.tallies.specs.Formulas.{closing, byW, total, afterG, besideG, partnersT, fittingT};
 ghost use Rattle.states.specs.declared.Course.the-variants.{Pair, Both, Held};
 ghost use Rattle.states.specs.Contracts.{Spot, scene, weight-of, ask, Chosen};
-ghost use Rattle.seek.specs.Asked.{Fallen, runs, own-of, course-at, Wanted, Below, SecondWanted, SecondChosen, PairChosen};
+ghost use Rattle.seek.specs.Asked.{Fallen, runs, own-of, course-at, asked, Wanted, Below, SecondWanted, SecondChosen, PairChosen};
 
 // Weights -----------------------------------------------------------------------------------------------------------
 
@@ -151,12 +151,24 @@ fn second_ending(q: Word, w: u8, x: u8, g: Weight, j: u32) -> Fall
 
 // The search --------------------------------------------------------------------------------------------------------
 
+// What is asked of a choice among compensations: by which closing, what each weighs, and the number that falls on one.
+struct Query {
+    closing: u8,
+    weight: Weight,
+    number: u32,
+}
+
 pub fn seek(ns: &[u16], t: &mut [u8], a: u16, i: usize, w: u8, g: Weight, j: u32) -> Picked
     requires { ⌜ Spot (now ns) (now t) i ⌝ }
     requires { ⌜ (w < 3) × (j < weight-of (scene (now ns) (now t) a) i (closing w) g) ⌝ }
     ensures { λ r. ⌜ Chosen (scene (now (ns .entry)) (now (t .entry)) a) i (ask (closing w) g j) (now (t .exit)) r ⌝ }
 {
     let course = states::course_at(ns, t, i);
+    let q = Query {
+        closing: w,
+        weight: g,
+        number: j,
+    };
     match course {
         Course::Basic(_) => Picked {
             rest: j,
@@ -165,11 +177,11 @@ pub fn seek(ns: &[u16], t: &mut [u8], a: u16, i: usize, w: u8, g: Weight, j: u32
         },
         Course::Pair(two) => seek_pair(ns, t, a, i, two, w, j),
         Course::Both(operator, two) => match operator {
-            Operator::Sequence => seek_running(ns, t, a, i, two, w, g, j),
-            Operator::Choice => seek_choice(ns, t, a, i, two, w, g, j),
-            Operator::Parallel => seek_parallel(ns, t, a, i, two, w, g, j),
+            Operator::Sequence => seek_running(ns, t, a, i, two, q),
+            Operator::Choice => seek_choice(ns, t, a, i, two, q),
+            Operator::Parallel => seek_parallel(ns, t, a, i, two, q),
         },
-        Course::Held(two) => seek_held(ns, t, a, i, two, w, g, j),
+        Course::Held(two) => seek_held(ns, t, a, i, two, q),
         Course::As(child) => seek(ns, t, a, child, w, g, j),
     }
 }
@@ -199,22 +211,12 @@ fn seek_pair(ns: &[u16], t: &mut [u8], a: u16, i: usize, two: Two, w: u8, j: u32
 }
 
 // Node i gets the mode m, and its child c becomes one of its compensations.
-fn seek_marked(
-    ns: &[u16],
-    t: &mut [u8],
-    a: u16,
-    i: usize,
-    m: u8,
-    c: usize,
-    w: u8,
-    g: Weight,
-    j: u32,
-) -> Picked
-    requires { ⌜ Below (scene (now ns) (now t) a) i c w g j ⌝ }
-    ensures { λ r. ⌜ Chosen (scene (now (ns .entry)) (set (now (t .entry)) i m) a) c (ask (closing w) g j) (now (t .exit)) r ⌝ }
+fn seek_marked(ns: &[u16], t: &mut [u8], a: u16, i: usize, m: u8, c: usize, q: Query) -> Picked
+    requires { ⌜ Below (scene (now ns) (now t) a) i c (q .closing) (q .weight) (q .number) ⌝ }
+    ensures { λ r. ⌜ Chosen (scene (now (ns .entry)) (set (now (t .entry)) i m) a) c (asked q) (now (t .exit)) r ⌝ }
 {
     states::set_mode(t, i, m);
-    seek(ns, t, a, c, w, g, j)
+    seek(ns, t, a, c, q.closing, q.weight, q.number)
 }
 
 // PP;QQ whose PP has ended: QQ's compensation, and then PP's, k.
@@ -232,17 +234,12 @@ fn seek_second(
     ensures { λ r. ⌜ SecondChosen (scene (now (ns .entry)) (now (t .entry)) a) i two (ask (closing w) g (k .rest)) (now (t .exit)) r ⌝ }
 {
     let inside = tallies::weight_inside(g, k.moves, k.able);
-    let l = seek_marked(
-        ns,
-        t,
-        a,
-        i,
-        states::LEFT_BOTH,
-        two.second,
-        w,
-        inside,
-        k.rest,
-    );
+    let inner = Query {
+        closing: w,
+        weight: inside,
+        number: k.rest,
+    };
+    let l = seek_marked(ns, t, a, i, states::LEFT_BOTH, two.second, inner);
     Picked {
         rest: l.rest,
         moves: moves_before(l.able, l.moves, k.moves),
@@ -250,100 +247,79 @@ fn seek_second(
     }
 }
 
-fn seek_held(
-    ns: &[u16],
-    t: &mut [u8],
-    a: u16,
-    i: usize,
-    two: Two,
-    w: u8,
-    g: Weight,
-    j: u32,
-) -> Picked
-    requires { ⌜ Wanted (scene (now ns) (now t) a) i (Held two) w g j ⌝ }
-    ensures { λ r. ⌜ Chosen (scene (now (ns .entry)) (now (t .entry)) a) i (ask (closing w) g j) (now (t .exit)) r ⌝ }
+fn seek_held(ns: &[u16], t: &mut [u8], a: u16, i: usize, two: Two, q: Query) -> Picked
+    requires { ⌜ Wanted (scene (now ns) (now t) a) i (Held two) (q .closing) (q .weight) (q .number) ⌝ }
+    ensures { λ r. ⌜ Chosen (scene (now (ns .entry)) (now (t .entry)) a) i (asked q) (now (t .exit)) r ⌝ }
 {
     let mut c = [0u32; 64];
     let v = counting::count_std(ns, t, a, &mut c, two.first, Sense::Undoing);
     let k = Picked {
-        rest: j,
+        rest: q.number,
         moves: v.moves,
         able: v.done,
     };
-    seek_second(ns, t, a, i, two, w, g, k)
+    seek_second(ns, t, a, i, two, q.closing, q.weight, k)
 }
 
 // PP closes by w, or it ends done and QQ closes by w.
-fn seek_running(
-    ns: &[u16],
-    t: &mut [u8],
-    a: u16,
-    i: usize,
-    two: Two,
-    w: u8,
-    g: Weight,
-    j: u32,
-) -> Picked
-    requires { ⌜ Wanted (scene (now ns) (now t) a) i (Both Sequence two) w g j ⌝ }
-    ensures { λ r. ⌜ Chosen (scene (now (ns .entry)) (now (t .entry)) a) i (ask (closing w) g j) (now (t .exit)) r ⌝ }
+fn seek_running(ns: &[u16], t: &mut [u8], a: u16, i: usize, two: Two, q: Query) -> Picked
+    requires { ⌜ Wanted (scene (now ns) (now t) a) i (Both Sequence two) (q .closing) (q .weight) (q .number) ⌝ }
+    ensures { λ r. ⌜ Chosen (scene (now (ns .entry)) (now (t .entry)) a) i (asked q) (now (t .exit)) r ⌝ }
 {
-    let own = own_weight(ns, t, a, two.first, w, g);
-    if j < own {
-        return seek_marked(ns, t, a, i, states::LEFT_FIRST, two.first, w, g, j);
+    let own = own_weight(ns, t, a, two.first, q.closing, q.weight);
+    if q.number < own {
+        return seek_marked(ns, t, a, i, states::LEFT_FIRST, two.first, q);
     }
-    let before = weight_before(ns, t, a, two.second, w, g);
-    let k = seek(ns, t, a, two.first, tallies::RANK_DONE, before, j - own);
-    seek_second(ns, t, a, i, two, w, g, k)
+    let before = weight_before(ns, t, a, two.second, q.closing, q.weight);
+    let k = seek(
+        ns,
+        t,
+        a,
+        two.first,
+        tallies::RANK_DONE,
+        before,
+        q.number - own,
+    );
+    seek_second(ns, t, a, i, two, q.closing, q.weight, k)
 }
 
-fn seek_choice(
-    ns: &[u16],
-    t: &mut [u8],
-    a: u16,
-    i: usize,
-    two: Two,
-    w: u8,
-    g: Weight,
-    j: u32,
-) -> Picked
-    requires { ⌜ Wanted (scene (now ns) (now t) a) i (Both Choice two) w g j ⌝ }
-    ensures { λ r. ⌜ Chosen (scene (now (ns .entry)) (now (t .entry)) a) i (ask (closing w) g j) (now (t .exit)) r ⌝ }
+fn seek_choice(ns: &[u16], t: &mut [u8], a: u16, i: usize, two: Two, q: Query) -> Picked
+    requires { ⌜ Wanted (scene (now ns) (now t) a) i (Both Choice two) (q .closing) (q .weight) (q .number) ⌝ }
+    ensures { λ r. ⌜ Chosen (scene (now (ns .entry)) (now (t .entry)) a) i (asked q) (now (t .exit)) r ⌝ }
 {
-    let p = weight_by(ns, t, a, two.first, w, g);
-    if j < p {
-        seek_marked(ns, t, a, i, states::FIRST_TAKEN, two.first, w, g, j)
-    } else {
-        seek_marked(ns, t, a, i, states::SECOND_TAKEN, two.second, w, g, j - p)
+    let g = q.weight;
+    let p = weight_by(ns, t, a, two.first, q.closing, g);
+    if q.number < p {
+        return seek_marked(ns, t, a, i, states::FIRST_TAKEN, two.first, q);
     }
+    let rest = Query {
+        closing: q.closing,
+        weight: g,
+        number: q.number - p,
+    };
+    seek_marked(ns, t, a, i, states::SECOND_TAKEN, two.second, rest)
 }
 
-fn seek_parallel(
-    ns: &[u16],
-    t: &mut [u8],
-    a: u16,
-    i: usize,
-    two: Two,
-    w: u8,
-    g: Weight,
-    j: u32,
-) -> Picked
-    requires { ⌜ Wanted (scene (now ns) (now t) a) i (Both Parallel two) w g j ⌝ }
-    ensures { λ r. ⌜ Chosen (scene (now (ns .entry)) (now (t .entry)) a) i (ask (closing w) g j) (now (t .exit)) r ⌝ }
+fn seek_parallel(ns: &[u16], t: &mut [u8], a: u16, i: usize, two: Two, q: Query) -> Picked
+    requires { ⌜ Wanted (scene (now ns) (now t) a) i (Both Parallel two) (q .closing) (q .weight) (q .number) ⌝ }
+    ensures { λ r. ⌜ Chosen (scene (now (ns .entry)) (now (t .entry)) a) i (asked q) (now (t .exit)) r ⌝ }
 {
-    let p = word_at(ns, t, a, two.first);
-    let q = word_at(ns, t, a, two.second);
-    let x = first_ending(p, q, w, g, j);
+    let w = q.closing;
+    let g = q.weight;
+    let first = word_at(ns, t, a, two.first);
+    let second = word_at(ns, t, a, two.second);
+    let x = first_ending(first, second, w, g, q.number);
     let k = seek(
         ns,
         t,
         a,
         two.first,
         x.ending,
-        beside(q, w, x.ending, g),
+        beside(second, w, x.ending, g),
         x.rest,
     );
     let within = tallies::weight_within(g, k.moves, k.able);
-    let y = second_ending(q, w, x.ending, within, k.rest);
+    let y = second_ending(second, w, x.ending, within, k.rest);
     let l = seek(ns, t, a, two.second, y.ending, within, y.rest);
     Picked {
         rest: l.rest,

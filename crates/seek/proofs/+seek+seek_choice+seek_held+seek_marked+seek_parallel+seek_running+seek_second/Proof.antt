@@ -1,7 +1,7 @@
 -- `seek::seek` and the functions that it calls by the course of a node, which call it again for the children, meet their contracts.
 -- Each call and each return is answered by its lemma in Branches, from what the code has learnt on its way there. The measure is the
 -- node's number, and below it the order in which functions call each other at one node. Assumes nothing.
-use Rattle.seek.specs.Branches.{wanted, wanted-both, basic-chosen, below-spot, below-room, below-chosen, as-lower, as-room, as-chosen, choice-spot, choice-first-below, choice-first, choice-second-below, choice-second, second-below, second-chosen, held-spot, held-wanted, held-chosen, running-lower, running-first, running-second, own-below, own-chosen, both-room, both-wanted, both-chosen, parallel-first, parallel-second, par-first-room, par-second-room, par-chosen}
+use Rattle.seek.specs.Branches.{wanted, wanted-both, basic-chosen, below-spot, below-room, below-chosen, as-lower, as-room, as-chosen, first-lower, second-lower, first-spot, second-spot, choice-first-below, choice-first, choice-second-below, choice-second, second-below, second-chosen, held-spot, held-wanted, held-chosen, own-below, own-chosen, both-room, both-wanted, both-chosen, par-first-room, par-second-room, par-chosen}
 use Rattle.states.specs.ChildLaws.{lower-spot, same-room, kid-lower}
 use mathlib.Core.Path.{sym, _∙_}
 use native.Mathlib.Omega.{arith}
@@ -243,25 +243,25 @@ seek-returns-7 : (t : ℕ) → seek-lts.Need-returns-7 (seek-calls t) (seek-at t
 seek-returns-7 t c = as-chosen (wanted (c .before .before .before .before .before .before .before .before .before .before .before .pre .1 .0) (c .before .before .before .before .before .before .before .before .before .before .before .pre .1 .1) (c .before .before .before .before .before .before .before .course-at .ensures) (c .before .before .before .before .before .course4 .given .1)) (c .before .before .seek .ensures)
 
 seek-choice-weight-by-requires : (t : ℕ) → seek-choice-lts.Need-weight-by-requires (seek-choice-calls t) (seek-choice-at t) seek-choice.Post
-seek-choice-weight-by-requires t c κs = choice-spot (c .before .before .before .pre .1)
+seek-choice-weight-by-requires t c κs = first-spot (c .before .before .before .before .pre .1)
 
 seek-choice-seek-marked-requires : (t : ℕ) → seek-choice-lts.Need-seek-marked-requires (seek-choice-calls t) (seek-choice-at t) seek-choice.Post
-seek-choice-seek-marked-requires t c κs = (omega (arith, c .before .before .before .before .before .before .pre .0), choice-first-below (c .before .before .before .before .before .before .pre .1) (c .before .before .weight-by .ensures) (c .before .if1 .taken))
-
-seek-choice-seek-marked-requires-2 : (t : ℕ) → seek-choice-lts.Need-seek-marked-requires-2 (seek-choice-calls t) (seek-choice-at t) seek-choice.Post
-seek-choice-seek-marked-requires-2 t c κs = (omega (arith, c .before .before .before .before .before .before .pre .0), choice-second-below (c .before .before .before .before .before .before .pre .1) (c .before .before .weight-by .ensures) (c .before .if1 .left))
+seek-choice-seek-marked-requires t c κs = (omega (arith, c .before .before .before .before .before .before .before .before .pre .0), choice-first-below (c .before .before .before .before .before .before .before .before .pre .1) (c .before .before .before .weight-by .ensures) (c .before .if1 .taken))
 
 seek-choice-same-length : (t : ℕ) → seek-choice-lts.Need-same-length (seek-choice-calls t) (seek-choice-at t) seek-choice.Post
 seek-choice-same-length t c = c .before .before .seek-marked .kept .1 .0
 
 seek-choice-returns : (t : ℕ) → seek-choice-lts.Need-returns (seek-choice-calls t) (seek-choice-at t) seek-choice.Post
-seek-choice-returns t c = choice-first (c .before .before .before .before .before .before .before .before .before .pre .1) (c .before .before .before .before .before .weight-by .ensures) (c .before .before .before .before .if1 .taken) (c .before .before .seek-marked .ensures)
+seek-choice-returns t c = choice-first (c .before .before .before .before .before .before .before .before .before .before .before .pre .1) (c .before .before .before .before .before .before .weight-by .ensures) (c .before .before .before .before .if1 .taken) (c .before .before .seek-marked .ensures)
+
+seek-choice-seek-marked-requires-2 : (t : ℕ) → seek-choice-lts.Need-seek-marked-requires-2 (seek-choice-calls t) (seek-choice-at t) seek-choice.Post
+seek-choice-seek-marked-requires-2 t c κs = (omega (arith, c .before .before .before .before .before .before .before .before .before .pre .0), choice-second-below (c .before .before .before .before .before .before .before .before .before .pre .1) (c .before .before .before .before .weight-by .ensures) (c .before .before .if1 .left))
 
 seek-choice-same-length-2 : (t : ℕ) → seek-choice-lts.Need-same-length-2 (seek-choice-calls t) (seek-choice-at t) seek-choice.Post
 seek-choice-same-length-2 t c = c .before .before .seek-marked2 .kept .1 .0
 
 seek-choice-returns-2 : (t : ℕ) → seek-choice-lts.Need-returns-2 (seek-choice-calls t) (seek-choice-at t) seek-choice.Post
-seek-choice-returns-2 t c = choice-second (c .before .before .before .before .before .before .before .before .before .pre .1) (c .before .before .before .before .before .weight-by .ensures) (c .before .before .before .before .if1 .left) (c .before .before .seek-marked2 .ensures)
+seek-choice-returns-2 t c = choice-second (c .before .before .before .before .before .before .before .before .before .before .before .before .pre .1) (c .before .before .before .before .before .before .before .weight-by .ensures) (c .before .before .before .before .before .if1 .left) (c .before .before .seek-marked2 .ensures)
 
 seek-held-count-std-requires : (t : ℕ) → seek-held-lts.Need-count-std-requires (seek-held-calls t) (seek-held-at t) seek-held.Post
 seek-held-count-std-requires t c κs = held-spot (c .before .before .before .before .pre .1)
@@ -288,28 +288,28 @@ seek-marked-returns : (t : ℕ) → seek-marked-lts.Need-returns (seek-marked-ca
 seek-marked-returns t c = below-chosen _ (c .before .before .before .before .before .before .set-mode .ensures) (c .before .before .before .before .before .before .before .before .before .before .pre .1) (c .before .before .seek .ensures)
 
 seek-parallel-word-at-requires : (t : ℕ) → seek-parallel-lts.Need-word-at-requires (seek-parallel-calls t) (seek-parallel-at t) seek-parallel.Post
-seek-parallel-word-at-requires t c κs = lower-spot (c .before .before .before .pre .1 .spot) (parallel-first (c .before .before .before .pre .1))
+seek-parallel-word-at-requires t c κs = first-spot (c .before .before .before .before .pre .1)
 
 seek-parallel-word-at-requires-2 : (t : ℕ) → seek-parallel-lts.Need-word-at-requires-2 (seek-parallel-calls t) (seek-parallel-at t) seek-parallel.Post
-seek-parallel-word-at-requires-2 t c κs = lower-spot (c .before .before .before .before .before .pre .1 .spot) (parallel-second (c .before .before .before .before .before .pre .1))
+seek-parallel-word-at-requires-2 t c κs = second-spot (c .before .before .before .before .before .before .pre .1)
 
 seek-parallel-first-ending-requires : (t : ℕ) → seek-parallel-lts.Need-first-ending-requires (seek-parallel-calls t) (seek-parallel-at t) seek-parallel.Post
-seek-parallel-first-ending-requires t c κs = c .before .before .before .before .before .before .pre .1 .closes
+seek-parallel-first-ending-requires t c κs = c .before .before .before .before .before .before .before .pre .1 .closes
 
 seek-parallel-beside-requires : (t : ℕ) → seek-parallel-lts.Need-beside-requires (seek-parallel-calls t) (seek-parallel-at t) seek-parallel.Post
-seek-parallel-beside-requires t c κs = (c .before .before .before .before .before .before .before .before .pre .1 .closes, c .before .first-ending .ensures .small)
+seek-parallel-beside-requires t c κs = (c .before .before .before .before .before .before .before .before .before .pre .1 .closes, c .before .first-ending .ensures .small)
 
 seek-parallel-seek-requires : (t : ℕ) → seek-parallel-lts.Need-seek-requires (seek-parallel-calls t) (seek-parallel-at t) seek-parallel.Post
-seek-parallel-seek-requires t c κs = let l = parallel-first (c .before .before .before .before .before .before .before .before .before .pre .1) in (omega (arith, c .before .before .before .before .before .before .before .before .before .pre .0, l), (lower-spot (c .before .before .before .before .before .before .before .before .before .pre .1 .spot) l, (c .before .before .first-ending .ensures .small, par-first-room (c .before .before .before .before .before .before .before .before .before .pre .1) (c .before .before .before .before .before .word-at .ensures) (c .before .before .before .word-at2 .ensures) (c .before .before .first-ending .ensures) (c .beside .ensures))))
+seek-parallel-seek-requires t c κs = let h = c .before .before .before .before .before .before .before .before .before .before .pre .1 in (omega (arith, c .before .before .before .before .before .before .before .before .before .before .pre .0, first-lower h), (first-spot h, (c .before .before .first-ending .ensures .small, par-first-room h (c .before .before .before .before .before .word-at .ensures) (c .before .before .before .word-at2 .ensures) (c .before .before .first-ending .ensures) (c .beside .ensures))))
 
 seek-parallel-weight-within-requires : (t : ℕ) → seek-parallel-lts.Need-weight-within-requires (seek-parallel-calls t) (seek-parallel-at t) seek-parallel.Post
 seek-parallel-weight-within-requires t c κs = search needs
 
 seek-parallel-second-ending-requires : (t : ℕ) → seek-parallel-lts.Need-second-ending-requires (seek-parallel-calls t) (seek-parallel-at t) seek-parallel.Post
-seek-parallel-second-ending-requires t c κs = (c .before .before .before .before .before .before .before .before .before .before .before .before .before .pre .1 .closes, c .before .before .before .before .before .before .first-ending .ensures .small)
+seek-parallel-second-ending-requires t c κs = (c .before .before .before .before .before .before .before .before .before .before .before .before .before .before .pre .1 .closes, c .before .before .before .before .before .before .first-ending .ensures .small)
 
 seek-parallel-seek-requires-2 : (t : ℕ) → seek-parallel-lts.Need-seek-requires-2 (seek-parallel-calls t) (seek-parallel-at t) seek-parallel.Post
-seek-parallel-seek-requires-2 t c κs = let l = parallel-second (c .before .before .before .before .before .before .before .before .before .before .before .before .before .before .before .pre .1) in (omega (arith, c .before .before .before .before .before .before .before .before .before .before .before .before .before .before .before .pre .0, l), (same-room (lower-spot (c .before .before .before .before .before .before .before .before .before .before .before .before .before .before .before .pre .1 .spot) l) (c .before .before .before .before .before .seek .kept .1 .0), (c .before .second-ending .ensures .small, par-second-room (c .before .before .before .before .before .before .before .before .before .before .before .before .before .before .before .pre .1) (c .before .before .before .before .before .before .before .before .before .before .before .word-at .ensures) (c .before .before .before .before .before .before .before .before .before .word-at2 .ensures) (c .before .before .before .before .before .before .before .before .first-ending .ensures) (c .before .before .before .before .before .before .beside .ensures) (c .before .before .before .before .before .seek .ensures) (c .before .before .weight-within .ensures) (c .before .second-ending .ensures))))
+seek-parallel-seek-requires-2 t c κs = let h = c .before .before .before .before .before .before .before .before .before .before .before .before .before .before .before .before .pre .1 in (omega (arith, c .before .before .before .before .before .before .before .before .before .before .before .before .before .before .before .before .pre .0, second-lower h), (same-room (second-spot h) (c .before .before .before .before .before .seek .kept .1 .0), (c .before .second-ending .ensures .small, par-second-room h (c .before .before .before .before .before .before .before .before .before .before .before .word-at .ensures) (c .before .before .before .before .before .before .before .before .before .word-at2 .ensures) (c .before .before .before .before .before .before .before .before .first-ending .ensures) (c .before .before .before .before .before .before .beside .ensures) (c .before .before .before .before .before .seek .ensures) (c .before .before .weight-within .ensures) (c .before .second-ending .ensures))))
 
 seek-parallel-sum-requires : (t : ℕ) → seek-parallel-lts.Need-sum-requires (seek-parallel-calls t) (seek-parallel-at t) seek-parallel.Post
 seek-parallel-sum-requires t c κs = search needs
@@ -318,34 +318,34 @@ seek-parallel-same-length : (t : ℕ) → seek-parallel-lts.Need-same-length (se
 seek-parallel-same-length t c = c .before .before .before .before .before .seek2 .kept .1 .0 ∙ c .before .before .before .before .before .before .before .before .before .before .before .seek .kept .1 .0
 
 seek-parallel-returns : (t : ℕ) → seek-parallel-lts.Need-returns (seek-parallel-calls t) (seek-parallel-at t) seek-parallel.Post
-seek-parallel-returns t c = rw (c .before .before .sum .ensures) (par-chosen (c .before .before .before .before .before .before .before .before .before .before .before .before .before .before .before .before .before .before .before .before .before .pre .1) (c .before .before .before .before .before .before .before .before .before .before .before .before .before .before .before .before .before .word-at .ensures) (c .before .before .before .before .before .before .before .before .before .before .before .before .before .before .before .word-at2 .ensures) (c .before .before .before .before .before .before .before .before .before .before .before .before .before .before .first-ending .ensures) (c .before .before .before .before .before .before .before .before .before .before .before .before .beside .ensures) (c .before .before .before .before .before .before .before .before .before .before .before .seek .ensures) (c .before .before .before .before .before .before .before .before .weight-within .ensures) (c .before .before .before .before .before .before .before .second-ending .ensures) (c .before .before .before .before .before .seek2 .ensures))
+seek-parallel-returns t c = rw (c .before .before .sum .ensures) (par-chosen (c .before .before .before .before .before .before .before .before .before .before .before .before .before .before .before .before .before .before .before .before .before .before .pre .1) (c .before .before .before .before .before .before .before .before .before .before .before .before .before .before .before .before .before .word-at .ensures) (c .before .before .before .before .before .before .before .before .before .before .before .before .before .before .before .word-at2 .ensures) (c .before .before .before .before .before .before .before .before .before .before .before .before .before .before .first-ending .ensures) (c .before .before .before .before .before .before .before .before .before .before .before .before .beside .ensures) (c .before .before .before .before .before .before .before .before .before .before .before .seek .ensures) (c .before .before .before .before .before .before .before .before .weight-within .ensures) (c .before .before .before .before .before .before .before .second-ending .ensures) (c .before .before .before .before .before .seek2 .ensures))
 
 seek-running-own-weight-requires : (t : ℕ) → seek-running-lts.Need-own-weight-requires (seek-running-calls t) (seek-running-at t) seek-running.Post
-seek-running-own-weight-requires t c κs = running-first (c .before .before .before .pre .1)
+seek-running-own-weight-requires t c κs = first-spot (c .before .before .before .pre .1)
 
 seek-running-seek-marked-requires : (t : ℕ) → seek-running-lts.Need-seek-marked-requires (seek-running-calls t) (seek-running-at t) seek-running.Post
-seek-running-seek-marked-requires t c κs = (omega (arith, c .before .before .before .before .before .before .pre .0), own-below (c .before .before .before .before .before .before .pre .1) (c .before .before .own-weight .ensures) (c .before .if1 .taken))
+seek-running-seek-marked-requires t c κs = (omega (arith, c .before .before .before .before .before .before .before .pre .0), own-below (c .before .before .before .before .before .before .before .pre .1) (c .before .before .before .own-weight .ensures) (c .before .if1 .taken))
 
 seek-running-same-length : (t : ℕ) → seek-running-lts.Need-same-length (seek-running-calls t) (seek-running-at t) seek-running.Post
 seek-running-same-length t c = c .before .before .seek-marked .kept .1 .0
 
 seek-running-returns : (t : ℕ) → seek-running-lts.Need-returns (seek-running-calls t) (seek-running-at t) seek-running.Post
-seek-running-returns t c = own-chosen (c .before .before .before .before .before .before .before .before .before .pre .1) (c .before .before .before .before .before .own-weight .ensures) (c .before .before .before .before .if1 .taken) (c .before .before .seek-marked .ensures)
+seek-running-returns t c = own-chosen (c .before .before .before .before .before .before .before .before .before .before .pre .1) (c .before .before .before .before .before .before .own-weight .ensures) (c .before .before .before .before .if1 .taken) (c .before .before .seek-marked .ensures)
 
 seek-running-weight-before-requires : (t : ℕ) → seek-running-lts.Need-weight-before-requires (seek-running-calls t) (seek-running-at t) seek-running.Post
-seek-running-weight-before-requires t c κs = running-second (c .before .before .before .before .before .before .pre .1)
+seek-running-weight-before-requires t c κs = second-spot (c .before .before .before .before .before .before .before .pre .1)
 
 seek-running-seek-requires : (t : ℕ) → seek-running-lts.Need-seek-requires (seek-running-calls t) (seek-running-at t) seek-running.Post
-seek-running-seek-requires t c κs = let l = running-lower (c .before .before .before .before .before .before .before .before .pre .1) in (omega (arith, c .before .before .before .before .before .before .before .before .pre .0, l), (running-first (c .before .before .before .before .before .before .before .before .pre .1), (omega arith, both-room (c .before .before .before .before .before .before .before .before .pre .1) (c .before .before .before .before .own-weight .ensures) (c .before .before .before .if1 .left) (c .before .weight-before .ensures))))
+seek-running-seek-requires t c κs = let l = first-lower (c .before .before .before .before .before .before .before .before .before .before .pre .1) in (omega (arith, c .before .before .before .before .before .before .before .before .before .before .pre .0, l), (first-spot (c .before .before .before .before .before .before .before .before .before .before .pre .1), (omega arith, both-room (c .before .before .before .before .before .before .before .before .before .before .pre .1) (c .before .before .before .before .before .before .own-weight .ensures) (c .before .before .before .before .if1 .left) (c .before .before .weight-before .ensures))))
 
 seek-running-seek-second-requires : (t : ℕ) → seek-running-lts.Need-seek-second-requires (seek-running-calls t) (seek-running-at t) seek-running.Post
-seek-running-seek-second-requires t c κs = (omega (arith, c .before .before .before .before .before .before .before .before .before .before .before .before .pre .0), both-wanted (c .before .before .before .before .before .before .before .before .before .before .before .before .pre .1) (c .before .before .before .before .before .before .before .before .own-weight .ensures) (c .before .before .before .before .before .before .before .if1 .left) (c .before .before .before .before .before .weight-before .ensures) (c .before .before .before .seek .ensures) (c .before .before .before .seek .kept .1 .0))
+seek-running-seek-second-requires t c κs = (omega (arith, c .before .before .before .before .before .before .before .before .before .before .before .before .before .before .pre .0), both-wanted (c .before .before .before .before .before .before .before .before .before .before .before .before .before .before .pre .1) (c .before .before .before .before .before .before .before .before .before .before .own-weight .ensures) (c .before .before .before .before .before .before .before .before .if1 .left) (c .before .before .before .before .before .before .weight-before .ensures) (c .before .before .before .seek .ensures) (c .before .before .before .seek .kept .1 .0))
 
 seek-running-same-length-2 : (t : ℕ) → seek-running-lts.Need-same-length-2 (seek-running-calls t) (seek-running-at t) seek-running.Post
 seek-running-same-length-2 t c = c .before .before .seek-second .kept .1 .0 ∙ c .before .before .before .before .before .before .seek .kept .1 .0
 
 seek-running-returns-2 : (t : ℕ) → seek-running-lts.Need-returns-2 (seek-running-calls t) (seek-running-at t) seek-running.Post
-seek-running-returns-2 t c = both-chosen (c .before .before .before .before .before .before .before .before .before .before .before .before .before .before .before .pre .1) (c .before .before .before .before .before .before .before .before .before .before .before .own-weight .ensures) (c .before .before .before .before .before .before .before .before .before .before .if1 .left) (c .before .before .before .before .before .before .before .before .weight-before .ensures) (c .before .before .before .before .before .before .seek .ensures) (c .before .before .seek-second .ensures)
+seek-running-returns-2 t c = both-chosen (c .before .before .before .before .before .before .before .before .before .before .before .before .before .before .before .before .before .pre .1) (c .before .before .before .before .before .before .before .before .before .before .before .before .before .own-weight .ensures) (c .before .before .before .before .before .before .before .before .before .before .before .if1 .left) (c .before .before .before .before .before .before .before .before .before .weight-before .ensures) (c .before .before .before .before .before .before .seek .ensures) (c .before .before .seek-second .ensures)
 
 seek-second-weight-inside-requires : (t : ℕ) → seek-second-lts.Need-weight-inside-requires (seek-second-calls t) (seek-second-at t) seek-second.Post
 seek-second-weight-inside-requires t c κs = search needs
@@ -364,4 +364,4 @@ seek-second-returns t c = rw (c .before .before .moves-before .ensures) (second-
 
 pub +seek+seek-choice+seek-held+seek-marked+seek-parallel+seek-running+seek-second-spec :
     {M : Type 1} → statement M
-+seek+seek-choice+seek-held+seek-marked+seek-parallel+seek-running+seek-second-spec = close μ-seek μ-seek-choice μ-seek-held μ-seek-marked μ-seek-parallel μ-seek-running μ-seek-second (λ t. seek-lts.spec (seek-calls t) (seek-at t) seek.Post (seek-course-at-requires t) (seek-enum-told t) (seek-enum-known-course t) (seek-seek-pair-requires t) (seek-enum-known-course-2 t) (seek-enum-told-2 t) (seek-seek-running-requires t) (seek-enum-told-3 t) (seek-seek-choice-requires t) (seek-enum-told-4 t) (seek-seek-parallel-requires t) (seek-enum-known-course-3 t) (seek-seek-held-requires t) (seek-enum-known-course-4 t) (seek-seek-requires t) (seek-same-length t) (seek-returns t) (seek-same-length-2 t) (seek-returns-2 t) (seek-same-length-3 t) (seek-returns-3 t) (seek-same-length-4 t) (seek-returns-4 t) (seek-same-length-5 t) (seek-returns-5 t) (seek-same-length-6 t) (seek-returns-6 t) (seek-same-length-7 t) (seek-returns-7 t)) (λ t. seek-choice-lts.spec (seek-choice-calls t) (seek-choice-at t) seek-choice.Post (seek-choice-weight-by-requires t) (seek-choice-seek-marked-requires t) (seek-choice-seek-marked-requires-2 t) (seek-choice-same-length t) (seek-choice-returns t) (seek-choice-same-length-2 t) (seek-choice-returns-2 t)) (λ t. seek-held-lts.spec (seek-held-calls t) (seek-held-at t) seek-held.Post (seek-held-count-std-requires t) (seek-held-seek-second-requires t) (seek-held-same-length t) (seek-held-returns t)) (λ t. seek-marked-lts.spec (seek-marked-calls t) (seek-marked-at t) seek-marked.Post (seek-marked-set-mode-requires t) (seek-marked-seek-requires t) (seek-marked-same-length t) (seek-marked-returns t)) (λ t. seek-parallel-lts.spec (seek-parallel-calls t) (seek-parallel-at t) seek-parallel.Post (seek-parallel-word-at-requires t) (seek-parallel-word-at-requires-2 t) (seek-parallel-first-ending-requires t) (seek-parallel-beside-requires t) (seek-parallel-seek-requires t) (seek-parallel-weight-within-requires t) (seek-parallel-second-ending-requires t) (seek-parallel-seek-requires-2 t) (seek-parallel-sum-requires t) (seek-parallel-same-length t) (seek-parallel-returns t)) (λ t. seek-running-lts.spec (seek-running-calls t) (seek-running-at t) seek-running.Post (seek-running-own-weight-requires t) (seek-running-seek-marked-requires t) (seek-running-same-length t) (seek-running-returns t) (seek-running-weight-before-requires t) (seek-running-seek-requires t) (seek-running-seek-second-requires t) (seek-running-same-length-2 t) (seek-running-returns-2 t)) λ t. seek-second-lts.spec (seek-second-calls t) (seek-second-at t) seek-second.Post (seek-second-weight-inside-requires t) (seek-second-seek-marked-requires t) (seek-second-moves-before-requires t) (seek-second-same-length t) (seek-second-returns t)
++seek+seek-choice+seek-held+seek-marked+seek-parallel+seek-running+seek-second-spec = close μ-seek μ-seek-choice μ-seek-held μ-seek-marked μ-seek-parallel μ-seek-running μ-seek-second (λ t. seek-lts.spec (seek-calls t) (seek-at t) seek.Post (seek-course-at-requires t) (seek-enum-told t) (seek-enum-known-course t) (seek-seek-pair-requires t) (seek-enum-known-course-2 t) (seek-enum-told-2 t) (seek-seek-running-requires t) (seek-enum-told-3 t) (seek-seek-choice-requires t) (seek-enum-told-4 t) (seek-seek-parallel-requires t) (seek-enum-known-course-3 t) (seek-seek-held-requires t) (seek-enum-known-course-4 t) (seek-seek-requires t) (seek-same-length t) (seek-returns t) (seek-same-length-2 t) (seek-returns-2 t) (seek-same-length-3 t) (seek-returns-3 t) (seek-same-length-4 t) (seek-returns-4 t) (seek-same-length-5 t) (seek-returns-5 t) (seek-same-length-6 t) (seek-returns-6 t) (seek-same-length-7 t) (seek-returns-7 t)) (λ t. seek-choice-lts.spec (seek-choice-calls t) (seek-choice-at t) seek-choice.Post (seek-choice-weight-by-requires t) (seek-choice-seek-marked-requires t) (seek-choice-same-length t) (seek-choice-returns t) (seek-choice-seek-marked-requires-2 t) (seek-choice-same-length-2 t) (seek-choice-returns-2 t)) (λ t. seek-held-lts.spec (seek-held-calls t) (seek-held-at t) seek-held.Post (seek-held-count-std-requires t) (seek-held-seek-second-requires t) (seek-held-same-length t) (seek-held-returns t)) (λ t. seek-marked-lts.spec (seek-marked-calls t) (seek-marked-at t) seek-marked.Post (seek-marked-set-mode-requires t) (seek-marked-seek-requires t) (seek-marked-same-length t) (seek-marked-returns t)) (λ t. seek-parallel-lts.spec (seek-parallel-calls t) (seek-parallel-at t) seek-parallel.Post (seek-parallel-word-at-requires t) (seek-parallel-word-at-requires-2 t) (seek-parallel-first-ending-requires t) (seek-parallel-beside-requires t) (seek-parallel-seek-requires t) (seek-parallel-weight-within-requires t) (seek-parallel-second-ending-requires t) (seek-parallel-seek-requires-2 t) (seek-parallel-sum-requires t) (seek-parallel-same-length t) (seek-parallel-returns t)) (λ t. seek-running-lts.spec (seek-running-calls t) (seek-running-at t) seek-running.Post (seek-running-own-weight-requires t) (seek-running-seek-marked-requires t) (seek-running-same-length t) (seek-running-returns t) (seek-running-weight-before-requires t) (seek-running-seek-requires t) (seek-running-seek-second-requires t) (seek-running-same-length-2 t) (seek-running-returns-2 t)) λ t. seek-second-lts.spec (seek-second-calls t) (seek-second-at t) seek-second.Post (seek-second-weight-inside-requires t) (seek-second-seek-marked-requires t) (seek-second-moves-before-requires t) (seek-second-same-length t) (seek-second-returns t)

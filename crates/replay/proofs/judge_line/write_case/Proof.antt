@@ -1,12 +1,12 @@
--- `replay::judge_case::write_case` meets its contract: what the answer tells, and the word for the work bytes behind it. Assumes nothing.
+-- `replay::judge_line::write_case` meets its contract: what the answer tells, and the word for the work bytes behind it. Assumes nothing.
 use native.Mathlib.Omega.{arith}
 use mathlib.Core.Path.{sym}
 use borrow.Author.Needs.{needs}
 use Rattle.line.specs.LineLaws.{put-length, put-then}
 use Rattle.replay.specs.Promised.{case-line}
 use Rattle.replay.specs.PromisedLaws.{noted-length}
-use Rattle.replay.proofs.judge_case.write_case.Statement.{statement}
-use Rattle.replay.proofs.judge_case.write_case.Tie as tie
+use Rattle.replay.proofs.judge_line.write_case.Statement.{statement}
+use Rattle.replay.proofs.judge_line.write_case.Tie as tie
 
 line-for-requires : tie.Need-line-for-requires
 line-for-requires c κs = search needs

@@ -1,9 +1,9 @@
--- `replay::file_case::file_case` is safe and ends. Assumes nothing.
+-- `replay::file_case` is safe and ends. Assumes nothing.
 use mathlib.Core.Path.{sym}
 use lib.Seq.{length-take-le}
 use borrow.Author.Needs.{needs}
-use Rattle.replay.proofs.file_case.file_case.Statement.{statement}
-use Rattle.replay.proofs.file_case.file_case.Tie as tie
+use Rattle.replay.proofs.file_case.Statement.{statement}
+use Rattle.replay.proofs.file_case.Tie as tie
 
 slice-aggregate-fetch : tie.Need-slice-aggregate-fetch
 slice-aggregate-fetch c = search needs

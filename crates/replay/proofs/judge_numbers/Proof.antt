@@ -1,11 +1,11 @@
--- `replay::judge_case::judge_numbers` is safe and ends. Assumes nothing.
+-- `replay::judge_numbers` is safe and ends. Assumes nothing.
 use native.Mathlib.Omega.{arith}
 use mathlib.Core.Path.{sym}
 use lib.ListN.{length-take}
 use lib.Seq.{length-take-le}
 use borrow.Author.Needs.{needs}
-use Rattle.replay.proofs.judge_case.judge_numbers.Statement.{statement}
-use Rattle.replay.proofs.judge_case.judge_numbers.Tie as tie
+use Rattle.replay.proofs.judge_numbers.Statement.{statement}
+use Rattle.replay.proofs.judge_numbers.Tie as tie
 
 slice-aggregate-fetch : tie.Need-slice-aggregate-fetch
 slice-aggregate-fetch c = search needs

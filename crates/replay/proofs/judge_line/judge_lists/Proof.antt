@@ -1,9 +1,9 @@
--- `replay::judge_case::judge_lists` meets its contract: the work bytes are filled, judged on and found clean, always. Assumes nothing.
+-- `replay::judge_line::judge_lists` meets its contract: the work bytes are filled, judged on and found clean, always. Assumes nothing.
 use lib.ListN.{length}
 use borrow.Author.Needs.{needs}
 use Rattle.replay.specs.PromisedLaws.{case-clean}
-use Rattle.replay.proofs.judge_case.judge_lists.Statement.{statement}
-use Rattle.replay.proofs.judge_case.judge_lists.Tie as tie
+use Rattle.replay.proofs.judge_line.judge_lists.Statement.{statement}
+use Rattle.replay.proofs.judge_line.judge_lists.Tie as tie
 
 fill-requires : tie.Need-fill-requires
 fill-requires c κs = search needs
@@ -29,7 +29,13 @@ same-length-2 c = search needs
 returns : tie.Need-returns
 returns c =
     let w = c .before .before .write-case .ensures in
-    (case-clean (length (c .before .before .before .before .before .before .before .before .before .before .before .before .before .before .before .before .before .before .before .args .work .now)) (c .before .before .before .before .before .before .before .before .before .before .before .before .before .fill .ensures) (c .before .before .before .before .before .before .before .before .before .judge .ensures) (c .before .before .before .before .before .before .zeros-after .ensures) (c .before .before .before .before .clean .ensures) (w .0), w .1)
+    let at-clean = c .before .before .before .before in
+    let at-judge = at-clean .before .before .before .before .before in
+    let at-fill = at-judge .before .before .before .before in
+    let j = at-judge .judge .ensures in (
+      case-clean (length (at-fill .before .before .before .before .before .before .args .work .now)) (at-fill .fill .ensures) j (at-clean .before .before .zeros-after .ensures) (at-clean .clean .ensures) (w .0),
+      (rw (at-fill .fill .ensures) at (j .leaves), w .1),
+    )
 
 pub judge-lists-spec : {M : Type 1} → statement M
 judge-lists-spec =
