@@ -74,7 +74,7 @@ pub const WITHDRAWN: u16 = 61442;
 
 pub const FAILED: u16 = 61443;
 
-pub const MOST_EVENTS: u16 = 256;
+const MOST_EVENTS: u16 = 256;
 
 pub const MOST_NODES: usize = 64;
 
@@ -119,7 +119,7 @@ fn branch(standard: bool, kids: u8, inner: bool) -> Form
 
 // The sixteen kinds, by a node's three numbers. Each number has an arm of its own: ranges are lowered to a chain of tests, and every
 // visit of a node comes through here.
-pub fn node_of(kind: u16, first: u16, second: u16) -> Node
+fn node_of(kind: u16, first: u16, second: u16) -> Node
     ensures { λ r. ⌜ r ≡ node-of kind first second ⌝ }
 {
     let two = Two {
@@ -148,7 +148,7 @@ pub fn node_of(kind: u16, first: u16, second: u16) -> Node
 }
 
 // What is asked of a node.
-pub fn form_of(node: Node) -> Form
+fn form_of(node: Node) -> Form
     ensures { λ r. ⌜ r ≡ form node ⌝ }
 {
     match node {
@@ -185,7 +185,7 @@ pub fn first_at(nodes: &[u16], i: usize) -> u16
     nodes[3 * i + 1]
 }
 
-pub fn second_at(nodes: &[u16], i: usize) -> u16
+fn second_at(nodes: &[u16], i: usize) -> u16
     requires { ⌜ 3 * i + 2 < length (now nodes) ⌝ }
     ensures { λ r. ⌜ r ≡ two-of (now (nodes .entry)) i ⌝ }
 {
@@ -208,13 +208,13 @@ pub fn form_at(nodes: &[u16], i: usize) -> Form
     form_of(node_at(nodes, i))
 }
 
-pub fn is_event(number: u16) -> bool
+fn is_event(number: u16) -> bool
     ensures { λ r. ⌜ r ≡ is-event-number number ⌝ }
 {
     (number >= 1) & (number <= MOST_EVENTS)
 }
 
-pub fn is_closing(number: u16) -> bool
+fn is_closing(number: u16) -> bool
     ensures { λ r. ⌜ r ≡ is-closing-number number ⌝ }
 {
     (number == DONE) | ((number == WITHDRAWN) | (number == FAILED))
@@ -436,7 +436,7 @@ pub fn check_values(records: &[u16]) -> Check
 }
 
 // How many closings the root takes.
-pub fn closings_wanted(nodes: &[u16]) -> u16
+fn closings_wanted(nodes: &[u16]) -> u16
     requires { ⌜ 3 ≤ length (now nodes) ⌝ }
     ensures { λ r. ⌜ r ≡ closings-wanted (now (nodes .entry)) ⌝ }
 {

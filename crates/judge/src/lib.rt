@@ -36,13 +36,13 @@ pub enum Answer {
 }
 
 // What a search brings back: whether it found the end, how many records at most it followed, and what is left of the allowance.
-pub struct Trip {
-    pub found: bool,
-    pub far: u32,
-    pub left: u32,
+struct Trip {
+    found: bool,
+    far: u32,
+    left: u32,
 }
 
-pub enum Out {
+enum Out {
     Spent,
     Back(Trip),
 }
@@ -52,8 +52,8 @@ fn small(number: u16) -> u8
     ensures { λ r. ⌜ (r < 3) × (closing r ≡ closing-of number) ⌝ }
 {
     match number {
-        61441 => 0,
-        61442 => 1,
+        flow::DONE => 0,
+        flow::WITHDRAWN => 1,
         _ => 2,
     }
 }
@@ -63,8 +63,8 @@ fn ends_by(v: View, number: u16) -> bool
     ensures { λ r. ⌜ r ≡ ends-by v (closing-of number) ⌝ }
 {
     match number {
-        61441 => v.done,
-        61442 => v.withdraws,
+        flow::DONE => v.done,
+        flow::WITHDRAWN => v.withdraws,
         _ => v.fails,
     }
 }

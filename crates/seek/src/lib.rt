@@ -27,9 +27,9 @@ ghost use Rattle.seek.specs.Asked.{Fallen, runs, own-of, course-at, aske
 // Weights -----------------------------------------------------------------------------------------------------------
 
 // On which of three endings a number falls, and how far into its weight.
-pub struct Fall {
-    pub ending: u8,
-    pub rest: u32,
+struct Fall {
+    ending: u8,
+    rest: u32,
 }
 
 // Where the first two of them weigh x and y.

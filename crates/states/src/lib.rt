@@ -88,7 +88,7 @@ pub const LEFT_FIRST: u8 = 2;
 
 pub const LEFT_BOTH: u8 = 3;
 
-pub fn mode_of(t: &[u8], i: usize) -> u8
+fn mode_of(t: &[u8], i: usize) -> u8
     requires { ⌜ i < length (now t) ⌝ }
     ensures { λ r. ⌜ r ≡ modes (now (t .entry)) i ⌝ }
 {
