@@ -35,7 +35,7 @@ use Rattle.states.specs.declared.Course.{Course}
 use Rattle.states.specs.declared.Course.the-variants as course
 use Rattle.states.specs.declared.Picked.{Picked}
 use Rattle.states.specs.Standings as standings
-use Rattle.states.specs.Standings.{stand, stand-undoing, undoing-two}
+use Rattle.states.specs.Standings.{first-taken, second-taken, left-second, left-nothing, left-first, left-both, stand, stand-undoing, undoing-two}
 use Rattle.states.specs.State.{std-of, run-of, part, modes}
 use Rattle.states.specs.StateLaws.{std-part}
 use Rattle.states.specs.Rests.{Twins}
@@ -115,22 +115,22 @@ module _ {ns t : List ℕ} {i : ℕ} {two : Two} (spot : Spot ns t i) (e : cours
     pub pair-spot : Spot ns t′ (two .second)
     pair-spot = spot-down ns pair-tree (pair-twins .other) pair-sets spot
 
-  pub pair-done : {a w j : ℕ} {t′ : List ℕ} → t′ ≡ set t i 1 → w ≡ 0 → {c c′ : List ℕ} {v : View} → Counted (scene ns t′ a) (Plain Drawn) (two .second) c c′ v → PairChosen (scene ns t a) i (closing w) j t′ (picked j (v .moves) (v .done))
+  pub pair-done : {a w j : ℕ} {t′ : List ℕ} → t′ ≡ set t i left-second → w ≡ 0 → {c c′ : List ℕ} {v : View} → Counted (scene ns t′ a) (Plain Drawn) (two .second) c c′ v → PairChosen (scene ns t a) i (closing w) j t′ (picked j (v .moves) (v .done))
   unfolding std-of stand stand-undoing
   pair-done {a} {w} {t′} f o {v} h g room =
-      let q : part ns (modes t′) (two .second) ≡ part ns (modes t) (two .second) = same-part ns pair-tree (pair-twins .other) (pair-sets 1 f) in
-      let l : left ns t′ i ≡ part ns (modes t) (two .second) .std Drawn = left-is ns t′ i pair-tree (course-node spot e) (pair-sets 1 f .here) ∙ ap (λ p. p .std Drawn) q in
+      let q : part ns (modes t′) (two .second) ≡ part ns (modes t) (two .second) = same-part ns pair-tree (pair-twins .other) (pair-sets left-second f) in
+      let l : left ns t′ i ≡ part ns (modes t) (two .second) .std Drawn = left-is ns t′ i pair-tree (course-node spot e) (pair-sets left-second f .here) ∙ ap (λ p. p .std Drawn) q in
       let u : v ≡ view a (part ns (modes t) (two .second) .std Drawn) = h .seen ∙ ap (λ p. view a (p .std Drawn)) q in
       record {
         sought = sought-is a g (closing w) (sym pair-runs) (sym l) (seek-pair a g _ _ (ap closing o) u (room-is a g (closing w) pair-runs room));
-        kept = kept-set ns (pair-sets 1 f);
+        kept = kept-set ns (pair-sets left-second f);
       }
 
-  pub pair-other : {a w j : ℕ} {t′ : List ℕ} → t′ ≡ set t i 2 → w ≢ 0 → PairChosen (scene ns t a) i (closing w) j t′ (picked j 0 true)
+  pub pair-other : {a w j : ℕ} {t′ : List ℕ} → t′ ≡ set t i left-nothing → w ≢ 0 → PairChosen (scene ns t a) i (closing w) j t′ (picked j 0 true)
   unfolding std-of stand stand-undoing
   pair-other {a} {w} {t′} f n g room = record {
-    sought = sought-is a g (closing w) (sym pair-runs) (sym (left-is ns t′ i pair-tree (course-node spot e) (pair-sets 2 f .here))) (seek-pair-skip a g _ _ (closing w) (closing-other w n) (room-is a g (closing w) pair-runs room));
-    kept = kept-set ns (pair-sets 2 f);
+    sought = sought-is a g (closing w) (sym pair-runs) (sym (left-is ns t′ i pair-tree (course-node spot e) (pair-sets left-nothing f .here))) (seek-pair-skip a g _ _ (closing w) (closing-other w n) (room-is a g (closing w) pair-runs room));
+    kept = kept-set ns (pair-sets left-nothing f);
   }
 
 -- A choice that has been made -----------------------------------------------------------------------------------------------
@@ -202,17 +202,17 @@ module _ {ns t : List ℕ} {a i w : ℕ} {g : Weight} {j : ℕ} {two : Two} (h :
       pub choice-first-below : Below (scene ns t a) i (two .first) w g j
       choice-first-below = record { spot = h .spot; kid = two-twins h .one; closes = h .closes; room = omega (arith, d) }
 
-      pub choice-first : {t′ : List ℕ} {p : Picked} → Chosen (scene ns (set t i 1) a) (two .first) (ask (closing w) g j) t′ p → Chosen (scene ns t a) i (ask (closing w) g j) t′ p
+      pub choice-first : {t′ : List ℕ} {p : Picked} → Chosen (scene ns (set t i first-taken) a) (two .first) (ask (closing w) g j) t′ p → Chosen (scene ns t a) i (ask (closing w) g j) t′ p
       unfolding stand stand-undoing undoing-two
-      choice-first = alone-chosen h 1 (two-twins h .one) refl (seek-calt-first a g _ _ (closing w))
+      choice-first = alone-chosen h first-taken (two-twins h .one) refl (seek-calt-first a g _ _ (closing w))
 
     module _ (le : c ≤ j) where
       pub choice-second-below : Below (scene ns t a) i (two .second) w g (j - c)
       choice-second-below = record { spot = h .spot; kid = two-twins h .other; closes = h .closes; room = seek-calt-room a g _ _ (closing w) d (two-room h) le }
 
-      pub choice-second : {t′ : List ℕ} {p : Picked} → Chosen (scene ns (set t i 2) a) (two .second) (ask (closing w) g (j - c)) t′ p → Chosen (scene ns t a) i (ask (closing w) g j) t′ p
+      pub choice-second : {t′ : List ℕ} {p : Picked} → Chosen (scene ns (set t i second-taken) a) (two .second) (ask (closing w) g (j - c)) t′ p → Chosen (scene ns t a) i (ask (closing w) g j) t′ p
       unfolding stand stand-undoing undoing-two
-      choice-second = alone-chosen h 2 (two-twins h .other) refl (seek-calt-second a g _ _ (closing w) d (two-room h) le)
+      choice-second = alone-chosen h second-taken (two-twins h .other) refl (seek-calt-second a g _ _ (closing w) d (two-room h) le)
 
 -- PP;QQ: the second, before what the first has become -----------------------------------------------------------------------
 
@@ -223,18 +223,18 @@ module _ {ns t : List ℕ} {a i w : ℕ} {g : Weight} {two : Two} {k : Picked} (
   pub second-below : Below (scene ns t a) i (two .second) w g₂ (k .rest)
   second-below = record { spot = h .spot; kid = two-kids ns i (h .is) two refl .1; closes = h .closes; room = seek-second-room a g _ _ (h .counted) (h .ended) eg (h .room) }
 
-  pub second-chosen : {t′ : List ℕ} {p : Picked} → Chosen (scene ns (set t i 3) a) (two .second) (ask (closing w) g₂ (k .rest)) t′ p
+  pub second-chosen : {t′ : List ℕ} {p : Picked} → Chosen (scene ns (set t i left-both) a) (two .second) (ask (closing w) g₂ (k .rest)) t′ p
       → SecondChosen (scene ns t a) i two (ask (closing w) g (k .rest)) t′ (picked (p .rest) (cond (p .able) (cap (p .moves + k .moves)) (p .moves)) (p .able && k .able))
   unfolding std-of stand stand-undoing undoing-two
   second-chosen {t′} {p} m =
       let kids = two-kids ns i (h .is) two refl in
-      let f : part ns (modes t′) (two .first) ≡ part ns (modes t) (two .first) = marked-beside 3 (h .spot) (kids .1) m (kids .0) (λ j u v. kids-disjoint ns i (h .is) two refl second-tree j v u) in
-      let l : left ns t′ i ≡ seq (left ns t′ (two .second)) (left ns t′ (two .first)) = left-is ns t′ i second-tree (h .is) (marked-mode 3 (h .spot) (kids .1) m) in
+      let f : part ns (modes t′) (two .first) ≡ part ns (modes t) (two .first) = marked-beside left-both (h .spot) (kids .1) m (kids .0) (λ j u v. kids-disjoint ns i (h .is) two refl second-tree j v u) in
+      let l : left ns t′ i ≡ seq (left ns t′ (two .second)) (left ns t′ (two .first)) = left-is ns t′ i second-tree (h .is) (marked-mode left-both (h .spot) (kids .1) m) in
       let r : seq (left ns t′ (two .second)) (left ns t (two .first)) ≡ left ns t′ i = sym (l ∙ ap (λ p. seq (left ns t′ (two .second)) (p .std Undoing)) f) in
       record {
         sought = subst (λ x. Picks a (ask (closing w) g (k .rest)) (seconds (scene ns t a) two (closing w)) x (picked (p .rest) (cond (p .able) (cap (p .moves + k .moves)) (p .moves)) (p .able && k .able))) r
-            (seek-second a g _ _ (h .counted) (h .ended) eg (h .room) (marked-picks 3 (h .spot) (kids .1) m));
-        kept = marked-kept 3 (h .spot) (kids .1) m;
+            (seek-second a g _ _ (h .counted) (h .ended) eg (h .room) (marked-picks left-both (h .spot) (kids .1) m));
+        kept = marked-kept left-both (h .spot) (kids .1) m;
       }
 
 -- PP;QQ whose PP has ended --------------------------------------------------------------------------------------------------
@@ -277,9 +277,9 @@ module _ {ns t : List ℕ} {a i w : ℕ} {g : Weight} {j : ℕ} {two : Two} (h :
       pub own-below : Below (scene ns t a) i (two .first) w g j
       own-below = record { spot = h .spot; kid = two-twins h .one; closes = h .closes; room = seek-own-room a g _ _ (closing w) d (two-room h) lt }
 
-      pub own-chosen : {t′ : List ℕ} {p : Picked} → Chosen (scene ns (set t i 2) a) (two .first) (ask (closing w) g j) t′ p → Chosen (scene ns t a) i (ask (closing w) g j) t′ p
+      pub own-chosen : {t′ : List ℕ} {p : Picked} → Chosen (scene ns (set t i left-first) a) (two .first) (ask (closing w) g j) t′ p → Chosen (scene ns t a) i (ask (closing w) g j) t′ p
       unfolding stand stand-undoing undoing-two
-      own-chosen = alone-chosen h 2 (two-twins h .one) refl (seek-own a g _ _ (closing w) d (two-room h) lt)
+      own-chosen = alone-chosen h left-first (two-twins h .one) refl (seek-own a g _ _ (closing w) d (two-room h) lt)
 
     -- PP ends done, and QQ closes by w
     module _ (le : c ≤ j) {g₁ : Weight} (eg : g₁ ≡ afterG (tally a (comps (runs ns t (two .second)) (closing w))) g) where

@@ -18,18 +18,45 @@ use Rattle.states.specs.declared.Standing.the-variants as standing
 use Rattle.states.specs.declared.Course.{Course}
 use Rattle.states.specs.declared.Course.the-variants as course
 
--- the modes, by what a node is
+-- the modes, by what a node is; all parts of a flow that is drawn have the first
 abbrev pub as-drawn : ℕ
 as-drawn = 0
 
+-- an event has been taken
+abbrev pub event-taken : ℕ
+event-taken = 1
+
+-- P;Q and the handler have gone on to their second part
+abbrev pub moved-on : ℕ
+moved-on = 1
+
+-- a choice has been made
 abbrev pub first-taken : ℕ
 first-taken = 1
 
+abbrev pub second-taken : ℕ
+second-taken = 2
+
+-- a block is undoing what was done in it
+abbrev pub compensating : ℕ
+compensating = 1
+
+-- a pair has left its second part to be done, or nothing
 abbrev pub left-second : ℕ
 left-second = 1
 
+abbrev pub left-nothing : ℕ
+left-nothing = 2
+
+-- PP;QQ holds PP's compensation; it has left PP's only; it has left QQ's and then PP's
+abbrev pub holding : ℕ
+holding = 1
+
 abbrev pub left-first : ℕ
 left-first = 2
+
+abbrev pub left-both : ℕ
+left-both = 3
 
 abbrev pub only : ℕ → Sense → Standing
 only node sense = standing.As (record { node = node; sense = sense })

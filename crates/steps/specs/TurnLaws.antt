@@ -36,7 +36,7 @@ use Rattle.states.specs.declared.Role.{Role}
 use Rattle.states.specs.declared.Role.the-variants.{Plain, Running}
 use Rattle.states.specs.declared.Sub.{Sub}
 use Rattle.states.specs.declared.Picked.{Picked}
-use Rattle.states.specs.Standings.{only, stand, course-of}
+use Rattle.states.specs.Standings.{event-taken, moved-on, compensating, holding, only, stand, course-of}
 use Rattle.states.specs.State.{Part, std-of, run-of, part, modes, counts}
 use Rattle.states.specs.Stored.{std-right, run-right}
 use Rattle.states.specs.NotedLaws.{own-count, noted-stored, counted-right}
@@ -45,7 +45,7 @@ use Rattle.states.specs.Roles.{get, nexts, many, ok}
 use Rattle.states.specs.Contracts.{Spot, Sets, Scene, scene, part-at, stored-at, noted-at, weight-of, ask, Chosen, Counted, Ready, Stepped}
 use Rattle.states.specs.ChildLaws.{set-sets, sets-none, same-room, kept-set, kid-lower, same-part, spot-down, mode-after, kept-up, beside-part, beside-stored}
 use Rattle.steps.specs.declared.Turn.{Turn}
-use Rattle.steps.specs.Turns.{move, Turned, event-taken, compensating, holding, moved-on, gone, stand-in, course-in, first-mode, second-mode, halves, Forked, in-first, in-second, Stance, stance-of, stance-term}
+use Rattle.steps.specs.Turns.{move, Turned, gone, stand-in, course-in, first-mode, second-mode, halves, Forked, in-first, in-second, Stance, stance-of, stance-term}
 use Rattle.steps.specs.AfterLaws.{After, CAfter, stand-after, course-after}
 use Rattle.steps.specs.NodeLaws.{tree-of, step-room, parts-right, step-goes, handed, handed-by}
 

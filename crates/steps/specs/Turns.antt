@@ -16,7 +16,7 @@ use Rattle.states.specs.declared.Standing.{Standing}
 use Rattle.states.specs.declared.Course.{Course}
 use Rattle.states.specs.declared.Role.{Role}
 use Rattle.states.specs.declared.Role.the-variants.{Plain, Running}
-use Rattle.states.specs.Standings.{first-taken, left-first, stand, course-of}
+use Rattle.states.specs.Standings.{moved-on, first-taken, second-taken, left-first, stand, course-of}
 use Rattle.states.specs.State.{Part, std-of, run-of, modes, counts}
 use Rattle.states.specs.Stored.{Right, std-right, run-right}
 use Rattle.states.specs.Roles.{Term}
@@ -51,22 +51,6 @@ stand-in s v i = stand v (node (s .ns) i) (modes (s .t) i)
 
 abbrev pub course-in : Scene → ℕ → Course
 course-in s i = course-of (node (s .ns) i) (modes (s .t) i)
-
--- the modes that a step gives to a node, besides those by which it is left
-abbrev pub event-taken : ℕ
-event-taken = 1
-
-abbrev pub moved-on : ℕ
-moved-on = 1
-
-abbrev pub second-taken : ℕ
-second-taken = 2
-
-abbrev pub compensating : ℕ
-compensating = 1
-
-abbrev pub holding : ℕ
-holding = 1
 
 -- the mode of P;Q and of QQ's and then PP's compensation, once the second part has made a step
 abbrev pub gone : Sense → ℕ
