@@ -1,6 +1,7 @@
 -- The counting pass meets its contract: a cycle of two functions, on falling node numbers. What a live part is asked follows from its
 -- number being lower (`std-below`, `run-below`), and each return is a lemma of CountLaws, given what the code has learnt on its way
--- there. Assumes nothing.
+-- there. The loop's invariant: the node that it has come to is live in place of the one that was asked for (StandIn), and nothing is
+-- counted yet. Assumes nothing.
 use Prim.Native.Nat.{ℕ, _<_}
 use mathlib.Core.Path.{_≡_, refl, sym, _∙_}
 use native.Mathlib.Omega.{arith}

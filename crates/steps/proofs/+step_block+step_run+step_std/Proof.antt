@@ -1,5 +1,6 @@
 -- `steps::step_std`, `step_block` and `step_run` meet their contracts: a node hands its step down, the child makes it, and so the node
--- has made it. The measure is twice the node's number, and one more for a standard node, which may be a block. Assumes nothing.
+-- has made it. The measure is twice the node's number, and one more for a standard node, which may be a block. The loop's invariant:
+-- the step has come down to the node where it is (Reached). Assumes nothing.
 use Rattle.steps.specs.TurnLaws.{both-small, both-turned, handler-small, handler-turned, pair-turned, held-turned, only-turned, as-turned, block-small, block-ready, block-stands, block-stepped, inside-turned, event-stepped, no-step, no-run-step}
 use native.Mathlib.Omega.{arith}
 use mathlib.Core.Path.{refl, sym, _∙_}
