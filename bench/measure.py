@@ -2,8 +2,9 @@
 """States per second on the stored flows: the proved judge, the independent implementation, and the transition rules in Prolog.
 
 Every figure is of one run on the same files. The judge's is the processor time of `replay` on cases repeated in one process, less
-that of a process that judges nothing. Prints a table and keeps it in RESULTS.md beside this file; not so on another processor
-than the one that Rattle's programs are compiled for, where the judge runs under an emulator and its time says nothing.
+that of a process that judges nothing. Prints a table and keeps it in RESULTS.md beside this file, above that file's first section; not
+so on another processor than the one that Rattle's programs are compiled for, where the judge runs under an emulator and its time
+says nothing.
 usage: measure.py INDEPENDENT [OTHER]
   INDEPENDENT  the independent implementation, which has a subcommand `bench FILE`
   OTHER        one more program with `bench FILE ..`, printing lines that end in '.. M states/s' (optional)
@@ -139,10 +140,13 @@ def kept(replay, independent, other):
         assert said == count, (name, said, count)
         row = [name, str(len(nodes) // 3), f"{count:,}", f"{max(speeds) / 1e6:.2f}", f"{bench(independent, path) / 1e6:.2f}", f"{slow / 1e6:.2f}"]
         rows.append(row + ([f"{bench(other, path) / 1e6:.2f}"] if other else []))
-    text = f"# States per second, in millions\n\nOne run, all programs on the same files (`bench/flows`), best of five.\n\n{table(head, rows)}\n{NOTE}"
+    build = subprocess.run(["git", "-C", str(HERE), "describe", "--always", "--dirty"], stdout=subprocess.PIPE, check=True).stdout.decode().strip()
+    text = f"# States per second, in millions\n\nOne run at commit {build}, all programs on the same files (`bench/flows`), best of five.\n\n{table(head, rows)}\n{NOTE}"
     print(text)
     if platform.machine() == "x86_64":
-        (HERE / "RESULTS.md").write_text(text)
+        results = HERE / "RESULTS.md"
+        _, mark, below = results.read_text().partition("\n## ")  # written by hand, and kept
+        results.write_text(text + mark + below)
     else:
         print("The judge ran under an emulator: its column says nothing of its speed, and the table is not kept.")
 
