@@ -1,5 +1,5 @@
--- The search as a program makes it: with what is left of the allowance, and no look at what it cannot afford; that it gives the verdict
--- of the search that is counted is `budgeted`. Assumes nothing.
+-- The search that is given what is left of the allowance (Spending) gives the verdict of the search that is counted: `budgeted`.
+-- Assumes nothing.
 use Prim.Native.Nat.{ℕ, zero, suc, _+_, _-_, max, _≤_, _<_}
 use mathlib.Core.Path.{_≡_, refl, sym, _∙_, ap, ap₂, subst}
 use mathlib.Core.Bool.{Bool, true, false}
@@ -9,33 +9,8 @@ use lib.Dec.{leb}
 use lib.ListN.{length}
 use borrow.Author.Tests.{le-leb, lt-leb}
 use Rattle.calculus.specs.Records.{Record, State}
+use Rattle.calculus.specs.Spending.{Out, spent, back, bump, chain, triesB, visitB}
 use Rattle.calculus.specs.Search.{next, Seen, is-over, or-else, tries, visit, Verdict, accepted, rejected, undecided, settle, judge}
-
-pub data Out : Type 0 where
-  spent : Out
-  back : Bool → ℕ → ℕ → Out
-
-unfoldable pub bump : ℕ → Out → Out
-bump d spent = spent
-bump d (back b e m) = back b (max d e) m
-
-unfoldable pub chain : Out → (ℕ → Out) → Out
-unfolding bump
-chain spent others = spent
-chain (back true d m) others = back true (suc d) m
-chain (back false d m) others = bump (suc d) (others m)
-
-unfoldable pub triesB : (State → ℕ → Out) → List State → ℕ → Out
-unfolding chain
-triesB f [] n = back false 0 n
-triesB f (s ∷ ss) n = chain (f s n) (λ m. triesB f ss m)
-
-unfoldable pub visitB : List Record → State → ℕ → Out
-unfolding triesB next
-visitB [] s zero = spent
-visitB [] s (suc n) = back (is-over s) 0 n
-visitB (r ∷ rs) s zero = spent
-visitB (r ∷ rs) s (suc n) = triesB (λ t m. visitB rs t m) (next s r) n
 
 -- what came back is what is seen, if the allowance n is enough
 data Fits (x : Seen) (n : ℕ) : Out → Type 0 where

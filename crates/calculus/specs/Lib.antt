@@ -7,6 +7,8 @@ pub mod Successors
 pub mod Search
 pub mod Laws
 pub mod Entered
+pub mod Spending
+pub mod Alike
 -- Theorems.
 pub mod Equations
 pub mod Members

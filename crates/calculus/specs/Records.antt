@@ -3,7 +3,7 @@
 use Prim.Native.Nat.{ℕ, suc}
 use mathlib.Core.Path.{_≡_}
 use mathlib.Core.List.{List, [], _∷_, _++_, map}
-use Rattle.calculus.specs.Term.{Closing, Std, Cmp}
+use Rattle.calculus.specs.Term.{Closing, done, failed, Std, Cmp}
 use Rattle.calculus.specs.Rules.{End, CEnd, Step, CStep, Run, CRun}
 use Rattle.calculus.specs.Traces.{tr, ct, Tr, CTr}
 
@@ -63,3 +63,9 @@ abbrev pub Fits : State → List Record → Type 0
 Fits over rs = rs ≡ []
 Fits (std p) rs = Closed rs
 Fits (cmp pp) rs = ClosedTwice rs
+
+-- the last record is done or failed
+pub data ClosesFirm : List Record → Type 0 where
+  by-done : ClosesFirm (close done ∷ [])
+  by-failed : ClosesFirm (close failed ∷ [])
+  later : {r : Record} {rs : List Record} → ClosesFirm rs → ClosesFirm (r ∷ rs)

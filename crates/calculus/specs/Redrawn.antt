@@ -11,13 +11,14 @@ use native.Mathlib.Omega.{arith}
 use lib.Dec.{T, leb}
 use lib.ListN.{length}
 use Rattle.calculus.specs.Term.{Closing, done, withdrawn, failed, Std, Cmp}
-use Rattle.calculus.specs.Records.{Record, close, State, over, std, cmp, standard, compensable, Complete, InTraces, Follows, stays}
+use Rattle.calculus.specs.Records.{Record, close, State, over, std, cmp, standard, compensable, Complete, InTraces, Follows, stays, ClosesFirm, by-done, by-failed, later}
 use Rattle.calculus.specs.Records
 use Rattle.calculus.specs.Search.{visit, Verdict, accepted, rejected, undecided, settle, judge}
 use Rattle.calculus.specs.Found.{Ends, at-end, ends-complete, complete-ends, found-complete, place-follows, place-longest}
 use Rattle.calculus.specs.Found
 use Rattle.calculus.specs.Traces.{Trace, tr, CTrace, ct, Tr, CTr}
 use Rattle.calculus.specs.RunsAreTraces.{some, csome, Firm, CFirm, runs-are-traces, cruns-are-traces}
+use Rattle.calculus.specs.Alike.{Alike, both-accepted, both-rejected, first-undecided, second-undecided}
 use Rattle.calculus.specs.Laws.{Same, CSame, Redrawn}
 use Rattle.calculus.specs.Laws
 use Rattle.calculus.specs.LawsHold.{same-traces, csame-traces}
@@ -36,12 +37,6 @@ complete-traces (cmp pp) rs = (
 )
 
 -- Every flow has one that closes done or failed ------------------------------------------------------------------------------
-
--- the last record is done or failed
-pub data ClosesFirm : List Record → Type 0 where
-  by-done : ClosesFirm (close done ∷ [])
-  by-failed : ClosesFirm (close failed ∷ [])
-  later : {r : Record} {rs : List Record} → ClosesFirm rs → ClosesFirm (r ∷ rs)
 
 firm-standard : (s : List ℕ) (w : Closing) → w ≢ withdrawn → ClosesFirm (standard s w)
 firm-standard [] done f = by-done
@@ -110,13 +105,6 @@ redrawn-follows {s} {t} h f =
     ends-follows (e .1) (complete-ends t (e .0) (redrawn-complete h (e .0) (ends-complete s (e .0) (e .2))))
 
 -- Judged alike -----------------------------------------------------------------------------------------------------------------
-
--- both accepted, or both rejected at the same place, or either undecided
-pub data Alike : Verdict → Verdict → Type 0 where
-  both-accepted : {n a b : ℕ} → Alike (accepted n a) (accepted n b)
-  both-rejected : {place place′ a b : ℕ} → place ≡ place′ → Alike (rejected place a) (rejected place′ b)
-  first-undecided : {n a : ℕ} {v : Verdict} → Alike (undecided n a) v
-  second-undecided : {n b : ℕ} {v : Verdict} → Alike v (undecided n b)
 
 module _ {s t : State} (h : Redrawn s t) (rs : List Record) where
   pub redrawn-found : T ((visit rs s) .found) ↔ T ((visit rs t) .found)

@@ -6,7 +6,7 @@ use Rattle.flow.specs.declared.Simple.{Simple}
 use Rattle.flow.specs.declared.Simple.the-variants.{Skip, Throw, Yield}
 use Rattle.flow.specs.declared.Operator.{Operator}
 use Rattle.flow.specs.declared.Operator.the-variants.{Sequence, Choice, Parallel}
-use Rattle.flow.specs.Draws.{basic, paired, standard, compensable}
+use Rattle.flow.specs.Kinds.{basic, paired, standard, compensable}
 use Rattle.tallies.specs.Counts.{view, word}
 use Rattle.tallies.specs.CountsLaws.{view-skip, view-throw, view-yield, view-seq, view-alt, view-par, word-skipp, word-throww, word-yieldd, word-cseq, word-calt, word-cpar}
 use Rattle.counting.specs.Wholes.{simpleV, operatorV, simpleW, operatorW}

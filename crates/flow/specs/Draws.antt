@@ -9,9 +9,7 @@ use Rattle.flow.specs.declared.Simple.{Simple}
 use Rattle.flow.specs.declared.Operator.{Operator}
 use Rattle.flow.specs.declared.Two.{Two}
 use Rattle.flow.specs.declared.Node.the-variants.{Event, Basic, Standard, Handler, Block, Pair, Compensable, Paired}
-use Rattle.flow.specs.Kinds.{node}
-pub use Rattle.flow.specs.Kinds.{basic, paired, standard, compensable}
-unfoldable pub use Rattle.flow.specs.Drawn.{flow-of}
+use Rattle.flow.specs.Kinds.{node, basic, paired, standard, compensable}
 
 module _ (ns : List ℕ) where
   pub data Draws : ℕ → State → Type 0 where

@@ -12,7 +12,7 @@ use borrow.Rule.Slice.PartMut.{putMid, midOf, same-len-mid}
 use Rattle.calculus.specs.Records.{Record, State, Fits}
 use Rattle.calculus.specs.Search.{next}
 use Rattle.calculus.specs.Found.{next-moves, fits-moves}
-use Rattle.calculus.specs.Budget.{spent, visitB}
+use Rattle.calculus.specs.Spending.{spent, visitB}
 use Rattle.flow.specs.Records.{record-of, records}
 use Rattle.flow.specs.Refusals.{count, root, no-record}
 use Rattle.tallies.specs.Capped.{cap}

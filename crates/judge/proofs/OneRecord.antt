@@ -12,7 +12,7 @@ use Rattle.calculus.specs.Term.{Closing, done, withdrawn, failed, Std}
 use Rattle.calculus.specs.Records.{State, over, std, cmp, Fits}
 use Rattle.calculus.specs.Successors.{only, ends, comps}
 use Rattle.calculus.specs.Search.{next}
-use Rattle.calculus.specs.Budget.{spent, back, chain, triesB, visitB}
+use Rattle.calculus.specs.Spending.{spent, back, chain, triesB, visitB}
 use Rattle.flow.specs.Records.{done-number, failed-number, record-of, records}
 use Rattle.flow.specs.Refusals.{root}
 use Rattle.tallies.specs.Capped.{cap}

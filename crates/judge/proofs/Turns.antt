@@ -8,7 +8,7 @@ use native.Mathlib.Numerals.{add-one}
 use lib.ListN.{length, drop, drop-of-length-le, length-map}
 use Rattle.calculus.specs.Records.{Record, State}
 use Rattle.calculus.specs.Search.{next}
-use Rattle.calculus.specs.Budget.{Out as Found, spent, back, bump, chain, triesB, visitB}
+use Rattle.calculus.specs.Spending.{Out as Found, spent, back, bump, chain, triesB, visitB}
 use Rattle.flow.specs.Records.{record-of, records}
 use Rattle.tallies.specs.Capped.{cap, most}
 use Rattle.tallies.specs.Places.{At}

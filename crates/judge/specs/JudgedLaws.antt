@@ -15,7 +15,8 @@ use borrow.Author.Fill.{fill-more}
 use Rattle.calculus.specs.Records.{Record, State, over, std, cmp, Fits}
 use Rattle.calculus.specs.Search.{next}
 use Rattle.calculus.specs.Search as search
-use Rattle.calculus.specs.Budget.{Out as Found, spent, back, bump, chain, triesB, visitB, answer, budgeted}
+use Rattle.calculus.specs.Spending.{Out as Found, spent, back, bump, chain, triesB, visitB}
+use Rattle.calculus.specs.Budget.{answer, budgeted}
 use Rattle.flow.specs.declared.Refusal.{Refusal}
 use Rattle.flow.specs.declared.Check.{Check}
 use Rattle.flow.specs.declared.Check.the-variants.{Fine}

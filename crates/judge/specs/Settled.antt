@@ -3,7 +3,7 @@
 use Prim.Native.Nat.{ℕ, _-_, _≤_}
 use mathlib.Core.Bool.{true, false, cond}
 use mathlib.Core.List.{List}
-use Rattle.calculus.specs.Budget.{Out as Found, spent, back}
+use Rattle.calculus.specs.Spending.{Out as Found, spent, back}
 use Rattle.flow.specs.Kinds.{node, is-standard}
 use Rattle.flow.specs.Refusals.{root}
 use Rattle.states.specs.declared.Sense.the-variants.{Drawn}

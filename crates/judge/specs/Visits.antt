@@ -10,7 +10,7 @@ use lib.ListN.{length, getD, take, drop}
 use Rattle.calculus.specs.Term.{Closing, done, withdrawn, failed}
 use Rattle.calculus.specs.Records.{State, std, cmp, Fits}
 use Rattle.calculus.specs.Search.{next}
-use Rattle.calculus.specs.Budget.{Out as Found, spent, back, triesB, visitB}
+use Rattle.calculus.specs.Spending.{Out as Found, spent, back, triesB, visitB}
 use Rattle.flow.specs.Records.{done-number, withdrawn-number, failed-number, record-of, records}
 use Rattle.flow.specs.Refusals.{count, root, no-record}
 use Rattle.tallies.specs.Capped.{cap}

@@ -12,7 +12,8 @@ use Rattle.calculus.specs.Records.{Record, State, Complete, InTraces, Follows}
 use Rattle.calculus.specs.Search.{visit, Verdict}
 use Rattle.calculus.specs.Laws.{Redrawn}
 use Rattle.calculus.specs.Found.{found-complete, place-follows, place-longest}
-use Rattle.calculus.specs.Redrawn.{complete-traces, redrawn-flip, redrawn-complete, Alike, redrawn-alike}
+use Rattle.calculus.specs.Alike.{Alike}
+use Rattle.calculus.specs.Redrawn.{complete-traces, redrawn-flip, redrawn-complete, redrawn-alike}
 use Rattle.flow.specs.declared.Refusal.{Refusal}
 use Rattle.flow.specs.declared.Check.{Check}
 use Rattle.flow.specs.declared.Check.the-variants.{Fine}

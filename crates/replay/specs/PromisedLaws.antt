@@ -17,7 +17,7 @@ use Rattle.flow.specs.declared.Check.{Check}
 use Rattle.flow.specs.declared.Check.the-variants.{Fine}
 use Rattle.flow.specs.declared.Check.the-variants as check
 use Rattle.flow.specs.Records.{records}
-use Rattle.flow.specs.Draws.{flow-of}
+use Rattle.flow.specs.Drawn.{flow-of}
 use Rattle.flow.specs.Tests.{both-true}
 use Rattle.judge.specs.declared.Answer.{Answer}
 use Rattle.judge.specs.declared.Answer.the-variants.{Refused}

@@ -16,8 +16,7 @@ use Rattle.flow.specs.declared.Operator.{Operator}
 use Rattle.flow.specs.declared.Operator.the-variants.{Sequence, Choice, Parallel}
 use Rattle.flow.specs.declared.Two.{Two}
 use Rattle.flow.specs.declared.Node.the-variants.{Compensable}
-use Rattle.flow.specs.Draws.{paired, compensable}
-use Rattle.flow.specs.Kinds.{node, shape}
+use Rattle.flow.specs.Kinds.{paired, compensable, node, shape}
 use Rattle.flow.specs.Nodes.{Kid, Tree}
 use Rattle.flow.specs.NodeChildren.{two-kids, kids-disjoint}
 use Rattle.tallies.specs.Capped.{cap}

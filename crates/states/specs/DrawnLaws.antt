@@ -9,8 +9,8 @@ use Rattle.flow.specs.declared.Operator.the-variants.{Sequence, Choice, Paralle
 use Rattle.flow.specs.declared.Two.{Two}
 use Rattle.flow.specs.declared.Node.{Node}
 use Rattle.flow.specs.Nodes.{Tree}
-use Rattle.flow.specs.Kinds.{node, shape}
-use Rattle.flow.specs.Draws.{Draws, at-event, at-basic, at-standard, at-handler, at-block, at-pair, at-compensable, at-paired, standard, compensable}
+use Rattle.flow.specs.Kinds.{node, shape, standard, compensable}
+use Rattle.flow.specs.Draws.{Draws, at-event, at-basic, at-standard, at-handler, at-block, at-pair, at-compensable, at-paired}
 use Rattle.states.specs.declared.Sense.the-variants.{Drawn}
 use Rattle.states.specs.declared.Standing.the-variants as standing
 use Rattle.states.specs.declared.Course.the-variants as course

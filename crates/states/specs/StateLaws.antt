@@ -9,8 +9,7 @@ use lib.ListN.{length}
 use Rattle.calculus.specs.Term.{hnd, blk, pair, held}
 use Rattle.calculus.specs.Successors.{steps, csteps}
 use Rattle.flow.specs.Nodes.{Kid, Under, self, up, under-trans, Tree, Local, descend-node, descend-frame}
-use Rattle.flow.specs.Kinds.{node, shape}
-use Rattle.flow.specs.Draws.{standard, compensable}
+use Rattle.flow.specs.Kinds.{node, shape, standard, compensable}
 use Rattle.tallies.specs.Capped.{cap}
 use Rattle.states.specs.declared.Sense.{Sense}
 use Rattle.states.specs.declared.Sense.the-variants.{Drawn, Undoing}

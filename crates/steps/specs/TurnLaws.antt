@@ -16,9 +16,8 @@ use Rattle.flow.specs.declared.Operator.{Operator}
 use Rattle.flow.specs.declared.Operator.the-variants.{Sequence, Choice, Parallel}
 use Rattle.flow.specs.declared.Two.{Two}
 use Rattle.flow.specs.declared.Node.{Node}
-use Rattle.flow.specs.Kinds.{node, shape}
+use Rattle.flow.specs.Kinds.{node, shape, basic, paired, standard, compensable}
 use Rattle.flow.specs.Nodes.{Kid}
-use Rattle.flow.specs.Draws.{basic, paired, standard, compensable}
 use Rattle.tallies.specs.Capped.{cap}
 use Rattle.tallies.specs.Formulas.{movesG, holdG}
 use Rattle.tallies.specs.Counts.{sum-of, moves, weight}
