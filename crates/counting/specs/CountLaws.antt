@@ -12,7 +12,8 @@ use Rattle.flow.specs.declared.Simple.{Simple}
 use Rattle.flow.specs.declared.Operator.{Operator}
 use Rattle.flow.specs.declared.Two.{Two}
 use Rattle.flow.specs.Kinds.{node, shape}
-use Rattle.flow.specs.Nodes.{self, up, under-le}
+use Rattle.flow.specs.Trees.{self, up}
+use Rattle.flow.specs.Nodes.{under-le}
 use Rattle.tallies.specs.declared.View.{View}
 use Rattle.tallies.specs.declared.Word.{Word}
 use Rattle.tallies.specs.Formulas.{skipV, evV, hndV, blkV, pairW, heldW}
@@ -34,7 +35,8 @@ use Rattle.states.specs.StateLaws.{std-part, run-part, std-stored, run-stored}
 use Rattle.states.specs.NotedLaws.{noted-stored}
 use Rattle.states.specs.Roles.{Sight, moves-of, ok}
 use Rattle.states.specs.Contracts.{Spot, Sets, Scene, scene, part-at, stored-at, noted-at, Counted}
-use Rattle.states.specs.Rests.{Twins, Rests, CRests, stand-rests, course-rests, Lower, CLower, stand-lower, course-lower}
+use Rattle.states.specs.LiveParts.{Twins, Rests, CRests, Lower, CLower}
+use Rattle.states.specs.Rests.{stand-rests, course-rests, stand-lower, course-lower}
 use Rattle.counting.specs.Wholes.{simpleV, operatorV, simpleW, operatorW}
 use Rattle.counting.specs.WholeLaws.{view-basic, view-both, word-basic, word-both}
 use Rattle.counting.specs.StandIns.{StandIn}

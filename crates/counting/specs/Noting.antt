@@ -6,14 +6,15 @@ use mathlib.Core.List.{List}
 use lib.Dec.{T}
 use Rattle.flow.specs.declared.Two.{Two}
 use Rattle.flow.specs.Kinds.{shape}
-use Rattle.flow.specs.Nodes.{Kid, Under, self, Tree}
+use Rattle.flow.specs.Shapes.{Kid}
+use Rattle.flow.specs.Trees.{Under, self, Tree}
 use Rattle.states.specs.declared.Role.{Role}
 use Rattle.states.specs.State.{modes, counts}
 use Rattle.states.specs.StateLaws.{noted-frame}
 use Rattle.states.specs.NotedLaws.{noted-in}
 use Rattle.states.specs.Roles.{get, Sight, look, moves-of, ok}
 use Rattle.states.specs.Contracts.{Spot, Kept, Sets, Scene, part-at, stored-at, noted-at, Counted}
-use Rattle.states.specs.Rests.{Twins}
+use Rattle.states.specs.LiveParts.{Twins}
 use Rattle.states.specs.ChildLaws.{not-above, kept-above}
 
 module _ (s : Scene) {i : ℕ} (spot : Spot (s .ns) (s .t) i) where

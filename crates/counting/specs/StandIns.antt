@@ -4,7 +4,7 @@ use Prim.Native.Nat.{ℕ}
 use mathlib.Core.Path.{_≡_}
 use mathlib.Core.List.{List}
 use Rattle.flow.specs.Kinds.{shape}
-use Rattle.flow.specs.Nodes.{Under}
+use Rattle.flow.specs.Trees.{Under}
 use Rattle.states.specs.declared.Sense.{Sense}
 use Rattle.states.specs.Contracts.{Scene, part-at, stored-at}
 

@@ -7,7 +7,7 @@ use Rattle.calculus.specs.Term.{Std, Cmp, leaf, ev, hnd, blk, pair}
 use Rattle.calculus.specs.Records.{State, over, std, cmp}
 use Rattle.flow.specs.declared.Node.{Node}
 use Rattle.flow.specs.declared.Node.the-variants.{Event, Basic, Standard, Handler, Block, Pair, Compensable, Paired, Unknown}
-use Rattle.flow.specs.Nodes.{descend}
+use Rattle.flow.specs.Trees.{descend}
 use Rattle.flow.specs.Kinds.{node, basic, paired, standard, compensable}
 use Rattle.flow.specs.Refusals.{root}
 

@@ -11,7 +11,8 @@ use lib.ListN.{length, List·getD-eq-default}
 use borrow.Author.Tests.{eqb-true, eqb-false, ltb-true, ltb-false, not-false}
 use Rattle.calculus.specs.Members.{or-in-left, or-in-right, and-in, and-left, and-right}
 use Rattle.flow.specs.declared.Check.the-variants.{Fine}
-use Rattle.flow.specs.Nodes.{Kid, kid1, kid2, Tree}
+use Rattle.flow.specs.Shapes.{Kid, kid1, kid2}
+use Rattle.flow.specs.Trees.{Tree}
 use Rattle.flow.specs.declared.Node.{Node}
 use Rattle.flow.specs.declared.Node.the-variants.{Unknown}
 use Rattle.flow.specs.Kinds.{node-of, form, node, one-of, two-of, shape, is-standard}

@@ -6,12 +6,13 @@ pub mod Refusals
 pub mod Earliest
 pub mod Draws
 -- Definitions that need not be believed.
-pub mod Nodes
+pub mod Trees
 pub mod Drawn
 pub mod Checks
 pub mod Forms
 pub mod Fine
 -- Theorems.
+pub mod Nodes
 pub mod Tests
 pub mod EachKind
 pub mod NodeChildren

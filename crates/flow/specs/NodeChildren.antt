@@ -10,7 +10,9 @@ use Rattle.flow.specs.declared.Node.{Node}
 use Rattle.flow.specs.declared.Node.the-variants.{Event, Basic, Standard, Handler, Block, Pair, Compensable, Paired, Unknown}
 use Rattle.flow.specs.Kinds.{two, node-of, form, node, one-of, two-of, shape}
 use Rattle.flow.specs.EachKind.{unknown, each-kind}
-use Rattle.flow.specs.Nodes.{Kid, kid1, kid2, Under, Tree, disjoint}
+use Rattle.flow.specs.Shapes.{Kid, kid1, kid2}
+use Rattle.flow.specs.Trees.{Under, Tree}
+use Rattle.flow.specs.Nodes.{disjoint}
 
 -- two children, of a node that has two
 abbrev pub Has : Node → Two → Type 0

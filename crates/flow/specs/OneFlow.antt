@@ -9,7 +9,9 @@ use borrow.Author.Tests.{not-false}
 use Rattle.calculus.specs.Term.{Std, Cmp, blk}
 use Rattle.calculus.specs.Records.{State, over, std, cmp}
 use Rattle.flow.specs.declared.Check.the-variants.{Fine}
-use Rattle.flow.specs.Nodes.{Kid, Tree, below, below-is, descend-is}
+use Rattle.flow.specs.Shapes.{Kid}
+use Rattle.flow.specs.Trees.{Tree, below}
+use Rattle.flow.specs.Nodes.{below-is, descend-is}
 use Rattle.flow.specs.declared.Node.{Node}
 use Rattle.flow.specs.declared.Node.the-variants.{Event, Basic, Standard, Handler, Block, Pair, Compensable, Paired, Unknown}
 use Rattle.flow.specs.Kinds.{form, node, shape, is-standard}

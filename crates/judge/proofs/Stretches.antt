@@ -12,7 +12,8 @@ use lib.Seq.{paste, paste-suc, length-paste, drop-paste, getD-take, getD-drop, l
 use borrow.Rule.Slice.PartMut.{putMid, midOf}
 use Rattle.calculus.specs.Records.{std, cmp}
 use Rattle.flow.specs.Kinds.{shape}
-use Rattle.flow.specs.Nodes.{Under, under-le}
+use Rattle.flow.specs.Trees.{Under}
+use Rattle.flow.specs.Nodes.{under-le}
 use Rattle.flow.specs.Refusals.{count, root}
 use Rattle.states.specs.State.{modes, counts}
 use Rattle.states.specs.StateLaws.{part-frame, stored-frame}

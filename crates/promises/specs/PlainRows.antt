@@ -14,7 +14,7 @@ use borrow.Author.Tests.{leb-true, le-leb}
 use Rattle.calculus.specs.Members.{or-in-left, or-in-right, or-cases, and-in, and-left, and-right}
 use Rattle.flow.specs.declared.Check.{Check}
 use Rattle.flow.specs.declared.Check.the-variants.{Fine, Refused}
-use Rattle.flow.specs.Nodes.{Kid, kid1, kid2}
+use Rattle.flow.specs.Shapes.{Kid, kid1, kid2}
 use Rattle.flow.specs.Kinds.{form, is-standard, node, one-of, two-of, shape}
 use Rattle.flow.specs.Records.{most-events, is-event-number, is-closing-number}
 use Rattle.flow.specs.Refusals.{count, has-one, has-two, wrong-field, taken, wrong-sort, child-taken, nobodys-child, closings-wanted, closed, wrong-closings, after-closings}

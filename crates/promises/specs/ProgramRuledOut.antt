@@ -8,7 +8,7 @@ use mathlib.Core.List.{List, [], _∷_, _++_}
 use mathlib.Core.Path.{_≡_, refl, ap, _∙_}
 use lib.ListN.{length, drop, replicate}
 use Rattle.calculus.specs.Search as search
-use Rattle.flow.specs.Nodes.{descend}
+use Rattle.flow.specs.Trees.{descend}
 use Rattle.flow.specs.Records.{record-of, is-event-number, is-closing-number}
 use Rattle.flow.specs.Refusals.{no-nodes, not-whole, too-many-nodes, unknown-kind, wrong-field, not-lower, is-child, taken, wrong-sort, child-taken, nobodys-child, no-records, too-many-records, no-record, closings-wanted, closed, wrong-closings, after-closings, node-grounds, child-grounds, value-grounds}
 use Rattle.flow.specs.Checks.{or-else-check, answer, first, each}

@@ -8,7 +8,7 @@ use lib.ListN.{replicate}
 use Rattle.calculus.specs.Search as search
 use Rattle.flow.specs.declared.Check.{Check}
 use Rattle.flow.specs.declared.Check.the-variants.{Fine}
-use Rattle.flow.specs.Nodes.{descend}
+use Rattle.flow.specs.Trees.{descend}
 use Rattle.flow.specs.Records.{record-of, is-event-number, is-closing-number}
 use Rattle.flow.specs.Refusals.{no-nodes, not-whole, too-many-nodes, unknown-kind, wrong-field, not-lower, is-child, taken, wrong-sort, child-taken, nobodys-child, no-records, too-many-records, no-record, closings-wanted, closed, wrong-closings, after-closings, node-grounds, child-grounds, value-grounds}
 use Rattle.flow.specs.Checks.{refused, first, answer, or-else-check, each, nodes-check, table-check, values-check, closings-check, records-check}

@@ -11,7 +11,7 @@ use Rattle.flow.specs.declared.Operator.the-variants.{Sequence}
 use Rattle.flow.specs.declared.Two.{Two}
 use Rattle.flow.specs.declared.Node.the-variants.{Compensable}
 use Rattle.flow.specs.Kinds.{node, shape}
-use Rattle.flow.specs.Nodes.{Kid}
+use Rattle.flow.specs.Shapes.{Kid}
 use Rattle.tallies.specs.Capped.{cap}
 use Rattle.tallies.specs.Counts.{sum-of, moves, weight}
 use Rattle.tallies.specs.Formulas.{closing}

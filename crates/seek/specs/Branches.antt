@@ -17,7 +17,8 @@ use Rattle.flow.specs.declared.Operator.the-variants.{Sequence, Choice, Paralle
 use Rattle.flow.specs.declared.Two.{Two}
 use Rattle.flow.specs.declared.Node.the-variants.{Compensable}
 use Rattle.flow.specs.Kinds.{paired, compensable, node, shape}
-use Rattle.flow.specs.Nodes.{Kid, Tree}
+use Rattle.flow.specs.Shapes.{Kid}
+use Rattle.flow.specs.Trees.{Tree}
 use Rattle.flow.specs.NodeChildren.{two-kids, kids-disjoint}
 use Rattle.tallies.specs.Capped.{cap}
 use Rattle.tallies.specs.Counts.{sum-of, moves, view, tally, word, weight}
@@ -37,7 +38,7 @@ use Rattle.states.specs.Standings as standings
 use Rattle.states.specs.Standings.{first-taken, second-taken, left-second, left-nothing, left-first, left-both, stand, stand-undoing, undoing-two}
 use Rattle.states.specs.State.{std-of, run-of, part, modes}
 use Rattle.states.specs.StateLaws.{std-part}
-use Rattle.states.specs.Rests.{Twins}
+use Rattle.states.specs.LiveParts.{Twins}
 use Rattle.states.specs.Contracts.{Spot, Sets, scene, weight-of, ask, Counted, Chosen}
 use Rattle.states.specs.ChildLaws.{set-sets, lower-spot, same-room, kept-set, kept-part, kid-lower, kept-kid, own-kept, same-part, spot-down}
 use Rattle.seek.specs.Asked.{Fallen, course-at, runs, left, picked, Picks, own-of, Wanted, Below, seconds, SecondWanted, SecondChosen, PairChosen}

@@ -15,7 +15,8 @@ use Rattle.flow.specs.declared.Simple.the-variants.{Skip}
 use Rattle.flow.specs.declared.Node.{Node}
 use Rattle.flow.specs.declared.Node.the-variants.{Event, Basic, Standard, Handler, Block, Pair, Compensable, Paired, Unknown}
 use Rattle.flow.specs.Kinds.{node, shape}
-use Rattle.flow.specs.Nodes.{Kid, Under, Tree}
+use Rattle.flow.specs.Shapes.{Kid}
+use Rattle.flow.specs.Trees.{Under, Tree}
 use Rattle.tallies.specs.Capped.{cap}
 use Rattle.tallies.specs.Counts.{sum-of, weight}
 use Rattle.tallies.specs.Sought.{Sought}
@@ -28,7 +29,8 @@ use Rattle.states.specs.declared.Picked.{Picked}
 use Rattle.states.specs.Standings.{as-drawn, first-taken, only, stand, stand-undoing, undoing-two, course-two, course-of}
 use Rattle.states.specs.State.{std-of, run-of, part, modes}
 use Rattle.states.specs.StateLaws.{std-part, run-part}
-use Rattle.states.specs.Rests.{CRests, course-rests}
+use Rattle.states.specs.LiveParts.{CRests}
+use Rattle.states.specs.Rests.{course-rests}
 use Rattle.states.specs.Contracts.{Spot, Kept, Sets, scene, Ask, Chosen}
 use Rattle.states.specs.ChildLaws.{set-sets, same-part, mode-after, kept-up, beside-part}
 use Rattle.seek.specs.Asked.{course-at, runs, left, Picks}

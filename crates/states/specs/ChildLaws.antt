@@ -8,7 +8,9 @@ use native.Mathlib.Omega.{arith}
 use lib.ListN.{length, getD, set, length-set}
 use lib.Seq.{getD-set-same, getD-set-other}
 use Rattle.flow.specs.Kinds.{shape}
-use Rattle.flow.specs.Nodes.{Kid, Under, self, up, under-trans, under-le, Tree, not-under}
+use Rattle.flow.specs.Shapes.{Kid}
+use Rattle.flow.specs.Trees.{Under, self, up, Tree}
+use Rattle.flow.specs.Nodes.{under-trans, under-le, not-under}
 use Rattle.states.specs.State.{part, modes, counts}
 use Rattle.states.specs.Stored.{stored}
 use Rattle.states.specs.StateLaws.{part-frame, stored-frame}

@@ -11,7 +11,7 @@ use mathlib.Core.Logic.{_≢_}
 use Rattle.calculus.specs.Term.{Closing}
 use Rattle.calculus.specs.Successors.{comps}
 use Rattle.flow.specs.Kinds.{shape}
-use Rattle.flow.specs.Nodes.{Under, Tree}
+use Rattle.flow.specs.Trees.{Under, Tree}
 use Rattle.tallies.specs.Capped.{cap}
 use Rattle.tallies.specs.Counts.{sum-of, weight}
 use Rattle.tallies.specs.Places.{At}

@@ -8,7 +8,7 @@ use Rattle.flow.specs.declared.Operator.{Operator}
 use Rattle.flow.specs.declared.Operator.the-variants.{Sequence, Choice, Parallel}
 use Rattle.flow.specs.declared.Two.{Two}
 use Rattle.flow.specs.declared.Node.{Node}
-use Rattle.flow.specs.Nodes.{Tree}
+use Rattle.flow.specs.Trees.{Tree}
 use Rattle.flow.specs.Kinds.{node, shape, standard, compensable}
 use Rattle.flow.specs.Draws.{Draws, at-event, at-basic, at-standard, at-handler, at-block, at-pair, at-compensable, at-paired}
 use Rattle.states.specs.declared.Sense.the-variants.{Drawn}

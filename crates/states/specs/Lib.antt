@@ -2,6 +2,7 @@
 pub mod Standings
 pub mod State
 pub mod Stored
+pub mod LiveParts
 pub mod Roles
 pub mod Contracts
 -- Theorems.

@@ -10,7 +10,8 @@ use Rattle.flow.specs.declared.Operator.the-variants.{Sequence, Choice, Paralle
 use Rattle.flow.specs.declared.Two.{Two}
 use Rattle.flow.specs.declared.Node.{Node}
 use Rattle.flow.specs.declared.Node.the-variants.{Event, Basic, Standard, Handler, Block, Pair, Compensable, Paired, Unknown}
-use Rattle.flow.specs.Nodes.{Kid, Under, Tree}
+use Rattle.flow.specs.Shapes.{Kid}
+use Rattle.flow.specs.Trees.{Under, Tree}
 use Rattle.flow.specs.Kinds.{two, node, shape}
 use Rattle.flow.specs.NodeChildren.{Has, two-kids, kids-disjoint, one-kid}
 use Rattle.states.specs.declared.Sense.{Sense}
@@ -19,98 +20,78 @@ use Rattle.states.specs.declared.Standing.{Standing}
 use Rattle.states.specs.declared.Standing.the-variants as standing
 use Rattle.states.specs.declared.Course.{Course}
 use Rattle.states.specs.declared.Course.the-variants as course
+use Rattle.states.specs.LiveParts.{Twins, Rests, CRests, Lower, CLower}
 use Rattle.states.specs.Standings.{as-drawn, first-taken, left-second, left-first, only, drawn-two, stand-drawn, undoing-two, stand-undoing, stand, course-two, course-of}
 
 module _ (ns : List ℕ) (i : ℕ) where
-  -- two children of node i, with nothing under both
-  pub record Twins (t : Two) : Type 0 where
-    pub one : Kid (shape ns) i (t .first)
-    pub other : Kid (shape ns) i (t .second)
-    pub free : (j : ℕ) → Under (shape ns) (t .first) j → Under (shape ns) (t .second) j → ⊥
-
-  abbrev pub Rests : Standing → Type 0
-  Rests (standing.Event e) = Unit {0}
-  Rests (standing.Basic b) = Unit {0}
-  Rests (standing.Both o t) = Twins t
-  Rests (standing.Handler t) = Twins t
-  Rests (standing.Block c) = Kid (shape ns) i c
-  Rests (standing.As x) = Kid (shape ns) i (x .node)
-
-  abbrev pub CRests : Course → Type 0
-  CRests (course.Basic b) = Unit {0}
-  CRests (course.Pair t) = Twins t
-  CRests (course.Both o t) = Twins t
-  CRests (course.Held t) = Twins t
-  CRests (course.As c) = Kid (shape ns) i c
-
-  back : {t : Two} → Twins t → Twins (two (t .second) (t .first))
+  back : {t : Two} → Twins ns i t → Twins ns i (two (t .second) (t .first))
   back w = record { one = w .other; other = w .one; free = λ j u v. w .free j v u }
 
   module _ (tree : Tree (shape ns)) where
-    twins : {n : Node} (e : node ns i ≡ n) (t : Two) → Has n t → Twins t
+    twins : {n : Node} (e : node ns i ≡ n) (t : Two) → Has n t → Twins ns i t
     twins e t h = let k = two-kids ns i e t h in record { one = k .0; other = k .1; free = kids-disjoint ns i e t h tree }
 
-    drawn-rests : (o : Operator) (t : Two) (m : ℕ) → Twins t → Rests (drawn-two o t m)
+    drawn-rests : (o : Operator) (t : Two) (m : ℕ) → Twins ns i t → Rests ns i (drawn-two o t m)
     unfolding drawn-two
     drawn-rests Sequence t m w = by (eqb m as-drawn)
       where
-        by : (b : Bool) → Rests (cond b (standing.Both Sequence t) (only (t .second) Drawn))
+        by : (b : Bool) → Rests ns i (cond b (standing.Both Sequence t) (only (t .second) Drawn))
         by true = w
         by false = w .other
     drawn-rests Choice t m w = by (eqb m as-drawn) (eqb m first-taken)
       where
-        by : (b d : Bool) → Rests (cond b (standing.Both Choice t) (cond d (only (t .first) Drawn) (only (t .second) Drawn)))
+        by : (b d : Bool) → Rests ns i (cond b (standing.Both Choice t) (cond d (only (t .first) Drawn) (only (t .second) Drawn)))
         by true d = w
         by false true = w .one
         by false false = w .other
     drawn-rests Parallel t m w = w
 
-    undoing-rests : (o : Operator) (t : Two) (m : ℕ) → Twins t → Rests (undoing-two o t m)
+    undoing-rests : (o : Operator) (t : Two) (m : ℕ) → Twins ns i t → Rests ns i (undoing-two o t m)
     unfolding undoing-two
     undoing-rests Sequence t m w = by (eqb m left-first)
       where
-        by : (b : Bool) → Rests (cond b (only (t .first) Undoing) (standing.Both Sequence (two (t .second) (t .first))))
+        by : (b : Bool) → Rests ns i (cond b (only (t .first) Undoing) (standing.Both Sequence (two (t .second) (t .first))))
         by true = w .one
         by false = back w
     undoing-rests Choice t m w = by (eqb m first-taken)
       where
-        by : (b : Bool) → Rests (cond b (only (t .first) Undoing) (only (t .second) Undoing))
+        by : (b : Bool) → Rests ns i (cond b (only (t .first) Undoing) (only (t .second) Undoing))
         by true = w .one
         by false = w .other
     undoing-rests Parallel t m w = w
 
-    course-rests-two : (o : Operator) (t : Two) (m : ℕ) → Twins t → CRests (course-two o t m)
+    course-rests-two : (o : Operator) (t : Two) (m : ℕ) → Twins ns i t → CRests ns i (course-two o t m)
     unfolding course-two
     course-rests-two Sequence t m w = by (eqb m as-drawn)
       where
-        by : (b : Bool) → CRests (cond b (course.Both Sequence t) (course.Held t))
+        by : (b : Bool) → CRests ns i (cond b (course.Both Sequence t) (course.Held t))
         by true = w
         by false = w
     course-rests-two Choice t m w = by (eqb m as-drawn) (eqb m first-taken)
       where
-        by : (b d : Bool) → CRests (cond b (course.Both Choice t) (cond d (course.As (t .first)) (course.As (t .second))))
+        by : (b d : Bool) → CRests ns i (cond b (course.Both Choice t) (cond d (course.As (t .first)) (course.As (t .second))))
         by true d = w
         by false true = w .one
         by false false = w .other
     course-rests-two Parallel t m w = w
 
-    stand-drawn-rests : (n : Node) → node ns i ≡ n → (m : ℕ) → Rests (stand-drawn n m)
+    stand-drawn-rests : (n : Node) → node ns i ≡ n → (m : ℕ) → Rests ns i (stand-drawn n m)
     unfolding stand-drawn
     stand-drawn-rests (Event x) e m = by (eqb m as-drawn)
       where
-        by : (b : Bool) → Rests (cond b (standing.Event x) (standing.Basic Skip))
+        by : (b : Bool) → Rests ns i (cond b (standing.Event x) (standing.Basic Skip))
         by true = tt
         by false = tt
     stand-drawn-rests (Basic b) e m = tt
     stand-drawn-rests (Standard o t) e m = drawn-rests o t m (twins e t refl)
     stand-drawn-rests (Handler t) e m = by (eqb m as-drawn) (twins e t refl)
       where
-        by : (b : Bool) → Twins t → Rests (cond b (standing.Handler t) (only (t .second) Drawn))
+        by : (b : Bool) → Twins ns i t → Rests ns i (cond b (standing.Handler t) (only (t .second) Drawn))
         by true w = w
         by false w = w .other
     stand-drawn-rests (Block c) e m = by (eqb m as-drawn) (one-kid ns i e c refl)
       where
-        by : (b : Bool) → Kid (shape ns) i c → Rests (cond b (standing.Block c) (only c Undoing))
+        by : (b : Bool) → Kid (shape ns) i c → Rests ns i (cond b (standing.Block c) (only c Undoing))
         by true k = k
         by false k = k
     stand-drawn-rests (Pair t) e m = tt
@@ -118,7 +99,7 @@ module _ (ns : List ℕ) (i : ℕ) where
     stand-drawn-rests (Paired b) e m = tt
     stand-drawn-rests Unknown e m = tt
 
-    stand-undoing-rests : (n : Node) → node ns i ≡ n → (m : ℕ) → Rests (stand-undoing n m)
+    stand-undoing-rests : (n : Node) → node ns i ≡ n → (m : ℕ) → Rests ns i (stand-undoing n m)
     unfolding stand-undoing
     stand-undoing-rests (Event x) e m = tt
     stand-undoing-rests (Basic b) e m = tt
@@ -127,19 +108,19 @@ module _ (ns : List ℕ) (i : ℕ) where
     stand-undoing-rests (Block c) e m = tt
     stand-undoing-rests (Pair t) e m = by (eqb m left-second) (twins e t refl)
       where
-        by : (b : Bool) → Twins t → Rests (cond b (only (t .second) Drawn) (standing.Basic Skip))
+        by : (b : Bool) → Twins ns i t → Rests ns i (cond b (only (t .second) Drawn) (standing.Basic Skip))
         by true w = w .other
         by false w = tt
     stand-undoing-rests (Compensable o t) e m = undoing-rests o t m (twins e t refl)
     stand-undoing-rests (Paired b) e m = tt
     stand-undoing-rests Unknown e m = tt
 
-    pub stand-rests : (s : Sense) (m : ℕ) → Rests (stand s (node ns i) m)
+    pub stand-rests : (s : Sense) (m : ℕ) → Rests ns i (stand s (node ns i) m)
     unfolding stand
     stand-rests Drawn m = stand-drawn-rests (node ns i) refl m
     stand-rests Undoing m = stand-undoing-rests (node ns i) refl m
 
-    course-rests-at : (n : Node) → node ns i ≡ n → (m : ℕ) → CRests (course-of n m)
+    course-rests-at : (n : Node) → node ns i ≡ n → (m : ℕ) → CRests ns i (course-of n m)
     unfolding course-of
     course-rests-at (Event x) e m = tt
     course-rests-at (Basic b) e m = tt
@@ -151,26 +132,10 @@ module _ (ns : List ℕ) (i : ℕ) where
     course-rests-at (Paired b) e m = tt
     course-rests-at Unknown e m = tt
 
-    pub course-rests : (m : ℕ) → CRests (course-of (node ns i) m)
+    pub course-rests : (m : ℕ) → CRests ns i (course-of (node ns i) m)
     course-rests m = course-rests-at (node ns i) refl m
 
 -- and so they are lower
-module _ (i : ℕ) where
-  abbrev pub Lower : Standing → Type 0
-  Lower (standing.Event e) = Unit {0}
-  Lower (standing.Basic b) = Unit {0}
-  Lower (standing.Both o t) = (t .first < i) × (t .second < i)
-  Lower (standing.Handler t) = (t .first < i) × (t .second < i)
-  Lower (standing.Block c) = c < i
-  Lower (standing.As x) = x .node < i
-
-  abbrev pub CLower : Course → Type 0
-  CLower (course.Basic b) = Unit {0}
-  CLower (course.Pair t) = (t .first < i) × (t .second < i)
-  CLower (course.Both o t) = (t .first < i) × (t .second < i)
-  CLower (course.Held t) = (t .first < i) × (t .second < i)
-  CLower (course.As c) = c < i
-
 module _ (ns : List ℕ) (i : ℕ) (tree : Tree (shape ns)) where
   twins-lower : {t : Two} → Twins ns i t → (t .first < i) × (t .second < i)
   twins-lower {t} w = (tree .lower i (t .first) (w .one), tree .lower i (t .second) (w .other))

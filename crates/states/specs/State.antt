@@ -6,7 +6,7 @@ use mathlib.Core.List.{List}
 use lib.ListN.{getD}
 use Rattle.calculus.specs.Term.{leaf, Std, Cmp, skip, ev, hnd, blk, pair, held, skipp}
 use Rattle.flow.specs.declared.Node.{Node}
-use Rattle.flow.specs.Nodes.{descend}
+use Rattle.flow.specs.Trees.{descend}
 use Rattle.flow.specs.Kinds.{node, basic, paired, standard, compensable}
 use Rattle.states.specs.declared.Sense.{Sense}
 use Rattle.states.specs.declared.Sense.the-variants.{Drawn, Undoing}

@@ -8,7 +8,9 @@ use lib.Dec.{eqb}
 use lib.ListN.{length}
 use Rattle.calculus.specs.Term.{hnd, blk, pair, held}
 use Rattle.calculus.specs.Successors.{steps, csteps}
-use Rattle.flow.specs.Nodes.{Kid, Under, self, up, under-trans, Tree, Local, descend-node, descend-frame}
+use Rattle.flow.specs.Shapes.{Kid}
+use Rattle.flow.specs.Trees.{Under, self, up, Tree, Local}
+use Rattle.flow.specs.Nodes.{under-trans, descend-node, descend-frame}
 use Rattle.flow.specs.Kinds.{node, shape, standard, compensable}
 use Rattle.tallies.specs.Capped.{cap}
 use Rattle.states.specs.declared.Sense.{Sense}
@@ -20,7 +22,8 @@ use Rattle.states.specs.declared.Course.the-variants as course
 use Rattle.states.specs.Standings.{stand, course-of}
 use Rattle.states.specs.State.{Part, nothing, std-of, run-of, build, part}
 use Rattle.states.specs.Stored.{Right, wrong, together, std-right, run-right, right, own, stored, noted}
-use Rattle.states.specs.Rests.{Twins, Rests, CRests, stand-rests, course-rests}
+use Rattle.states.specs.LiveParts.{Twins, Rests, CRests}
+use Rattle.states.specs.Rests.{stand-rests, course-rests}
 
 -- A node looks at its children only -----------------------------------------------------------------------------------------
 

@@ -7,7 +7,7 @@ use lib.Dec.{eqb}
 use lib.ListN.{length}
 use Rattle.calculus.specs.Successors.{steps, csteps}
 use Rattle.flow.specs.declared.Node.{Node}
-use Rattle.flow.specs.Nodes.{descend}
+use Rattle.flow.specs.Trees.{descend}
 use Rattle.flow.specs.Kinds.{node}
 use Rattle.tallies.specs.Capped.{cap}
 use Rattle.states.specs.declared.Sense.{Sense}

@@ -7,7 +7,8 @@ use native.Mathlib.Omega.{arith}
 use lib.Dec.{T}
 use lib.ListN.{length}
 use Rattle.flow.specs.Kinds.{node, shape}
-use Rattle.flow.specs.Nodes.{Kid, Under, Tree}
+use Rattle.flow.specs.Shapes.{Kid}
+use Rattle.flow.specs.Trees.{Under, Tree}
 use Rattle.tallies.specs.Capped.{cap}
 use Rattle.tallies.specs.Places.{At}
 use Rattle.states.specs.declared.Role.{Role}

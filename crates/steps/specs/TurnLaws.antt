@@ -17,7 +17,7 @@ use Rattle.flow.specs.declared.Operator.the-variants.{Sequence, Choice, Paralle
 use Rattle.flow.specs.declared.Two.{Two}
 use Rattle.flow.specs.declared.Node.{Node}
 use Rattle.flow.specs.Kinds.{node, shape, basic, paired, standard, compensable}
-use Rattle.flow.specs.Nodes.{Kid}
+use Rattle.flow.specs.Shapes.{Kid}
 use Rattle.tallies.specs.Capped.{cap}
 use Rattle.tallies.specs.Formulas.{movesG, holdG}
 use Rattle.tallies.specs.Counts.{sum-of, moves, weight}
@@ -39,7 +39,8 @@ use Rattle.states.specs.Standings.{event-taken, moved-on, compensating, holding
 use Rattle.states.specs.State.{Part, std-of, run-of, part, modes, counts}
 use Rattle.states.specs.Stored.{std-right, run-right}
 use Rattle.states.specs.NotedLaws.{own-count, noted-stored, counted-right}
-use Rattle.states.specs.Rests.{Twins, Rests, CRests, stand-rests, course-rests}
+use Rattle.states.specs.LiveParts.{Twins, Rests, CRests}
+use Rattle.states.specs.Rests.{stand-rests, course-rests}
 use Rattle.states.specs.Roles.{get, nexts, many, ok}
 use Rattle.states.specs.Contracts.{Spot, Sets, Scene, scene, part-at, stored-at, noted-at, weight-of, ask, Chosen, Counted, Ready, Stepped}
 use Rattle.states.specs.ChildLaws.{set-sets, sets-none, same-room, kept-set, kid-lower, same-part, spot-down, mode-after, kept-up, beside-part, beside-stored}
