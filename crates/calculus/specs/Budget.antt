@@ -10,7 +10,7 @@ use lib.ListN.{length}
 use borrow.Author.Tests.{le-leb, lt-leb}
 use Rattle.calculus.specs.Records.{Record, State}
 use Rattle.calculus.specs.Spending.{Out, spent, back, bump, chain, triesB, visitB}
-use Rattle.calculus.specs.Search.{next, Seen, is-over, or-else, tries, visit, Verdict, accepted, rejected, undecided, settle, judge}
+use Rattle.calculus.specs.Search.{next, Seen, or-else, tries, visit, Verdict, accepted, rejected, undecided, settle, judge}
 
 -- what came back is what is seen, if the allowance n is enough
 data Fits (x : Seen) (n : ℕ) : Out → Type 0 where

@@ -11,9 +11,9 @@ use native.Mathlib.Omega.{arith}
 use lib.Dec.{T, leb}
 use lib.ListN.{length}
 use Rattle.calculus.specs.Term.{Closing, done, withdrawn, failed, Std, Cmp}
-use Rattle.calculus.specs.Records.{Record, close, State, over, std, cmp, standard, compensable, Complete, InTraces, Follows, stays, ClosesFirm, by-done, by-failed, later}
+use Rattle.calculus.specs.Records.{Record, State, over, std, cmp, standard, compensable, Complete, InTraces, Follows, stays, ClosesFirm, by-done, by-failed, later}
 use Rattle.calculus.specs.Records
-use Rattle.calculus.specs.Search.{visit, Verdict, accepted, rejected, undecided, settle, judge}
+use Rattle.calculus.specs.Search.{visit, settle, judge}
 use Rattle.calculus.specs.Found.{Ends, at-end, ends-complete, complete-ends, found-complete, place-follows, place-longest}
 use Rattle.calculus.specs.Found
 use Rattle.calculus.specs.Traces.{Trace, tr, CTrace, ct, Tr, CTr}

@@ -12,7 +12,7 @@ use lib.ListN.{length, getD, set, drop, replicate, length-append, length-replica
 use lib.Seq.{drop-drop, drop-at}
 use borrow.Author.Tests.{ltb-false, lt-ltb, le-ltb}
 use borrow.Author.Fill.{fill-more}
-use Rattle.calculus.specs.Records.{Record, State, over, std, cmp, Fits}
+use Rattle.calculus.specs.Records.{Record, State, std, cmp, Fits}
 use Rattle.calculus.specs.Search.{next}
 use Rattle.calculus.specs.Search as search
 use Rattle.calculus.specs.Spending.{Out as Found, spent, back, bump, chain, triesB, visitB}

@@ -8,7 +8,7 @@ use mathlib.Core.List.{List}
 use mathlib.Core.Logic.{_↔_, Iff·symm, Iff·trans}
 use native.Mathlib.Omega.{arith}
 use lib.ListN.{length, length-map}
-use Rattle.calculus.specs.Records.{Record, State, Complete, InTraces, Follows}
+use Rattle.calculus.specs.Records.{Record, State, Complete, InTraces}
 use Rattle.calculus.specs.Search.{visit, Verdict}
 use Rattle.calculus.specs.Laws.{Redrawn}
 use Rattle.calculus.specs.Found.{found-complete, place-follows, place-longest}

@@ -12,7 +12,7 @@ use mathlib.Core.Path.{_≡_, refl, sym, ap, _∙_, subst}
 use borrow.Author.Tests.{eq-eqb, ne-eqb, le-ltb}
 use lib.Dec.{T}
 use lib.ListN.{length}
-use Rattle.calculus.specs.Records.{Record, State, Complete, InTraces, Follows}
+use Rattle.calculus.specs.Records.{Record, State, Complete, InTraces}
 use Rattle.calculus.specs.Search.{visit}
 use Rattle.flow.specs.declared.Refusal.{Refusal}
 use Rattle.flow.specs.declared.Check.the-variants.{Fine}

@@ -1,7 +1,6 @@
 -- What `stand` and `course-of` are on each arm of the code that decodes a node and its mode. Assumes nothing.
 use Prim.Native.Nat.{ℕ}
-use mathlib.Core.Path.{_≡_, refl, _∙_, ap, sym}
-use mathlib.Core.Bool.{cond}
+use mathlib.Core.Path.{_≡_, refl}
 use mathlib.Core.Logic.{_≢_}
 use mathlib.Core.List.{[], _∷_}
 use types.Run.{OneOf, miss}
@@ -14,13 +13,9 @@ use Rattle.flow.specs.declared.Operator.the-variants.{Sequence, Choice, Paralle
 use Rattle.flow.specs.declared.Two.{Two}
 use Rattle.flow.specs.declared.Node.{Node}
 use Rattle.flow.specs.declared.Node.the-variants.{Event, Basic, Standard, Handler, Block, Pair, Compensable, Paired, Unknown}
-use Rattle.flow.specs.Kinds.{two}
-use Rattle.states.specs.declared.Sense.the-variants.{Drawn, Undoing}
-use Rattle.states.specs.declared.Standing.{Standing}
 use Rattle.states.specs.declared.Standing.the-variants as standing
-use Rattle.states.specs.declared.Course.{Course}
 use Rattle.states.specs.declared.Course.the-variants as course
-use Rattle.states.specs.Standings.{as-drawn, only, drawn-two, stand-drawn, undoing-two, stand-undoing, course-two, course-of}
+use Rattle.states.specs.Standings.{as-drawn, drawn-two, stand-drawn, stand-undoing, course-two, course-of}
 
 -- a node that is none of those with an arm of its own
 pub other-drawn : (n : Node) → OneOf (5 ∷ 6 ∷ 7 ∷ 8 ∷ []) (tagOf the-type n) → standing.Basic Skip ≡ stand-drawn n as-drawn

@@ -1,6 +1,6 @@
 -- What holds at a node and a child of it, whatever the kinds: the child's part and counts are those from before a number of the node
 -- was set, what is under the other child stays, and only what is under the node changes. Assumes nothing.
-use Prim.Native.Nat.{ℕ, _*_, _<_, _≤_}
+use Prim.Native.Nat.{ℕ, _<_}
 use mathlib.Core.Path.{_≡_, refl, sym, _∙_, subst}
 use mathlib.Core.List.{List}
 use mathlib.Core.Logic.{_≢_}

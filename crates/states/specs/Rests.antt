@@ -11,7 +11,7 @@ use Rattle.flow.specs.declared.Two.{Two}
 use Rattle.flow.specs.declared.Node.{Node}
 use Rattle.flow.specs.declared.Node.the-variants.{Event, Basic, Standard, Handler, Block, Pair, Compensable, Paired, Unknown}
 use Rattle.flow.specs.Shapes.{Kid}
-use Rattle.flow.specs.Trees.{Under, Tree}
+use Rattle.flow.specs.Trees.{Tree}
 use Rattle.flow.specs.Kinds.{two, node, shape}
 use Rattle.flow.specs.NodeChildren.{Has, two-kids, kids-disjoint, one-kid}
 use Rattle.states.specs.declared.Sense.{Sense}

@@ -1,8 +1,8 @@
 -- Laws of states and of stored counts: what a node's part and its counts are from those of its live parts (`std-part`, `run-part`,
 -- `std-stored`, `run-stored`), and that both depend only on what is under the node (`part-frame`, `stored-frame`). Assumes nothing.
 use Prim.Native.Nat.{ℕ}
-use mathlib.Core.Path.{_≡_, refl, sym, _∙_, ap, subst}
-use mathlib.Core.Bool.{Bool, _&&_}
+use mathlib.Core.Path.{_≡_, refl, _∙_, ap}
+use mathlib.Core.Bool.{_&&_}
 use mathlib.Core.List.{List}
 use lib.Dec.{eqb}
 use lib.ListN.{length}
@@ -22,7 +22,7 @@ use Rattle.states.specs.declared.Course.the-variants as course
 use Rattle.states.specs.Standings.{stand, course-of}
 use Rattle.states.specs.State.{Part, nothing, std-of, run-of, build, part}
 use Rattle.states.specs.Stored.{Right, wrong, together, std-right, run-right, right, own, stored, noted}
-use Rattle.states.specs.LiveParts.{Twins, Rests, CRests}
+use Rattle.states.specs.LiveParts.{Rests, CRests}
 use Rattle.states.specs.Rests.{stand-rests, course-rests}
 
 -- A node looks at its children only -----------------------------------------------------------------------------------------

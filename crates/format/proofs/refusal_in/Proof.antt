@@ -1,7 +1,7 @@
 -- `format::refusal_in` meets its contract, by the two cases of an item.
 -- Assumes nothing.
 use borrow.Author.Needs.{needs}
-use mathlib.Core.Path.{ap, sym, _∙_}
+use mathlib.Core.Path.{ap, sym}
 use Rattle.format.specs.Items.{item-told, refusal-in}
 use Rattle.format.proofs.refusal_in.Statement.{statement}
 use Rattle.format.proofs.refusal_in.Tie as tie

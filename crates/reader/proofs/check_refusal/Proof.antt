@@ -1,6 +1,6 @@
 -- `reader::check_refusal` meets its contract, by the two cases of a check.
 -- Assumes nothing.
-use mathlib.Core.Path.{ap, sym, _∙_}
+use mathlib.Core.Path.{ap, sym}
 use borrow.Author.Needs.{needs}
 use Rattle.reader.specs.Laying.{check-refusal}
 use Rattle.reader.proofs.check_refusal.Statement.{statement}

@@ -1,6 +1,6 @@
 -- `reader::layout_refusal` meets its contract, by the two cases of a layout.
 -- Assumes nothing.
-use mathlib.Core.Path.{ap, sym, _∙_}
+use mathlib.Core.Path.{ap, sym}
 use borrow.Author.Needs.{needs}
 use Rattle.reader.specs.Laying.{layout-refusal}
 use Rattle.reader.proofs.layout_refusal.Statement.{statement}

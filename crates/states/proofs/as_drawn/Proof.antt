@@ -1,6 +1,6 @@
 -- `states::as_drawn` meets its contract: each arm by the node. Assumes nothing.
-use mathlib.Core.Path.{_∙_, ap, sym, refl}
-use Rattle.states.specs.Standings.{as-drawn, stand-drawn}
+use mathlib.Core.Path.{refl}
+use Rattle.states.specs.Standings.{stand-drawn}
 use Rattle.states.proofs.Arms.{other-drawn, both-drawn}
 use borrow.Author.Needs.{needs}
 use Rattle.states.proofs.as_drawn.Statement.{statement}

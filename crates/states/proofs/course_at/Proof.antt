@@ -1,5 +1,5 @@
 -- `states::course_at` meets its contract: by the node and the mode. Assumes nothing.
-use mathlib.Core.Path.{_∙_, ap, sym}
+use mathlib.Core.Path.{_∙_, sym}
 use Rattle.states.specs.Standings.{course-two, course-of}
 use denote.Ref.{now}
 use Rattle.states.specs.State.{modes}
