@@ -47,14 +47,14 @@ enum Out {
     Back(Trip),
 }
 
-// A closing as a small number.
-fn small(number: u16) -> u8
+// A closing's rank.
+fn rank_of(number: u16) -> u8
     ensures { λ r. ⌜ (r < 3) × (closing r ≡ closing-of number) ⌝ }
 {
     match number {
-        flow::DONE => 0,
-        flow::WITHDRAWN => 1,
-        _ => 2,
+        flow::DONE => tallies::RANK_DONE,
+        flow::WITHDRAWN => tallies::RANK_WITHDRAWN,
+        _ => tallies::RANK_FAILED,
     }
 }
 
@@ -94,7 +94,7 @@ fn successors(ns: &[u16], t: &[u8], number: u16, c: &mut [u32; 64], role: Role) 
             if number < flow::DONE {
                 w.moves
             } else {
-                let y = tallies::tally_by(w, small(number));
+                let y = tallies::tally_by(w, rank_of(number));
                 y.many
             }
         }
@@ -121,7 +121,7 @@ fn apply(ns: &[u16], t: &mut [u8], number: u16, c: &[u32; 64], role: Role, k: u3
                     t,
                     number,
                     i,
-                    small(number),
+                    rank_of(number),
                     Weight {
                         own: 1,
                         moves: 0,

@@ -37,14 +37,20 @@ fn ending_at(x: u32, y: u32, j: u32) -> Fall
     ensures { λ r. ⌜ Fallen x y j (r .ending) (r .rest) ⌝ }
 {
     if j < x {
-        return Fall { ending: 0, rest: j };
+        return Fall {
+            ending: tallies::RANK_DONE,
+            rest: j,
+        };
     }
     let k = j - x;
     if k < y {
-        Fall { ending: 1, rest: k }
+        Fall {
+            ending: tallies::RANK_WITHDRAWN,
+            rest: k,
+        }
     } else {
         Fall {
-            ending: 2,
+            ending: tallies::RANK_FAILED,
             rest: k - y,
         }
     }

@@ -30,8 +30,8 @@ step-run-requires c κs =
     let i = c .before .before .before .before .root-of in
     step-asked (a .ns .now) (a .t .now) (a .number) (i .result) (i .ensures) (c .before .before .enum-told .given .1) (c .before .if1 .taken) (p .0) (p .1 .1 .0) (p .1 .1 .1)
 
-small-requires : tie.Need-small-requires
-small-requires c κs = search needs
+rank-of-requires : tie.Need-rank-of-requires
+rank-of-requires c κs = search needs
 
 seek-requires : tie.Need-seek-requires
 seek-requires c κs =
@@ -39,7 +39,7 @@ seek-requires c κs =
     let a = s .args in
     let p = s .pre in
     let i = c .before .before .before .before .before .root-of in
-    closing-asked (a .ns .now) (a .t .now) (a .number) (i .result) (i .ensures) (c .before .before .before .enum-told .given .1) (c .before .before .if1 .left) (p .1 .0 .1) (c .small .result) (c .small .ensures .1) (c .small .ensures .0) (p .0) (p .1 .1 .1)
+    closing-asked (a .ns .now) (a .t .now) (a .number) (i .result) (i .ensures) (c .before .before .before .enum-told .given .1) (c .before .before .if1 .left) (p .1 .0 .1) (c .rank-of .result) (c .rank-of .ensures .1) (c .rank-of .ensures .0) (p .0) (p .1 .1 .1)
 
 same-length : tie.Need-same-length
 same-length c = search needs
@@ -70,7 +70,7 @@ returns-3 c =
     let s = c .before .before .before .before .before .before .before .before .before .before .before in
     let a = s .args in
     let i = c .before .before .before .before .before .before .before .before .root-of in
-    let w = c .before .before .before .small in
+    let w = c .before .before .before .rank-of in
     closing-applied (a .ns .now) (a .t .now) (a .number) (i .result) (i .ensures) (c .before .before .before .before .before .before .enum-told .given .1) (c .before .before .before .before .before .if1 .left) (s .pre .1 .0 .1) (w .result) (w .ensures .1) (c .before .before .seek .ensures)
 
 pub apply-spec : {M : Type 1} → statement M
@@ -82,7 +82,7 @@ apply-spec =
     step-std-requires
     enum-told
     step-run-requires
-    small-requires
+    rank-of-requires
     seek-requires
     same-length
     returns

@@ -19,8 +19,8 @@ enum-told c = search needs
 count-run-requires : tie.Need-count-run-requires
 count-run-requires c κs = rw (c .before .before .before .root-of .ensures) (c .before .before .before .before .before .before .pre .0)
 
-small-requires : tie.Need-small-requires
-small-requires c κs = search needs
+rank-of-requires : tie.Need-rank-of-requires
+rank-of-requires c κs = search needs
 
 tally-by-requires : tie.Need-tally-by-requires
 tally-by-requires c κs = search needs
@@ -45,7 +45,7 @@ returns-3 c =
     let s = c .before .before .before .before .before .before .before .before .before .before in
     let a = s .args in
     let i = c .before .before .before .before .before .before .before .root-of in
-    let w = c .before .small in
+    let w = c .before .rank-of in
     counted-closing (a .ns .now) (a .t .now) (a .number) (i .result) (i .ensures) (c .before .before .before .before .before .enum-told .given .1) (c .before .before .if1 .left) (s .pre .1 .1) (w .result) (w .ensures .1) (c .before .before .before .count-run .ensures) (c .tally-by .ensures)
 
 pub successors-spec : {M : Type 1} → statement M
@@ -57,7 +57,7 @@ successors-spec =
     count-std-requires
     enum-told
     count-run-requires
-    small-requires
+    rank-of-requires
     tally-by-requires
     returns
     returns-2
