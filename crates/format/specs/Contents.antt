@@ -6,6 +6,7 @@ use mathlib.Core.List.{List, [], _∷_, _++_}
 use lib.Dec.{ltb, leb}
 use lib.ListN.{length, getD}
 use Rattle.flow.specs.Kinds.{form, node, one-of}
+use Rattle.flow.specs.Records.{most-events}
 use Rattle.flow.specs.Refusals.{Ground, ground, Round, sweep, count, nodes-order, values-order, closing-order}
 use Rattle.format.specs.Format.{File}
 
@@ -18,7 +19,7 @@ leaf-grounds names ns i = ground 19 i (unnamed-leaf names ns i) ∷ []
 
 -- "and 20, a record's (lowest record)"
 unfoldable pub unnamed-event : ℕ → ℕ → Bool
-unnamed-event names r = leb r 256 && ltb names r
+unnamed-event names r = leb r most-events && ltb names r
 
 abbrev pub event-grounds : ℕ → List ℕ → ℕ → List Ground
 event-grounds names rs i = ground 20 i (unnamed-event names (getD rs i 0)) ∷ []

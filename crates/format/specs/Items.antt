@@ -16,9 +16,13 @@ use Rattle.format.specs.Plan.{Ran, got, bad}
 
 ---- Answers ----
 
+-- a value, and the offset behind it
+abbrev pub has : ℕ → ℕ → Item
+has value next = Has (record { value = value; next = record { at = next } })
+
 -- a number for what was found, and the cursor behind it; or the refusal
 unfoldable pub as-item : {A : Type 0} → (A → ℕ) → Ran A → Item
-as-item f (got a next) = Has (record { value = f a; next = record { at = next } })
+as-item f (got a next) = has (f a) next
 as-item f (bad n p) = Bad (refusal-of n p)
 
 abbrev pub refusal-in : Item → Refusal

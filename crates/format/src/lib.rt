@@ -11,7 +11,7 @@ ghost use Rattle.format.specs.Plan.{run};
 ghost use Rattle.format.specs.Sections.{byte, number, name, entry, new-entry, names, numbers, section, same-bytes, same-entry, met};
 ghost use Rattle.format.specs.Contents.{unnamed-leaf, unnamed-event};
 ghost use Rattle.format.specs.ContentChecks.{leaves-grounds, events-grounds, grounds-of};
-ghost use Rattle.format.specs.Items.{refusal-of, refusal-in, as-item, item-in-range, numbers-at, at-front, name-at, name-end, entry-at, entry-end, entries-at, entries-end, Behind};
+ghost use Rattle.format.specs.Items.{refusal-of, refusal-in, has, as-item, item-in-range, numbers-at, at-front, name-at, name-end, entry-at, entry-end, entries-at, entries-end, Behind};
 
 // The refusals of the items, names and numbers, by document 01's numbers.
 const CUT: u16 = 15;
@@ -117,6 +117,16 @@ pub fn refusal_in(item: Item) -> Refusal
     }
 }
 
+// A value, and the offset behind it.
+fn found(value: u16, next: usize) -> Item
+    ensures { λ r. ⌜ r ≡ has value next ⌝ }
+{
+    Item::Has(Got {
+        value,
+        next: Cursor { at: next },
+    })
+}
+
 // A byte, as a number.
 fn byte_at(file: &[u8], c: Cursor) -> Item
     requires { ⌜ c .at < 65536 ⌝ }
@@ -126,10 +136,7 @@ fn byte_at(file: &[u8], c: Cursor) -> Item
     if file.len() < at + 1 {
         return Item::Bad(refusal(CUT, at));
     }
-    Item::Has(Got {
-        value: wide(file[at]),
-        next: Cursor { at: at + 1 },
-    })
+    found(wide(file[at]), at + 1)
 }
 
 // A number of 16 bits, the low byte first.
@@ -141,10 +148,7 @@ fn number_at(file: &[u8], c: Cursor) -> Item
     if file.len() < at + 2 {
         return Item::Bad(refusal(CUT, at));
     }
-    Item::Has(Got {
-        value: number_from(file[at], file[at + 1]),
-        next: Cursor { at: at + 2 },
-    })
+    found(number_from(file[at], file[at + 1]), at + 2)
 }
 
 // The item at an offset, refused there if its value is out of its range.
@@ -179,10 +183,7 @@ fn name_at(file: &[u8], c: Cursor, range: Range) -> Item
     if file.len() < end {
         return Item::Bad(refusal(CUT, from));
     }
-    Item::Has(Got {
-        value: got.value,
-        next: Cursor { at: end },
-    })
+    found(got.value, end)
 }
 
 // An entry: a step name and a machine name. The value is the step name's length.

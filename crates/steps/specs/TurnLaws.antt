@@ -199,6 +199,24 @@ first-runs n m Sequence e = e
 first-runs n m Choice e = subst (CAfter n) e (course-after n m) .0
 first-runs n m Parallel e = e
 
+-- and after one of the second; of PP;QQ a compensation of PP's is held
+abbrev second-course : Operator → Two → Course
+second-course Sequence p = course.Held p
+second-course Choice p = course.As (p .second)
+second-course Parallel p = course.Both Parallel p
+
+second-runs : (n : Node) (m : ℕ) {p : Two} (o : Operator) → course-of n m ≡ course.Both o p → course-of n (second-mode o holding m) ≡ second-course o p
+unfolding second-mode
+second-runs n m Sequence e = subst (CAfter n) e (course-after n m)
+second-runs n m Choice e = subst (CAfter n) e (course-after n m) .1
+second-runs n m Parallel e = e
+
+-- nothing is held for the second part
+abbrev pub Apart : Operator → Type 0
+Apart Sequence = ⊥
+Apart Choice = Unit {0}
+Apart Parallel = Unit {0}
+
 module _ (a : ℕ) (p : Two) (b at : ℕ → Part) (k : ℕ) where
   abbrev run-one : Cmp
   run-one = b (p .first) .run
@@ -211,6 +229,19 @@ module _ (a : ℕ) (p : Two) (b at : ℕ → Part) (k : ℕ) where
   run-first Sequence e u = subst (λ z. At (csteps (cseq run-one run-other) a) k (cseq (at (p .first) .run) (z .run))) (sym e) (at-cseq-first a run-one run-other u)
   run-first Choice e u = at-calt-first a run-one run-other u
   run-first Parallel e u = subst (λ z. At (csteps (cpar run-one run-other) a) k (cpar (at (p .first) .run) (z .run))) (sym e) (at-cpar-first a run-one run-other u)
+
+  module _ {n : ℕ} (d : n ≡ cap (length (csteps run-one a))) (g : n ≤ k) where
+    run-room : (o : Operator) → Apart o → k < cap (length (csteps (compensable o run-one run-other) a)) → k - n < cap (length (csteps run-other a))
+    run-room Sequence z h = absurd z
+    run-room Choice z h = calt-room a run-one run-other d h g
+    run-room Parallel z h = cpar-room a run-one run-other d h g
+
+    run-second : (o : Operator) → Apart o → k < cap (length (csteps (compensable o run-one run-other) a)) → at (p .first) ≡ b (p .first)
+        → At (csteps run-other a) (k - n) (at (p .second) .run) → At (csteps (compensable o run-one run-other) a) k (run-of (second-course o p) at)
+    unfolding run-of
+    run-second Sequence z h e u = absurd z
+    run-second Choice z h e u = at-calt-second a run-one run-other d h g u
+    run-second Parallel z h e u = subst (λ y. At (csteps (cpar run-one run-other) a) k (cpar (y .run) (at (p .second) .run))) (sym e) (at-cpar-second a run-one run-other d h g u)
 
 module _ {s : Scene} {c : List ℕ} {i k : ℕ} (h : Ready s Running c i k) {p : Two} where
   module _ {o : Operator} (e : course-in s i ≡ course.Both o p) where
@@ -230,26 +261,14 @@ module _ {s : Scene} {c : List ℕ} {i k : ℕ} (h : Ready s Running c i k) {p :
   into-first {o = o} e (in-first l w) b = to-first h e (run-twins e) (both-right e) w (first-runs (node (s .ns) i) (modes (s .t) i) o e) l (λ at d u. run-first (s .a) p (part-at s) at k o d u)
   into-first e (in-second g w) b = absurd (true≢false b)
 
-  pub choice-turned : {t′ : List ℕ} {y : Turn} → course-in s i ≡ course.Both Choice p → Forked c (s .t) k (halves i Choice p holding) t′ y
+  pub apart-turned : {t′ : List ℕ} {y : Turn} {o : Operator} → Apart o → course-in s i ≡ course.Both o p → Forked c (s .t) k (halves i o p holding) t′ y
       → Turned s c (move Running i k) t′ (move Running (y .node) (y .at))
-  unfolding run-of second-mode
-  choice-turned e (in-first l w) = into-first e (in-first l w) refl
-  choice-turned e (in-second g w) =
+  unfolding run-of
+  apart-turned z e (in-first l w) = into-first e (in-first l w) refl
+  apart-turned {o = o} z e (in-second g w) =
       let n = first-count h e (run-twins e) (both-right e) in
-      to-second h e (run-twins e) (both-right e) w (subst (CAfter (node (s .ns) i)) e (course-after (node (s .ns) i) (modes (s .t) i)) .1)
-      (calt-room (s .a) (part-at s (p .first) .run) (part-at s (p .second) .run) n (step-room h e) g)
-      (λ at d u. at-calt-second (s .a) (part-at s (p .first) .run) (part-at s (p .second) .run) n (step-room h e) g u)
-
-  pub parallel-turned : {t′ : List ℕ} {y : Turn} → course-in s i ≡ course.Both Parallel p → Forked c (s .t) k (halves i Parallel p holding) t′ y
-      → Turned s c (move Running i k) t′ (move Running (y .node) (y .at))
-  unfolding run-of second-mode
-  parallel-turned e (in-first l w) = into-first e (in-first l w) refl
-  parallel-turned e (in-second g w) =
-      let n = first-count h e (run-twins e) (both-right e) in
-      to-second h e (run-twins e) (both-right e) w e
-      (cpar-room (s .a) (part-at s (p .first) .run) (part-at s (p .second) .run) n (step-room h e) g)
-      (λ at d u. subst (λ z. At (csteps (cpar (part-at s (p .first) .run) (part-at s (p .second) .run)) (s .a)) k (cpar (z .run) (at (p .second) .run))) (sym d)
-      (at-cpar-second (s .a) (part-at s (p .first) .run) (part-at s (p .second) .run) n (step-room h e) g u))
+      to-second h e (run-twins e) (both-right e) w (second-runs (node (s .ns) i) (modes (s .t) i) o e) (run-room (s .a) p (part-at s) (part-at s) k n g o z (step-room h e))
+      (λ at d u. run-second (s .a) p (part-at s) at k n g o z (step-room h e) d u)
 
   -- PP;QQ goes on: one of PP's compensations is held, and QQ makes a step
   module _ (e : course-in s i ≡ course.Both Sequence p) (g : counts c (p .first) ≤ k) {t₁ : List ℕ} (w : Sets (s .t) i holding t₁) where

@@ -1,6 +1,6 @@
 -- `format::byte_at` meets its contract: a byte that stands in the file, or 15.
 -- Assumes nothing.
-use mathlib.Core.Path.{refl}
+use mathlib.Core.Path.{refl, _∙_}
 use native.Mathlib.Omega.{arith}
 use borrow.Author.Needs.{needs}
 use Rattle.format.specs.ItemLaws.{item-got, item-bad, byte-cut, byte-got}
@@ -23,12 +23,15 @@ shared-slice-read-wide c = search needs
 wide-requires : tie.Need-wide-requires
 wide-requires c κs = search needs
 
-add-t4 : tie.Need-add-t4
-add-t4 c = search needs
+add-found : tie.Need-add-found
+add-found c = search needs
+
+found-requires : tie.Need-found-requires
+found-requires c κs = search needs
 
 returns-2 : tie.Need-returns-2
 unfolding as-item
-returns-2 c = item-got _ _ (c .wide .ensures) refl (byte-got _ _ (omega arith))
+returns-2 c = c .found .ensures ∙ item-got _ _ (c .before .wide .ensures) refl (byte-got _ _ (omega arith))
 
 pub byte-at-spec : {M : Type 1} → statement M
 byte-at-spec =
@@ -39,5 +42,6 @@ byte-at-spec =
     returns
     shared-slice-read-wide
     wide-requires
-    add-t4
+    add-found
+    found-requires
     returns-2)

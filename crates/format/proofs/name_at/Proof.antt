@@ -41,10 +41,13 @@ returns-2 c =
     let t = length-there _ _ _ e in
     item-bad _ _ (c .refusal .ensures ∙ ap (refusal-of 15) (sym (t .ends))) (name-cut _ _ _ e (omega (arith, t .ends)))
 
+found-requires : tie.Need-found-requires
+found-requires c κs = search needs
+
 returns-3 : tie.Need-returns-3
 returns-3 c =
-    let e = has-number _ (sym (c .before .before .before .before .before .in-range .ensures ∙ item-ranged _ _ _ _ (c .before .before .before .before .before .before .byte-at .ensures)) ∙ c .before .before .before .head .given .1) in
-    name-item _ _ _ e (omega arith)
+    let e = has-number _ (sym (c .before .before .before .before .before .before .in-range .ensures ∙ item-ranged _ _ _ _ (c .before .before .before .before .before .before .before .byte-at .ensures)) ∙ c .before .before .before .before .head .given .1) in
+    c .found .ensures ∙ name-item _ _ _ e (omega arith)
 
 pub name-at-spec : {M : Type 1} → statement M
 name-at-spec =
@@ -60,4 +63,5 @@ name-at-spec =
     add-end
     refusal-requires
     returns-2
+    found-requires
     returns-3)

@@ -1,6 +1,6 @@
 -- `format::number_at` meets its contract: two bytes that stand in the file, or 15.
 -- Assumes nothing.
-use mathlib.Core.Path.{refl}
+use mathlib.Core.Path.{refl, _∙_}
 use native.Mathlib.Omega.{arith}
 use borrow.Author.Needs.{needs}
 use Rattle.format.specs.ItemLaws.{item-got, item-bad, number-cut, number-got}
@@ -29,12 +29,15 @@ shared-slice-read-number-from-2 c = search needs
 number-from-requires : tie.Need-number-from-requires
 number-from-requires c κs = search needs
 
-add-t5 : tie.Need-add-t5
-add-t5 c = search needs
+add-found : tie.Need-add-found
+add-found c = search needs
+
+found-requires : tie.Need-found-requires
+found-requires c κs = search needs
 
 returns-2 : tie.Need-returns-2
 unfolding as-item
-returns-2 c = item-got _ _ (c .number-from .ensures) refl (number-got _ _ (omega arith))
+returns-2 c = c .found .ensures ∙ item-got _ _ (c .before .number-from .ensures) refl (number-got _ _ (omega arith))
 
 pub number-at-spec : {M : Type 1} → statement M
 number-at-spec =
@@ -47,5 +50,6 @@ number-at-spec =
     add-number-from
     shared-slice-read-number-from-2
     number-from-requires
-    add-t5
+    add-found
+    found-requires
     returns-2)

@@ -1,5 +1,5 @@
 -- `steps::turn_run` meets its contract: each operator by its law; where PP;QQ goes on, one of PP's compensations is held. Assumes nothing.
-use Rattle.steps.specs.TurnLaws.{run-small, into-first, choice-turned, parallel-turned, held-spot, held-number, sequence-turned}
+use Rattle.steps.specs.TurnLaws.{run-small, into-first, apart-turned, held-spot, held-number, sequence-turned}
 use borrow.Author.Needs.{needs}
 use Rattle.steps.proofs.turn_run.Statement.{statement}
 use Rattle.steps.proofs.turn_run.Tie as tie
@@ -35,13 +35,13 @@ same-length-3 : tie.Need-same-length-3
 same-length-3 c = search needs
 
 returns-3 : tie.Need-returns-3
-returns-3 c = let s = c .before .before .before .before .before .before .before .before in let d = c .enum-told2 .given .1 in let e = rw d at (s .pre .1) in let f = rw d at (c .before .before .before .before .turn-two .ensures) in choice-turned (s .pre .0) e f
+returns-3 c = let s = c .before .before .before .before .before .before .before .before in let d = c .enum-told2 .given .1 in let e = rw d at (s .pre .1) in let f = rw d at (c .before .before .before .before .turn-two .ensures) in apart-turned (s .pre .0) tt e f
 
 same-length-4 : tie.Need-same-length-4
 same-length-4 c = search needs
 
 returns-4 : tie.Need-returns-4
-returns-4 c = let s = c .before .before .before .before .before .before .before .before in let d = c .enum-told3 .given .1 in let e = rw d at (s .pre .1) in let f = rw d at (c .before .before .before .before .turn-two .ensures) in parallel-turned (s .pre .0) e f
+returns-4 c = let s = c .before .before .before .before .before .before .before .before in let d = c .enum-told3 .given .1 in let e = rw d at (s .pre .1) in let f = rw d at (c .before .before .before .before .turn-two .ensures) in apart-turned (s .pre .0) tt e f
 
 pub turn-run-spec : {M : Type 1} → statement M
 turn-run-spec =
