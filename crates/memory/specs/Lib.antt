@@ -1,0 +1,4 @@
+-- Definitions.
+pub mod Memory
+-- Laws.
+pub mod MemoryLaws
