@@ -20,8 +20,11 @@ use Rattle.memory.specs.Memory.{slots, spread, weight, most-weight, mixe
 
 -- The choice of a slot ----------------------------------------------------------------------------------------------------
 
-pub product-small : {a b x y : ℕ} → a ≤ x → b ≤ y → a * b ≤ x * y
-product-small h k = mul-le-mul h k
+pub square-small : (x : ℕ) → x < 65536 → x * x < 4294967296
+square-small x h = let p = mul-le-mul {n₁ = x} {m₁ = x} {n₂ = 65535} {m₂ = 65535} (omega arith) (omega arith) in omega arith
+
+pub product-small : (a b : ℕ) → a ≤ 255 → b < 65536 → a * b ≤ most-weight
+product-small a b h k = mul-le-mul {n₁ = a} {m₁ = b} {n₂ = 255} {m₂ = 65535} h (omega arith)
 
 pub slot-within : (t : List ℕ) (n key among : ℕ) → 0 < among → slot-of t n key among < among
 unfolding slot-of
@@ -86,6 +89,14 @@ module _ (d s : List ℕ) (at n : ℕ) (room : at + n ≤ length d) (there : n �
       sym (getD-drop (at + n) (paste d at s n) i 0)
       ∙ ap (λ l. getD l i 0) (drop-paste d at s n (omega arith) there)
       ∙ getD-drop (at + n) d i 0
+
+-- x is d with j elements of s copied into it: a turn of the loop, and its length
+module _ (d x s : List ℕ) (at j : ℕ) (e : x ≡ paste d at s j) where
+  pub copy-more : at + j < length d → j < length s → set x (at + j) (getD s j 0) ≡ paste d at s (j + 1)
+  copy-more h k = rw (e, add-one j) (paste-suc d at s j 0 h k)
+
+  pub copy-length : at + j ≤ length d → j ≤ length s → length x ≡ length d
+  copy-length h k = ap length e ∙ length-paste d at s j h k
 
 -- What is recalled --------------------------------------------------------------------------------------------------------
 

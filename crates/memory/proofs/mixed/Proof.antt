@@ -38,10 +38,10 @@ loop-less : tie.Need-loop-less Inv-loop μ-loop
 loop-less c = omega arith
 
 loop-again : tie.Need-loop-again Inv-loop μ-loop
-loop-again c = (omega arith, (?, omega arith))
+loop-again c = (omega arith, (rw (c .before .before .loop .inv .1 .0, c .weight .ensures .0) (sym (mixed-more _ _ _)), omega arith))
 
 returns : tie.Need-returns Inv-loop μ-loop
-returns c = ?
+returns c = c .before .loop .inv .1 .0 ∙ ap (mixed (c .before .before .before .args .t .now) (c .before .before .before .args .key)) (le-antisymm (c .before .loop .inv .0) (c .loop-test .left))
 
 pub mixed-spec : {M : Type 1} → statement M
 mixed-spec =

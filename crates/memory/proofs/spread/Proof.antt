@@ -1,7 +1,8 @@
 -- `memory::spread` meets its contract: the square of a number below 65536 fits. Assumes nothing.
+use Prim.Native.Nat.{_+_, _*_, _%_}
 use mathlib.Core.Path.{refl}
 use native.Mathlib.Omega.{arith}
-use Rattle.memory.specs.MemoryLaws.{product-small}
+use Rattle.memory.specs.MemoryLaws.{square-small}
 use Rattle.memory.specs.Memory.{spread}
 use borrow.Author.Needs.{needs}
 use Rattle.memory.proofs.spread.Statement.{statement}
@@ -19,7 +20,7 @@ add-x : tie.Need-add-x
 add-x c = search needs
 
 mul-result : tie.Need-mul-result
-mul-result c = ?
+mul-result c = let h = square-small ((c .args .j * 40503 + 12345) % 65536) (omega arith) in omega arith
 
 returns : tie.Need-returns
 unfolding spread

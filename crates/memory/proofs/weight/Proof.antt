@@ -20,11 +20,11 @@ spread-requires : tie.Need-spread-requires
 spread-requires c κs = search needs
 
 mul-result : tie.Need-mul-result
-mul-result c = ?
+mul-result c = let h = product-small (c .before .wide .result) (c .spread .result) (omega arith) (omega arith) in omega arith
 
 returns : tie.Need-returns
 unfolding weight
-returns c = ?
+returns c = (rw (c .before .wide .ensures .0, c .spread .ensures .0), product-small _ _ (omega arith) (omega arith))
 
 pub weight-spec : {M : Type 1} → statement M
 weight-spec =
