@@ -12,7 +12,7 @@ use native.Mathlib.Numerals.{add-one}
 use lib.Dec.{eqb, ltb}
 use lib.ListN.{length, getD, set, take, drop, length-set, List·getD-append}
 use lib.Seq.{paste, paste-suc, length-paste, length-paste-head, length-take-le, take-paste, drop-paste, getD-take, getD-drop, getD-append-add, getD-set-same, getD-set-other}
-use borrow.Author.Tests.{eqb-true, eqb-false, ltb-true, ltb-false, eq-eqb, ne-eqb}
+use borrow.Author.Tests.{eqb-true, eqb-false, ltb-true, ltb-false, eq-eqb, ne-eqb, lt-ltb, le-ltb}
 use Rattle.memory.specs.declared.Sight.{Sight}
 use Rattle.memory.specs.declared.Recalled.{Recalled}
 use Rattle.memory.specs.declared.Recalled.the-variants.{Known, Unknown}
@@ -101,6 +101,29 @@ module _ (d x s : List ℕ) (at j : ℕ) (e : x ≡ paste d at s j) where
 -- What is recalled --------------------------------------------------------------------------------------------------------
 
 module _ (ms ks t : List ℕ) (n key : ℕ) where
+  pub recalled-none : slots ks ≡ 0 → Unknown 0 ≡ recalled ms ks t n key
+  unfolding recalled
+  recalled-none h = rw (eq-eqb (slots ks) 0 h)
+
+  module _ (s : ℕ) (some : slots ks ≡ 0 → ⊥) (e : s ≡ slot-of t n key (slots ks)) where
+    from-slot : recalled-at ms ks t n key s ≡ recalled ms ks t n key
+    unfolding recalled
+    from-slot = rw (e, ne-eqb (slots ks) 0 some)
+
+    pub recalled-other : (getD ks (3 * s) 0 ≡ key → ⊥) → Unknown s ≡ recalled ms ks t n key
+    unfolding recalled-at
+    recalled-other d = rw (← from-slot, ne-eqb (getD ks (3 * s) 0) key d)
+
+    pub recalled-unlike : getD ks (3 * s) 0 ≡ key → alike ms (64 * s) t n ≡ false → Unknown s ≡ recalled ms ks t n key
+    unfolding recalled-at
+    recalled-unlike k a = rw (← from-slot, eq-eqb (getD ks (3 * s) 0) key k, a)
+
+    pub recalled-known : getD ks (3 * s) 0 ≡ key → alike ms (64 * s) t n ≡ true
+        → Known (record { entered = getD ks (3 * s + 1) 0; reached = getD ks (3 * s + 2) 0 }) ≡ recalled ms ks t n key
+    unfolding recalled-at sight-at
+    recalled-known k a = rw (← from-slot, eq-eqb (getD ks (3 * s) 0) key k, a)
+
+module _ (ms ks t : List ℕ) (n key : ℕ) where
   -- by whether there is a slot at all, and whether it has the state
   at-held : (x : Sight) (s : ℕ) → s < slots ks → (b : Bool) → (eqb (getD ks (3 * s) 0) key && alike ms (64 * s) t n) ≡ b
       → cond b (Known (sight-at ks s)) (Unknown s) ≡ Known x → Held ms ks n key t x
@@ -128,6 +151,15 @@ module _ (ms ks t : List ℕ) (n key : ℕ) where
 
 further : {s slot : ℕ} → (s ≡ slot → ⊥) → slot ≤ s → slot < s
 further d h = ⊎-elim (λ e. absurd (d (sym e))) (λ l. l) (eq-or-lt-of-le h)
+
+pub remembered-put : (ms ks : List ℕ) (slot : ℕ) (t : List ℕ) (n key : ℕ) (x : Sight) (ms′ : List ℕ) → slot < slots ks → ms′ ≡ paste ms (64 * slot) t n
+    → Remembered ms ks slot t n key x ms′ (set (set (set ks (3 * slot) key) (3 * slot + 1) (x .entered)) (3 * slot + 2) (x .reached))
+unfolding remembered-modes remembered-marks
+remembered-put ms ks slot t n key x ms′ h e = record { modes = rw (lt-ltb slot (slots ks) h) e; marks = rw (lt-ltb slot (slots ks) h) }
+
+pub remembered-not : (ms ks : List ℕ) (slot : ℕ) (t : List ℕ) (n key : ℕ) (x : Sight) → slots ks ≤ slot → Remembered ms ks slot t n key x ms ks
+unfolding remembered-modes remembered-marks
+remembered-not ms ks slot t n key x h = record { modes = rw (le-ltb slot (slots ks) h); marks = rw (le-ltb slot (slots ks) h) }
 
 -- a state put into a slot that is there
 module _ (ms ks : List ℕ) (slot : ℕ) (t₀ : List ℕ) (n key₀ : ℕ) (x₀ : Sight) (f : Fitting ms ks t₀ n key₀) (h : slot < slots ks) where
