@@ -23,12 +23,15 @@ slots ks = length ks / 3
 unfoldable pub spread : ℕ → ℕ
 spread j = let x : ℕ = (j * 40503 + 12345) % 65536 in x * x / 256 % 65536
 
+-- what it counts for in the state t
 unfoldable pub weight : List ℕ → ℕ → ℕ
 weight t j = getD t j 0 * spread j
 
+-- a byte is at most 255
 abbrev pub most-weight : ℕ
-most-weight = 16711425
+most-weight = 255 * 65535
 
+-- the key and the first modes in one number
 unfoldable pub mixed : List ℕ → ℕ → ℕ → ℕ
 mixed t key zero = key * 8191
 mixed t key (suc j) = mixed t key j + weight t j
@@ -43,6 +46,7 @@ unfoldable pub alike : List ℕ → ℕ → List ℕ → ℕ → Bool
 alike ms at t zero = true
 alike ms at t (suc j) = alike ms at t j && eqb (getD ms (at + j) 0) (getD t j 0)
 
+-- what slot s says was seen
 unfoldable pub sight-at : List ℕ → ℕ → Sight
 sight-at ks s = record { entered = getD ks (3 * s + 1) 0; reached = getD ks (3 * s + 2) 0 }
 
@@ -50,14 +54,19 @@ sight-at ks s = record { entered = getD ks (3 * s + 1) 0; reached = getD ks (3 *
 unfoldable pub recalled-at : List ℕ → List ℕ → List ℕ → ℕ → ℕ → ℕ → Recalled
 recalled-at ms ks t n key s = cond (eqb (getD ks (3 * s) 0) key && alike ms (64 * s) t n) (Known (sight-at ks s)) (Unknown s)
 
+-- what its own slot has of it; with no slots, nothing
 unfoldable pub recalled : List ℕ → List ℕ → List ℕ → ℕ → ℕ → Recalled
 recalled ms ks t n key = cond (eqb (slots ks) 0) (Unknown 0) (recalled-at ms ks t n key (slot-of t n key (slots ks)))
 
 -- What is remembered ------------------------------------------------------------------------------------------------------
 
+-- the three marks of a slot
+abbrev pub marks-put : List ℕ → ℕ → ℕ → Sight → List ℕ
+marks-put ks slot key x = set (set (set ks (3 * slot) key) (3 * slot + 1) (x .entered)) (3 * slot + 2) (x .reached)
+
+-- a slot that is not there takes nothing
 unfoldable pub remembered-marks : List ℕ → ℕ → ℕ → Sight → List ℕ
-remembered-marks ks slot key x =
-    cond (ltb slot (slots ks)) (set (set (set ks (3 * slot) key) (3 * slot + 1) (x .entered)) (3 * slot + 2) (x .reached)) ks
+remembered-marks ks slot key x = cond (ltb slot (slots ks)) (marks-put ks slot key x) ks
 
 unfoldable pub remembered-modes : List ℕ → List ℕ → ℕ → List ℕ → ℕ → List ℕ
 remembered-modes ms ks slot t n = cond (ltb slot (slots ks)) (paste ms (64 * slot) t n) ms
@@ -86,6 +95,7 @@ pub record Holds (ms ks : List ℕ) (n s key : ℕ) (t : List ℕ) (x : Sight) :
   pub entered : getD ks (3 * s + 1) 0 ≡ x .entered
   pub reached : getD ks (3 * s + 2) 0 ≡ x .reached
 
+-- some slot has it
 pub record Held (ms ks : List ℕ) (n key : ℕ) (t : List ℕ) (x : Sight) : Type 0 where
   pub slot : ℕ
   pub there : slot < slots ks

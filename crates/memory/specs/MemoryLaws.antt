@@ -1,22 +1,22 @@
 -- Laws of a memory of searches. In order: the choice of a slot stays within 32 bits and names a slot; modes compared and copied;
 -- what is recalled is held; what is held after one more is put in was held before, or is that one; what an empty memory holds; and
 -- that the contracts leave one outcome. Assumes nothing.
-use Prim.Native.Nat.{ℕ, zero, suc, _+_, _-_, _*_, _/_, _%_, _<_, _≤_}
+use Prim.Native.Nat.{ℕ, zero, suc, _+_, _-_, _*_, _/_, _<_, _≤_}
 use mathlib.Core.Path.{_≡_, refl, sym, ap, _∙_, subst}
 use mathlib.Core.Bool.{Bool, true, false, _&&_, cond, false≢true, and-false}
-use mathlib.Core.Logic.{_⊎_, inl, inr, ⊎-elim, ⊎-map}
-use mathlib.Core.List.{List, [], _∷_, _++_}
+use mathlib.Core.Logic.{_⊎_, inl, inr, ⊎-elim}
+use mathlib.Core.List.{List, [], _++_}
 use native.Mathlib.Omega.{arith}
 use native.Mathlib.Nat.{mod-lt, mul-le-mul, eq-or-lt-of-le, eq-zero-or-pos, add-zero}
 use native.Mathlib.Numerals.{add-one}
 use lib.Dec.{eqb, ltb}
 use lib.ListN.{length, getD, set, take, drop, length-set, List·getD-append}
-use lib.Seq.{paste, paste-suc, length-paste, length-paste-head, length-take-le, take-paste, drop-paste, getD-take, getD-drop, getD-append-add, getD-set-same, getD-set-other}
+use lib.Seq.{paste, paste-suc, length-paste, length-paste-head, length-take-le, drop-paste, getD-take, getD-drop, getD-append-add, getD-set-same, getD-set-other}
 use borrow.Author.Tests.{eqb-true, eqb-false, ltb-true, ltb-false, eq-eqb, ne-eqb, lt-ltb, le-ltb}
 use Rattle.memory.specs.declared.Sight.{Sight}
 use Rattle.memory.specs.declared.Recalled.{Recalled}
 use Rattle.memory.specs.declared.Recalled.the-variants.{Known, Unknown}
-use Rattle.memory.specs.Memory.{slots, spread, weight, most-weight, mixed, slot-of, alike, sight-at, recalled-at, recalled, remembered-marks, remembered-modes, Fitting, Remembered, Holds, Held, Same}
+use Rattle.memory.specs.Memory.{slots, weight, most-weight, mixed, slot-of, alike, sight-at, recalled-at, recalled, marks-put, remembered-marks, remembered-modes, Fitting, Remembered, Holds, Held, Same}
 
 -- The choice of a slot ----------------------------------------------------------------------------------------------------
 
@@ -131,10 +131,10 @@ module _ (ms ks t : List ℕ) (n key : ℕ) where
   at-held x s h true e k =
       let p = both-true (eqb (getD ks (3 * s) 0) key) (alike ms (64 * s) t n) e in
       let q : record { entered = getD ks (3 * s + 1) 0; reached = getD ks (3 * s + 2) 0 } ≡ x = cc in
-      record
-      { slot = s
-      ; there = h
-      ; holds = record { named = eqb-true _ _ (p .0); modes = alike-each ms (64 * s) t n (p .1); entered = ap (λ y. y .entered) q; reached = ap (λ y. y .reached) q }
+      record {
+        slot = s;
+        there = h;
+        holds = record { named = eqb-true _ _ (p .0); modes = alike-each ms (64 * s) t n (p .1); entered = ap (λ y. y .entered) q; reached = ap (λ y. y .reached) q };
       }
   at-held x s h false e k = let z : _≡_ {A = ℕ} 0 1 = cc in absurd (omega arith)
 
@@ -153,7 +153,7 @@ further : {s slot : ℕ} → (s ≡ slot → ⊥) → slot ≤ s → slot < s
 further d h = ⊎-elim (λ e. absurd (d (sym e))) (λ l. l) (eq-or-lt-of-le h)
 
 pub remembered-put : (ms ks : List ℕ) (slot : ℕ) (t : List ℕ) (n key : ℕ) (x : Sight) (ms′ : List ℕ) → slot < slots ks → ms′ ≡ paste ms (64 * slot) t n
-    → Remembered ms ks slot t n key x ms′ (set (set (set ks (3 * slot) key) (3 * slot + 1) (x .entered)) (3 * slot + 2) (x .reached))
+    → Remembered ms ks slot t n key x ms′ (marks-put ks slot key x)
 unfolding remembered-modes remembered-marks
 remembered-put ms ks slot t n key x ms′ h e = record { modes = rw (lt-ltb slot (slots ks) h) e; marks = rw (lt-ltb slot (slots ks) h) }
 
@@ -173,7 +173,7 @@ module _ (ms ks : List ℕ) (slot : ℕ) (t₀ : List ℕ) (n key₀ : ℕ) (x�
   put-two = set put-one (3 * slot + 1) (x₀ .entered)
 
   abbrev put-marks : List ℕ
-  put-marks = set put-two (3 * slot + 2) (x₀ .reached)
+  put-marks = marks-put ks slot key₀ x₀
 
   one-length : length put-one ≡ length ks
   one-length = length-set ks (3 * slot) key₀
@@ -206,9 +206,10 @@ module _ (ms ks : List ℕ) (slot : ℕ) (t₀ : List ℕ) (n key₀ : ℕ) (x�
     put-here : Holds put-modes put-marks n slot key t x → Same n key t key₀ t₀ × (x ≡ x₀)
     put-here g =
         let p : x .entered ≡ x₀ .entered = sym (g .entered) ∙ entered-here in
-        let q : x .reached ≡ x₀ .reached = sym (g .reached) ∙ reached-here in
-        ( record { keys = sym (g .named) ∙ named-here; modes = λ j l. sym (g .modes j l) ∙ paste-inside ms t₀ (64 * slot) n fits (f .there) j l }
-        , λ i. record { entered = p i; reached = q i } )
+        let q : x .reached ≡ x₀ .reached = sym (g .reached) ∙ reached-here in (
+          record { keys = sym (g .named) ∙ named-here; modes = λ j l. sym (g .modes j l) ∙ paste-inside ms t₀ (64 * slot) n fits (f .there) j l },
+          λ i. record { entered = p i; reached = q i },
+        )
 
     -- the other slots are as they were
     marks-there : (s k : ℕ) → k < 3 → (s ≡ slot → ⊥) → getD put-marks (3 * s + k) 0 ≡ getD ks (3 * s + k) 0
@@ -228,12 +229,12 @@ module _ (ms ks : List ℕ) (slot : ℕ) (t₀ : List ℕ) (n key₀ : ℕ) (x�
           subst (λ m. getD put-modes m 0 ≡ getD ms m 0) k (paste-behind ms t₀ (64 * slot) n fits (f .there) i)
 
     put-there : (s : ℕ) → (s ≡ slot → ⊥) → Holds put-modes put-marks n s key t x → Holds ms ks n s key t x
-    put-there s d g = record
-        { named = sym (subst (λ k. getD put-marks k 0 ≡ getD ks k 0) (add-zero (3 * s)) (marks-there s 0 (omega arith) d)) ∙ g .named
-        ; modes = λ j l. sym (modes-there s j l d) ∙ g .modes j l
-        ; entered = sym (marks-there s 1 (omega arith) d) ∙ g .entered
-        ; reached = sym (marks-there s 2 (omega arith) d) ∙ g .reached
-        }
+    put-there s d g = record {
+      named = sym (subst (λ k. getD put-marks k 0 ≡ getD ks k 0) (add-zero (3 * s)) (marks-there s 0 (omega arith) d)) ∙ g .named;
+      modes = λ j l. sym (modes-there s j l d) ∙ g .modes j l;
+      entered = sym (marks-there s 1 (omega arith) d) ∙ g .entered;
+      reached = sym (marks-there s 2 (omega arith) d) ∙ g .reached;
+    }
 
     put-held : Held put-modes put-marks n key t x → Held ms ks n key t x ⊎ (Same n key t key₀ t₀ × (x ≡ x₀))
     put-held g = by (eqb (g .slot) slot) refl where
@@ -248,7 +249,7 @@ module _ (ms ks : List ℕ) (slot : ℕ) (t₀ : List ℕ) (n key₀ : ℕ) (x�
   unfolding remembered-modes remembered-marks
   held-after key t x = by (ltb slot (slots ks)) refl where
     by : (b : Bool) → ltb slot (slots ks) ≡ b
-        → Held (cond b (paste ms (64 * slot) t₀ n) ms) (cond b (set (set (set ks (3 * slot) key₀) (3 * slot + 1) (x₀ .entered)) (3 * slot + 2) (x₀ .reached)) ks) n key t x
+        → Held (cond b (paste ms (64 * slot) t₀ n) ms) (cond b (marks-put ks slot key₀ x₀) ks) n key t x
         → Held ms ks n key t x ⊎ (Same n key t key₀ t₀ × (x ≡ x₀))
     by true e g = put-held ms ks slot t₀ n key₀ x₀ f (ltb-true slot (slots ks) e) key t x g
     by false e g = inl g
@@ -258,7 +259,7 @@ module _ (ms ks : List ℕ) (slot : ℕ) (t₀ : List ℕ) (n key₀ : ℕ) (x�
   lengths-after = by (ltb slot (slots ks)) refl where
     by : (b : Bool) → ltb slot (slots ks) ≡ b
         → (length (cond b (paste ms (64 * slot) t₀ n) ms) ≡ length ms)
-            × (length (cond b (set (set (set ks (3 * slot) key₀) (3 * slot + 1) (x₀ .entered)) (3 * slot + 2) (x₀ .reached)) ks) ≡ length ks)
+        × (length (cond b (marks-put ks slot key₀ x₀) ks) ≡ length ks)
     by true e = put-lengths ms ks slot t₀ n key₀ x₀ f (ltb-true slot (slots ks) e)
     by false e = (refl, refl)
 

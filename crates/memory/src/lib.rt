@@ -115,7 +115,15 @@ fn copy_in(modes: &mut [u8], at: usize, t: &[u8], n: usize)
 }
 
 // Puts what was seen of the state into the slot that `recall` named. A slot that is not there takes nothing.
-pub fn remember(modes: &mut [u8], marks: &mut [u32], slot: usize, t: &[u8], n: usize, key: u32, seen: Sight)
+pub fn remember(
+    modes: &mut [u8],
+    marks: &mut [u32],
+    slot: usize,
+    t: &[u8],
+    n: usize,
+    key: u32,
+    seen: Sight,
+)
     requires { ⌜ Fitting (now modes) (now marks) (now t) n key ⌝ }
     ensures { λ _. ⌜ Remembered (now (modes .entry)) (now (marks .entry)) slot (now (t .entry)) n key seen (now (modes .exit)) (now (marks .exit)) ⌝ }
 {

@@ -1,5 +1,5 @@
 -- `memory::alike` meets its contract: the first j modes are the same, until one differs. Assumes nothing.
-use Prim.Native.Nat.{ℕ, _≤_, _-_}
+use Prim.Native.Nat.{_≤_, _-_}
 use mathlib.Core.Path.{_≡_, refl, ap, sym, _∙_}
 use mathlib.Core.Bool.{true}
 use native.Mathlib.Omega.{arith}
@@ -8,8 +8,6 @@ use Rattle.memory.specs.MemoryLaws.{alike-more, alike-not}
 use Rattle.memory.specs.Memory.{alike}
 use Rattle.memory.proofs.alike.Statement.{statement}
 use Rattle.memory.proofs.alike.Tie as tie
-use Rattle.memory.proofs.alike.Reads as reads
-use Rattle.memory.proofs.alike.Lts as lts
 
 abbrev Inv-loop : tie.InvT-loop
 Inv-loop modes at t n j₀ j = (j ≤ n) × (alike modes at t j ≡ true)

@@ -1,5 +1,5 @@
 -- `memory::copy_in` meets its contract: the first j modes are copied. Assumes nothing.
-use Prim.Native.Nat.{ℕ, _≤_, _-_}
+use Prim.Native.Nat.{_≤_, _-_}
 use mathlib.Core.Path.{_≡_, ap, _∙_}
 use native.Mathlib.Omega.{arith}
 use native.Mathlib.Nat.{le-antisymm}
@@ -7,8 +7,6 @@ use lib.Seq.{paste, paste-zero}
 use Rattle.memory.specs.MemoryLaws.{copy-more, copy-length}
 use Rattle.memory.proofs.copy_in.Statement.{statement}
 use Rattle.memory.proofs.copy_in.Tie as tie
-use Rattle.memory.proofs.copy_in.Reads as reads
-use Rattle.memory.proofs.copy_in.Lts as lts
 
 abbrev Inv-loop : tie.InvT-loop
 Inv-loop modes₀ at t n j₀ modes j = (j ≤ n) × (modes ≡ paste modes₀ at t j)

@@ -1,5 +1,5 @@
 -- `memory::mixed` meets its contract: the sum of the first j modes, each at most what a mode can count for. Assumes nothing.
-use Prim.Native.Nat.{ℕ, _+_, _*_, _≤_, _-_}
+use Prim.Native.Nat.{_+_, _*_, _≤_, _-_}
 use mathlib.Core.Path.{_≡_, refl, ap, sym, _∙_}
 use borrow.Author.Needs.{needs}
 use native.Mathlib.Omega.{arith}
@@ -8,9 +8,6 @@ use Rattle.memory.specs.MemoryLaws.{mixed-more}
 use Rattle.memory.specs.Memory.{mixed, most-weight}
 use Rattle.memory.proofs.mixed.Statement.{statement}
 use Rattle.memory.proofs.mixed.Tie as tie
-use Rattle.memory.proofs.mixed.Reads as reads
-use Rattle.memory.proofs.mixed.Lts as lts
-use Rattle.memory.proofs.weight.Reads as weight-reads
 
 abbrev Inv-loop : tie.InvT-loop
 Inv-loop t n key sum₀ j₀ sum j = (j ≤ n) × ((sum ≡ mixed t key j) × (sum ≤ 4000 * 8191 + most-weight * j))

@@ -4,10 +4,6 @@ use Rattle.memory.specs.MemoryLaws.{recalled-none, recalled-other, recal
 use borrow.Author.Needs.{needs}
 use Rattle.memory.proofs.recall.Statement.{statement}
 use Rattle.memory.proofs.recall.Tie as tie
-use Rattle.memory.proofs.recall.Reads as reads
-use Rattle.memory.proofs.recall.Lts as lts
-use Rattle.memory.proofs.alike.Reads as alike-reads
-use Rattle.memory.proofs.slot_of.Reads as slot-of-reads
 
 returns : tie.Need-returns
 returns c = let a = c .before .before .before .before .args in recalled-none (a .modes .now) (a .marks .now) (a .t .now) (a .n) (a .key) (c .if1 .taken)

@@ -5,9 +5,6 @@ use Rattle.memory.specs.MemoryLaws.{remembered-put, remembered-not}
 use borrow.Author.Needs.{needs}
 use Rattle.memory.proofs.remember.Statement.{statement}
 use Rattle.memory.proofs.remember.Tie as tie
-use Rattle.memory.proofs.remember.Reads as reads
-use Rattle.memory.proofs.remember.Lts as lts
-use Rattle.memory.proofs.copy_in.Reads as copy-in-reads
 
 mul-marks : tie.Need-mul-marks
 mul-marks c = search needs

@@ -5,9 +5,6 @@ use Rattle.memory.specs.Memory.{slot-of}
 use borrow.Author.Needs.{needs}
 use Rattle.memory.proofs.slot_of.Statement.{statement}
 use Rattle.memory.proofs.slot_of.Tie as tie
-use Rattle.memory.proofs.slot_of.Reads as reads
-use Rattle.memory.proofs.slot_of.Lts as lts
-use Rattle.memory.proofs.mixed.Reads as mixed-reads
 
 mixed-requires : tie.Need-mixed-requires
 mixed-requires c κs = search needs

@@ -7,8 +7,6 @@ use Rattle.memory.specs.Memory.{spread}
 use borrow.Author.Needs.{needs}
 use Rattle.memory.proofs.spread.Statement.{statement}
 use Rattle.memory.proofs.spread.Tie as tie
-use Rattle.memory.proofs.spread.Reads as reads
-use Rattle.memory.proofs.spread.Lts as lts
 
 cast-x : tie.Need-cast-x
 cast-x c = search needs

@@ -5,10 +5,6 @@ use Rattle.memory.specs.Memory.{weight}
 use borrow.Author.Needs.{needs}
 use Rattle.memory.proofs.weight.Statement.{statement}
 use Rattle.memory.proofs.weight.Tie as tie
-use Rattle.memory.proofs.weight.Reads as reads
-use Rattle.memory.proofs.weight.Lts as lts
-use Rattle.memory.proofs.spread.Reads as spread-reads
-use Rattle.memory.proofs.wide.Reads as wide-reads
 
 shared-slice-read-wide : tie.Need-shared-slice-read-wide
 shared-slice-read-wide c = search needs
