@@ -1,5 +1,7 @@
 -- Definitions.
 pub mod Asked
+pub mod Weighed
 -- Theorems.
 pub mod NodeLaws
+pub mod WeighedLaws
 pub mod Branches
