@@ -4,4 +4,5 @@ pub mod Weighed
 -- Theorems.
 pub mod NodeLaws
 pub mod WeighedLaws
+pub mod Weighing
 pub mod Branches

@@ -25,7 +25,7 @@ abbrev pub share : List ℕ → ℕ → Tally
 share d k = tallied (getD d k 0) (getD d (k + 1) 0) (getD d (k + 2) 0) false false
 
 -- what is kept of node i
-abbrev pub row : List ℕ → ℕ → Word
+unfoldable pub row : List ℕ → ℕ → Word
 row d i = worded 0 (share d (9 * i)) (share d (9 * i + 3)) (share d (9 * i + 6))
 
 -- d′ is d, but for the numbers of x at place k
@@ -33,15 +33,17 @@ pub record Shared (d : List ℕ) (k : ℕ) (x : Tally) (d′ : List ℕ) : Type 
   pub here : share d′ k ≡ bareT x
   pub before : (j : ℕ) → j < k → getD d′ j 0 ≡ getD d j 0
   pub after : (j : ℕ) → k + 3 ≤ j → getD d′ j 0 ≡ getD d j 0
+  pub long : length d′ ≡ length d
 
--- d′ is d, but for node i, of which x is kept
+-- d′ is d, but for node i, of which x is kept; it has room for 64 nodes
 pub record Written (d : List ℕ) (i : ℕ) (x : Word) (d′ : List ℕ) : Type 0 where
+  pub long : 576 ≤ length d′
   pub here : row d′ i ≡ bareW x
   pub others : (j : ℕ) → j ≢ i → row d′ j ≡ row d j
 
 -- what is kept of nodes that are not under i is as it was
-abbrev pub RowsKept : List ℕ → ℕ → List ℕ → List ℕ → Type 0
-RowsKept ns i d d′ = (j : ℕ) → (Under (shape ns) i j → ⊥) → row d′ j ≡ row d j
+pub record RowsKept (ns : List ℕ) (i : ℕ) (d d′ : List ℕ) : Type 0 where
+  pub rows : (j : ℕ) → (Under (shape ns) i j → ⊥) → row d′ j ≡ row d j
 
 -- Which rows are right --------------------------------------------------------------------------------------------------
 

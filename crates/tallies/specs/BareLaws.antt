@@ -2,6 +2,7 @@
 use Prim.Native.Nat.{_+_}
 use mathlib.Core.Path.{_≡_, refl, _∙_, ap}
 use mathlib.Core.Bool.{Bool, true, false, _||_, cond}
+use native.Mathlib.Omega.{arith}
 use lib.Dec.{eqb}
 use Rattle.calculus.specs.Term.{Closing, done, withdrawn, failed, join}
 use Rattle.calculus.specs.Successors.{eqc}
@@ -81,3 +82,8 @@ side-bare p q u x g = ap (total (byW (bareW p) x)) (beside-partners-bare q u x g
 
 pub fitting-bare : (q : Word) (u x y : Closing) (g : Weight) → total (fittingT (bareW q) u x y) g ≡ total (fittingT q u x y) g
 fitting-bare q u x y g = ap (λ t. total t g) (bare-fitting q u x y) ∙ bare-total (fittingT q u x y) g
+
+-- nothing weighs nothing
+pub nothing-weighs : (x : Tally) (g : Weight) → x .many ≡ 0 → x .able ≡ 0 → x .moves ≡ 0 → 0 ≡ total x g
+unfolding total
+nothing-weighs x g e f h = rw (e, f, h) (omega arith)

@@ -1,0 +1,23 @@
+-- `seek::weight_before` meets its contract: what the two calls ensure, put together. Assumes nothing.
+use borrow.Author.Needs.{needs}
+use Rattle.seek.proofs.weight_before.Statement.{statement}
+use Rattle.seek.proofs.weight_before.Tie as tie
+use Rattle.seek.proofs.weight_before.Reads as reads
+use Rattle.seek.proofs.weight_before.Lts as lts
+use Rattle.seek.proofs.tally_at.Reads as tally-at-reads
+use Rattle.tallies.proofs.weight_after.Reads as weight-after-reads
+
+-- src/lib.rt:177:27
+tally-at-requires : tie.Need-tally-at-requires
+tally-at-requires c κs = search needs
+
+-- src/lib.rt:177:5
+weight-after-requires : tie.Need-weight-after-requires
+weight-after-requires c κs = search needs
+
+-- src/lib.rt:173:1
+returns : tie.Need-returns
+returns c = cc
+
+pub weight-before-spec : {M : Type 1} → statement M
+weight-before-spec = tie.close (tie.spec tally-at-requires weight-after-requires returns)
