@@ -37,7 +37,7 @@ pub record Shared (d : List ℕ) (k : ℕ) (x : Tally) (d′ : List ℕ) : Type 
 
 -- d′ is d, but for node i, of which x is kept; it has room for 64 nodes
 pub record Written (d : List ℕ) (i : ℕ) (x : Word) (d′ : List ℕ) : Type 0 where
-  pub long : 576 ≤ length d′
+  pub long : length d′ ≡ 576
   pub here : row d′ i ≡ bareW x
   pub others : (j : ℕ) → j ≢ i → row d′ j ≡ row d j
 
@@ -63,7 +63,7 @@ module _ (ns t : List ℕ) where
 
 -- what is kept of node i and of the parts that run in it is what is known of them
 pub record Weighed (s : Scene) (d : List ℕ) (i : ℕ) : Type 0 where
-  pub long : 576 ≤ length d
+  pub long : length d ≡ 576
   pub right : (j : ℕ) → RunsIn (s .ns) (s .t) i j → row d j ≡ bareW (word (s .a) (part-at s j .run))
 
 -- or nothing is kept at all

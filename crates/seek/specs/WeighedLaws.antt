@@ -68,5 +68,5 @@ known-same ns tree a t t′ d i e (inl z) = inl z
 known-same ns tree a t t′ d i e (inr h) = inr (weighed-same ns tree a t t′ d i e h)
 
 -- the rows under the node are the same
-pub weighed-rows : {ns t : List ℕ} {a i : ℕ} → Tree (shape ns) → {d d′ : List ℕ} → 576 ≤ length d′ → ((j : ℕ) → Under (shape ns) i j → row d′ j ≡ row d j) → Weighed (scene ns t a) d i → Weighed (scene ns t a) d′ i
+pub weighed-rows : {ns t : List ℕ} {a i : ℕ} → Tree (shape ns) → {d d′ : List ℕ} → length d′ ≡ 576 → ((j : ℕ) → Under (shape ns) i j → row d′ j ≡ row d j) → Weighed (scene ns t a) d i → Weighed (scene ns t a) d′ i
 weighed-rows {ns} {t} tree l e h = record { long = l; right = λ j r. e j (runs-under ns tree t r) ∙ h .right j r }

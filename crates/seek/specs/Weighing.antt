@@ -72,12 +72,12 @@ module _ {d d′ : List ℕ} {k : ℕ} {x : Tally} (w : Shared d k x d′) where
   unfolding row
   row-above j i h l = λ z. worded 0 (share-above (9 * j) (omega arith) z) (share-above (9 * j + 3) (omega arith) z) (share-above (9 * j + 6) (omega arith) z)
 
-pub written-by : {d d₁ d₂ d₃ : List ℕ} {i : ℕ} (x : Word) → 576 ≤ length d → Shared d (9 * i) (x .done) d₁ → Shared d₁ (9 * i + 3) (x .withdrawn) d₂ → Shared d₂ (9 * i + 6) (x .failed) d₃ → Written d i x d₃
+pub written-by : {d d₁ d₂ d₃ : List ℕ} {i : ℕ} (x : Word) → length d ≡ 576 → Shared d (9 * i) (x .done) d₁ → Shared d₁ (9 * i + 3) (x .withdrawn) d₂ → Shared d₂ (9 * i + 6) (x .failed) d₃ → Written d i x d₃
 unfolding row
 written-by {d} {d₁} {d₂} {d₃} {i} x h p q r =
     let e = share-below r (9 * i) (omega arith) ∙ share-below q (9 * i) (omega arith) ∙ p .here in
     let f = share-below r (9 * i + 3) (omega arith) ∙ q .here in
-    record { long = omega (arith, p .long, q .long, r .long); here = λ z. worded 0 (e z) (f z) (r .here z); others = λ j n. by j n (ltb j i) refl }
+    record { long = r .long ∙ q .long ∙ p .long ∙ h; here = λ z. worded 0 (e z) (f z) (r .here z); others = λ j n. by j n (ltb j i) refl }
   where
     by : (j : ℕ) → j ≢ i → (b : Bool) → ltb j i ≡ b → row d₃ j ≡ row d j
     by j n true g = let l = ltb-true j i g in row-below r j i l (omega arith) ∙ row-below q j i l (omega arith) ∙ row-below p j i l (omega arith)

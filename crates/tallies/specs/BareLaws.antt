@@ -1,9 +1,10 @@
 -- What weighs is in the three numbers of a tally: weights of bare tallies and words are those of the whole ones. Assumes nothing.
 use Prim.Native.Nat.{_+_}
-use mathlib.Core.Path.{_≡_, refl, _∙_, ap}
-use mathlib.Core.Bool.{Bool, true, false, _||_, cond}
+use mathlib.Core.Path.{_≡_, refl, sym, _∙_, ap, subst}
+use mathlib.Core.Bool.{Bool, true, false, _&&_, _||_, cond}
 use native.Mathlib.Omega.{arith}
-use lib.Dec.{eqb}
+use lib.Dec.{T, eqb, eqb→eq}
+use Rattle.calculus.specs.Members.{and-left, and-right}
 use Rattle.calculus.specs.Term.{Closing, done, withdrawn, failed, join}
 use Rattle.calculus.specs.Successors.{eqc}
 use Rattle.tallies.specs.declared.Tally.{Tally}
@@ -84,6 +85,12 @@ pub fitting-bare : (q : Word) (u x y : Closing) (g : Weight) → total (fittingT
 fitting-bare q u x y g = ap (λ t. total t g) (bare-fitting q u x y) ∙ bare-total (fittingT q u x y) g
 
 -- nothing weighs nothing
-pub nothing-weighs : (x : Tally) (g : Weight) → x .many ≡ 0 → x .able ≡ 0 → x .moves ≡ 0 → 0 ≡ total x g
+pub nothing-weighs : (x : Tally) (g : Weight) → ((eqb (x .many) 0 && eqb (x .able) 0) && eqb (x .moves) 0) ≡ true → 0 ≡ total x g
 unfolding total
-nothing-weighs x g e f h = rw (e, f, h) (omega arith)
+nothing-weighs x g h =
+    let t : T ((eqb (x .many) 0 && eqb (x .able) 0) && eqb (x .moves) 0) = subst T (sym h) tt in
+    let u = and-left (eqb (x .many) 0 && eqb (x .able) 0) (eqb (x .moves) 0) t in
+    let m = eqb→eq (x .many) 0 (and-left (eqb (x .many) 0) (eqb (x .able) 0) u) in
+    let n = eqb→eq (x .able) 0 (and-right (eqb (x .many) 0) (eqb (x .able) 0) u) in
+    let o = eqb→eq (x .moves) 0 (and-right (eqb (x .many) 0 && eqb (x .able) 0) (eqb (x .moves) 0) t) in
+    rw (m, n, o) (omega arith)

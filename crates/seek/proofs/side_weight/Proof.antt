@@ -1,3 +1,7 @@
+-- `seek::side_weight` meets its contract: nothing weighs nothing, and otherwise what the three calls ensure is put together. Assumes nothing.
+use mathlib.Core.Path.{_∙_, ap}
+use Rattle.tallies.specs.Formulas.{closing, total, besideG, partnersT}
+use Rattle.tallies.specs.BareLaws.{nothing-weighs}
 use borrow.Author.Needs.{needs}
 use Rattle.seek.proofs.side_weight.Statement.{statement}
 use Rattle.seek.proofs.side_weight.Tie as tie
@@ -13,7 +17,10 @@ tally-by-requires c κs = search needs
 
 -- src/lib.rt:202:9
 returns : tie.Need-returns
-returns c = let z : ⊥ = c .if1 .taken in ?
+returns c =
+    let k = c .before .before .before .before .tally-by in
+    let g = besideG (partnersT (c .before .before .before .before .before .args .q) (closing (c .before .before .before .before .before .args .w)) (closing (c .before .before .before .before .before .args .x))) (c .before .before .before .before .before .args .g) in
+    nothing-weighs (k .result) g (c .if1 .taken) ∙ ap (λ x. total x g) (k .ensures)
 
 -- src/lib.rt:204:30
 beside-requires : tie.Need-beside-requires
