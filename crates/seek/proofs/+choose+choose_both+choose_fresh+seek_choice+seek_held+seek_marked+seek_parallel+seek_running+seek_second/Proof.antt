@@ -1,3 +1,6 @@
+-- `seek::choose` and the functions that it calls by the course of a node, which call it again for the children, meet their contracts.
+-- Each call and each return is answered by its lemma in Branches, from what the code has learnt on its way there. The measure is the
+-- node's number, and below it the order in which functions call each other at one node. Assumes nothing.
 use Rattle.seek.specs.Branches.{known-some, wanted, wanted-both, basic-chosen, below-spot, below-room, below-known, below-chosen, as-lower, as-room, as-known, as-chosen, first-lower, second-lower, first-spot, second-spot, first-known, second-known, first-row, second-row, second-still, choice-weight, choice-first-below, choice-first, choice-second-below, choice-second, second-below, second-chosen, held-spot, held-known, held-wanted, held-chosen, own-weight, weight-before, own-below, own-chosen, both-room, both-wanted, both-chosen, par-first-room, par-second-room, par-chosen}
 use Rattle.states.specs.ChildLaws.{lower-spot, same-room, kid-lower}
 use mathlib.Core.Path.{sym, _∙_}
@@ -191,47 +194,36 @@ seek-running-calls t = (own-weight-reads.Asked, own-weight-reads.Learnt, seek-ma
 abbrev seek-second-calls : ℕ → seek-second-lts.Claims
 seek-second-calls t = (weight-inside-reads.Asked, weight-inside-reads.Learnt, seek-marked-below t, seek-marked.Post, moves-before-reads.Asked, moves-before-reads.Learnt)
 
--- src/lib.rt:265:9
 choose-course-at-requires : (t : ℕ) → choose-lts.Need-course-at-requires (choose-calls t) (choose-at t) choose.Post
 choose-course-at-requires t c κs = c .before .before .before .before .pre .1 .0
 
--- src/lib.rt:272:29
 choose-enum-told : (t : ℕ) → choose-lts.Need-enum-told (choose-calls t) (choose-at t) choose.Post
 choose-enum-told t c = search needs
 
--- src/lib.rt:277:22
 choose-enum-known-course : (t : ℕ) → choose-lts.Need-enum-known-course (choose-calls t) (choose-at t) choose.Post
 choose-enum-known-course t c = search needs
 
--- src/lib.rt:277:30
 choose-seek-pair-requires : (t : ℕ) → choose-lts.Need-seek-pair-requires (choose-calls t) (choose-at t) choose.Post
 choose-seek-pair-requires t c κs = (c .before .before .before .before .before .before .before .before .before .pre .1 .0, sym (c .before .before .before .before .course-at .ensures) ∙ c .before .before .course .given .1)
 
--- src/lib.rt:278:22
 choose-enum-known-course-2 : (t : ℕ) → choose-lts.Need-enum-known-course-2 (choose-calls t) (choose-at t) choose.Post
 choose-enum-known-course-2 t c = search needs
 
--- src/lib.rt:280:17
 choose-choose-fresh-requires : (t : ℕ) → choose-lts.Need-choose-fresh-requires (choose-calls t) (choose-at t) choose.Post
 choose-choose-fresh-requires t c κs = let s = c .before .before .before .before .before .before .before .before .before .before in (omega (arith, s .pre .0), wanted (s .pre .1 .0) (s .pre .1 .1 .1) (c .before .before .before .before .before .course-at .ensures) (c .before .before .before .course2 .given .1))
 
--- src/lib.rt:282:17
 choose-choose-both-requires : (t : ℕ) → choose-lts.Need-choose-both-requires (choose-calls t) (choose-at t) choose.Post
 choose-choose-both-requires t c κs = let s = c .before .before .before .before .before .before .before .before .before .before in (omega (arith, s .pre .0), (wanted (s .pre .1 .0) (s .pre .1 .1 .1) (c .before .before .before .before .before .course-at .ensures) (c .before .before .before .course2 .given .1), known-some (s .pre .1 .1 .0) (c .before .if1 .left)))
 
--- src/lib.rt:285:22
 choose-enum-known-course-3 : (t : ℕ) → choose-lts.Need-enum-known-course-3 (choose-calls t) (choose-at t) choose.Post
 choose-enum-known-course-3 t c = search needs
 
--- src/lib.rt:285:30
 choose-seek-held-requires : (t : ℕ) → choose-lts.Need-seek-held-requires (choose-calls t) (choose-at t) choose.Post
 choose-seek-held-requires t c κs = let s = c .before .before .before .before .before .before .before .before .before in (omega (arith, s .pre .0), (wanted (s .pre .1 .0) (s .pre .1 .1 .1) (c .before .before .before .before .course-at .ensures) (c .before .before .course3 .given .1), s .pre .1 .1 .0))
 
--- src/lib.rt:286:20
 choose-enum-known-course-4 : (t : ℕ) → choose-lts.Need-enum-known-course-4 (choose-calls t) (choose-at t) choose.Post
 choose-enum-known-course-4 t c = search needs
 
--- src/lib.rt:286:30
 choose-choose-requires : (t : ℕ) → choose-lts.Need-choose-requires (choose-calls t) (choose-at t) choose.Post
 choose-choose-requires t c κs = 
     let s = c .before .before .before .before .before .before .before .before .before in
@@ -239,172 +231,130 @@ choose-choose-requires t c κs =
     let l = as-lower h in
     (omega (arith, s .pre .0, l), (lower-spot (s .pre .1 .0) l, (as-known h (s .pre .1 .1 .0), (s .pre .1 .1 .1 .0, as-room h))))
 
--- src/lib.rt:259:1
 choose-same-length : (t : ℕ) → choose-lts.Need-same-length (choose-calls t) (choose-at t) choose.Post
 choose-same-length t c = search needs
 
--- src/lib.rt:259:1
 choose-returns : (t : ℕ) → choose-lts.Need-returns (choose-calls t) (choose-at t) choose.Post
 choose-returns t c = let s = c .before .before .before .before .before .before .before in basic-chosen (wanted (s .pre .1 .0) (s .pre .1 .1 .1) (c .before .before .course-at .ensures) (c .enum-told .given .1))
 
--- src/lib.rt:259:1
 choose-same-length-2 : (t : ℕ) → choose-lts.Need-same-length-2 (choose-calls t) (choose-at t) choose.Post
 choose-same-length-2 t c = c .before .before .seek-pair .kept .1 .0
 
--- src/lib.rt:259:1
 choose-returns-2 : (t : ℕ) → choose-lts.Need-returns-2 (choose-calls t) (choose-at t) choose.Post
 choose-returns-2 t c = c .before .before .seek-pair .ensures (c .before .before .before .before .before .before .before .before .before .before .before .before .args .g) (c .before .before .before .before .before .before .before .before .before .before .before .before .pre .1 .1 .1 .1)
 
--- src/lib.rt:259:1
 choose-same-length-3 : (t : ℕ) → choose-lts.Need-same-length-3 (choose-calls t) (choose-at t) choose.Post
 choose-same-length-3 t c = c .before .before .choose-fresh .kept .1 .0
 
--- src/lib.rt:259:1
 choose-returns-3 : (t : ℕ) → choose-lts.Need-returns-3 (choose-calls t) (choose-at t) choose.Post
 choose-returns-3 t c = c .before .before .choose-fresh .ensures
 
--- src/lib.rt:259:1
 choose-same-length-4 : (t : ℕ) → choose-lts.Need-same-length-4 (choose-calls t) (choose-at t) choose.Post
 choose-same-length-4 t c = c .before .before .choose-both .kept .1 .0
 
--- src/lib.rt:259:1
 choose-returns-4 : (t : ℕ) → choose-lts.Need-returns-4 (choose-calls t) (choose-at t) choose.Post
 choose-returns-4 t c = c .before .before .choose-both .ensures
 
--- src/lib.rt:259:1
 choose-same-length-5 : (t : ℕ) → choose-lts.Need-same-length-5 (choose-calls t) (choose-at t) choose.Post
 choose-same-length-5 t c = c .before .before .seek-held .kept .1 .0
 
--- src/lib.rt:259:1
 choose-returns-5 : (t : ℕ) → choose-lts.Need-returns-5 (choose-calls t) (choose-at t) choose.Post
 choose-returns-5 t c = c .before .before .seek-held .ensures
 
--- src/lib.rt:259:1
 choose-same-length-6 : (t : ℕ) → choose-lts.Need-same-length-6 (choose-calls t) (choose-at t) choose.Post
 choose-same-length-6 t c = c .before .before .choose .kept .1 .0
 
--- src/lib.rt:259:1
 choose-returns-6 : (t : ℕ) → choose-lts.Need-returns-6 (choose-calls t) (choose-at t) choose.Post
 choose-returns-6 t c = let s = c .before .before .before .before .before .before .before .before .before .before .before .before in as-chosen (wanted (s .pre .1 .0) (s .pre .1 .1 .1) (c .before .before .before .before .before .before .before .course-at .ensures) (c .before .before .before .before .before .course4 .given .1)) (c .before .before .choose .ensures)
 
--- src/lib.rt:323:48
 choose-both-enum-told : (t : ℕ) → choose-both-lts.Need-enum-told (choose-both-calls t) (choose-both-at t) choose-both.Post
 choose-both-enum-told t c = search needs
 
--- src/lib.rt:323:31
 choose-both-seek-running-requires : (t : ℕ) → choose-both-lts.Need-seek-running-requires (choose-both-calls t) (choose-both-at t) choose-both.Post
 choose-both-seek-running-requires t c κs = let s = c .before .before .before .before .before .before in (omega (arith, s .pre .0), (wanted-both (s .pre .1 .0) (c .before .enum-told .given .1), s .pre .1 .1))
 
--- src/lib.rt:324:45
 choose-both-enum-told-2 : (t : ℕ) → choose-both-lts.Need-enum-told-2 (choose-both-calls t) (choose-both-at t) choose-both.Post
 choose-both-enum-told-2 t c = search needs
 
--- src/lib.rt:324:29
 choose-both-seek-choice-requires : (t : ℕ) → choose-both-lts.Need-seek-choice-requires (choose-both-calls t) (choose-both-at t) choose-both.Post
 choose-both-seek-choice-requires t c κs = let s = c .before .before .before .before .before .before in (omega (arith, s .pre .0), (wanted-both (s .pre .1 .0) (c .before .enum-told2 .given .1), s .pre .1 .1))
 
--- src/lib.rt:325:49
 choose-both-enum-told-3 : (t : ℕ) → choose-both-lts.Need-enum-told-3 (choose-both-calls t) (choose-both-at t) choose-both.Post
 choose-both-enum-told-3 t c = search needs
 
--- src/lib.rt:325:31
 choose-both-seek-parallel-requires : (t : ℕ) → choose-both-lts.Need-seek-parallel-requires (choose-both-calls t) (choose-both-at t) choose-both.Post
 choose-both-seek-parallel-requires t c κs = let s = c .before .before .before .before .before .before in (omega (arith, s .pre .0), (wanted-both (s .pre .1 .0) (c .before .enum-told3 .given .1), s .pre .1 .1))
 
--- src/lib.rt:308:1
 choose-both-same-length : (t : ℕ) → choose-both-lts.Need-same-length (choose-both-calls t) (choose-both-at t) choose-both.Post
 choose-both-same-length t c = c .before .before .seek-running .kept .1 .0
 
--- src/lib.rt:308:1
 choose-both-returns : (t : ℕ) → choose-both-lts.Need-returns (choose-both-calls t) (choose-both-at t) choose-both.Post
 choose-both-returns t c = c .before .before .seek-running .ensures
 
--- src/lib.rt:308:1
 choose-both-same-length-2 : (t : ℕ) → choose-both-lts.Need-same-length-2 (choose-both-calls t) (choose-both-at t) choose-both.Post
 choose-both-same-length-2 t c = c .before .before .seek-choice .kept .1 .0
 
--- src/lib.rt:308:1
 choose-both-returns-2 : (t : ℕ) → choose-both-lts.Need-returns-2 (choose-both-calls t) (choose-both-at t) choose-both.Post
 choose-both-returns-2 t c = c .before .before .seek-choice .ensures
 
--- src/lib.rt:308:1
 choose-both-same-length-3 : (t : ℕ) → choose-both-lts.Need-same-length-3 (choose-both-calls t) (choose-both-at t) choose-both.Post
 choose-both-same-length-3 t c = c .before .before .seek-parallel .kept .1 .0
 
--- src/lib.rt:308:1
 choose-both-returns-3 : (t : ℕ) → choose-both-lts.Need-returns-3 (choose-both-calls t) (choose-both-at t) choose-both.Post
 choose-both-returns-3 t c = c .before .before .seek-parallel .ensures
 
--- src/lib.rt:304:5
 choose-fresh-weigh-requires : (t : ℕ) → choose-fresh-lts.Need-weigh-requires (choose-fresh-calls t) (choose-fresh-at t) choose-fresh.Post
 choose-fresh-weigh-requires t c κs = c .before .before .before .before .pre .1 .spot
 
--- src/lib.rt:305:27
 choose-fresh-slice-aggregate-choose-both :
     (t : ℕ) → choose-fresh-lts.Need-slice-aggregate-choose-both (choose-fresh-calls t) (choose-fresh-at t) choose-fresh.Post
 choose-fresh-slice-aggregate-choose-both t c = sym (c .before .before .weigh .ensures .1 .0 .long)
 
--- src/lib.rt:305:5
 choose-fresh-choose-both-requires : (t : ℕ) → choose-fresh-lts.Need-choose-both-requires (choose-fresh-calls t) (choose-fresh-at t) choose-fresh.Post
 choose-fresh-choose-both-requires t c κs = let s = c .before .before .before .before .before .before .before in (omega (arith, s .pre .0), (s .pre .1, c .before .before .weigh .ensures .1 .0))
 
--- src/lib.rt:291:1
 choose-fresh-same-length : (t : ℕ) → choose-fresh-lts.Need-same-length (choose-fresh-calls t) (choose-fresh-at t) choose-fresh.Post
 choose-fresh-same-length t c = c .before .before .choose-both .kept .1 .0
 
--- src/lib.rt:291:1
 choose-fresh-returns : (t : ℕ) → choose-fresh-lts.Need-returns (choose-fresh-calls t) (choose-fresh-at t) choose-fresh.Post
 choose-fresh-returns t c = c .before .before .choose-both .ensures
 
--- src/lib.rt:447:9
 seek-choice-weight-by-requires : (t : ℕ) → seek-choice-lts.Need-weight-by-requires (seek-choice-calls t) (seek-choice-at t) seek-choice.Post
 seek-choice-weight-by-requires t c κs = let s = c .before .before .before .before in first-row (s .pre .1 .0) (s .pre .1 .1)
 
--- src/lib.rt:449:9
 seek-choice-seek-marked-requires : (t : ℕ) → seek-choice-lts.Need-seek-marked-requires (seek-choice-calls t) (seek-choice-at t) seek-choice.Post
 seek-choice-seek-marked-requires t c κs = let s = c .before .before .before .before .before .before .before .before in let d = choice-weight (s .pre .1 .0) (s .pre .1 .1) (c .before .before .before .weight-by .ensures) in (omega (arith, s .pre .0), (choice-first-below (s .pre .1 .0) d (c .before .if1 .taken), first-known (s .pre .1 .0) (s .pre .1 .1)))
 
--- src/lib.rt:449:9
 seek-choice-same-length : (t : ℕ) → seek-choice-lts.Need-same-length (seek-choice-calls t) (seek-choice-at t) seek-choice.Post
 seek-choice-same-length t c = c .before .before .seek-marked .kept .1 .0
 
--- src/lib.rt:449:9
 seek-choice-returns : (t : ℕ) → seek-choice-lts.Need-returns (seek-choice-calls t) (seek-choice-at t) seek-choice.Post
 seek-choice-returns t c = let s = c .before .before .before .before .before .before .before .before .before .before .before in let d = choice-weight (s .pre .1 .0) (s .pre .1 .1) (c .before .before .before .before .before .before .weight-by .ensures) in choice-first (s .pre .1 .0) d (c .before .before .before .before .if1 .taken) (c .before .before .seek-marked .ensures)
 
--- src/lib.rt:456:5
 seek-choice-seek-marked-requires-2 : (t : ℕ) → seek-choice-lts.Need-seek-marked-requires-2 (seek-choice-calls t) (seek-choice-at t) seek-choice.Post
 seek-choice-seek-marked-requires-2 t c κs = let s = c .before .before .before .before .before .before .before .before .before in let d = choice-weight (s .pre .1 .0) (s .pre .1 .1) (c .before .before .before .before .weight-by .ensures) in (omega (arith, s .pre .0), (choice-second-below (s .pre .1 .0) d (c .before .before .if1 .left), second-known (s .pre .1 .0) (s .pre .1 .1)))
 
--- src/lib.rt:441:1
 seek-choice-same-length-2 : (t : ℕ) → seek-choice-lts.Need-same-length-2 (seek-choice-calls t) (seek-choice-at t) seek-choice.Post
 seek-choice-same-length-2 t c = c .before .before .seek-marked2 .kept .1 .0
 
--- src/lib.rt:441:1
 seek-choice-returns-2 : (t : ℕ) → seek-choice-lts.Need-returns-2 (seek-choice-calls t) (seek-choice-at t) seek-choice.Post
 seek-choice-returns-2 t c = let s = c .before .before .before .before .before .before .before .before .before .before .before .before in let d = choice-weight (s .pre .1 .0) (s .pre .1 .1) (c .before .before .before .before .before .before .before .weight-by .ensures) in choice-second (s .pre .1 .0) d (c .before .before .before .before .before .if1 .left) (c .before .before .seek-marked2 .ensures)
 
--- src/lib.rt:408:9
 seek-held-count-std-requires : (t : ℕ) → seek-held-lts.Need-count-std-requires (seek-held-calls t) (seek-held-at t) seek-held.Post
 seek-held-count-std-requires t c κs = held-spot (c .before .before .before .before .before .pre .1 .0)
 
--- src/lib.rt:414:5
 seek-held-seek-second-requires : (t : ℕ) → seek-held-lts.Need-seek-second-requires (seek-held-calls t) (seek-held-at t) seek-held.Post
 seek-held-seek-second-requires t c κs = let s = c .before .before .before .before .before .before .before in (omega (arith, s .pre .0), (held-wanted (s .pre .1 .0) (c .before .count-std .ensures), held-known (s .pre .1 .0) (s .pre .1 .1)))
 
--- src/lib.rt:402:1
 seek-held-same-length : (t : ℕ) → seek-held-lts.Need-same-length (seek-held-calls t) (seek-held-at t) seek-held.Post
 seek-held-same-length t c = c .before .before .seek-second .kept .1 .0
 
--- src/lib.rt:402:1
 seek-held-returns : (t : ℕ) → seek-held-lts.Need-returns (seek-held-calls t) (seek-held-at t) seek-held.Post
 seek-held-returns t c = held-chosen (c .before .before .before .before .before .before .before .before .before .before .pre .1 .0) (c .before .before .seek-second .ensures)
 
--- src/lib.rt:368:5
 seek-marked-set-mode-requires : (t : ℕ) → seek-marked-lts.Need-set-mode-requires (seek-marked-calls t) (seek-marked-at t) seek-marked.Post
 seek-marked-set-mode-requires t c κs = c .before .before .before .before .pre .1 .0 .spot .room
 
--- src/lib.rt:369:5
 seek-marked-choose-requires : (t : ℕ) → seek-marked-lts.Need-choose-requires (seek-marked-calls t) (seek-marked-at t) seek-marked.Post
 seek-marked-choose-requires t c κs = 
     let s = c .before .before .before .before .before .before .before .before in
@@ -413,31 +363,24 @@ seek-marked-choose-requires t c κs =
     let l = kid-lower (s .args .ns .now) (b .spot .node .sound .tree) (b .kid) in
     (omega (arith, s .pre .0), (below-spot _ e b, (below-known _ e b (s .pre .1 .1), (b .closes, below-room _ e b))))
 
--- src/lib.rt:354:1
 seek-marked-same-length : (t : ℕ) → seek-marked-lts.Need-same-length (seek-marked-calls t) (seek-marked-at t) seek-marked.Post
 seek-marked-same-length t c = c .before .before .choose .kept .1 .0 ∙ c .before .before .before .before .before .before .set-mode .kept .0
 
--- src/lib.rt:354:1
 seek-marked-returns : (t : ℕ) → seek-marked-lts.Need-returns (seek-marked-calls t) (seek-marked-at t) seek-marked.Post
 seek-marked-returns t c = below-chosen _ (c .before .before .before .before .before .before .set-mode .ensures) (c .before .before .before .before .before .before .before .before .before .before .before .pre .1 .0) (c .before .before .choose .ensures)
 
--- src/lib.rt:466:9
 seek-parallel-word-at-requires : (t : ℕ) → seek-parallel-lts.Need-word-at-requires (seek-parallel-calls t) (seek-parallel-at t) seek-parallel.Post
 seek-parallel-word-at-requires t c κs = let s = c .before .before .before .before in first-row (s .pre .1 .0) (s .pre .1 .1)
 
--- src/lib.rt:467:9
 seek-parallel-word-at-requires-2 : (t : ℕ) → seek-parallel-lts.Need-word-at-requires-2 (seek-parallel-calls t) (seek-parallel-at t) seek-parallel.Post
 seek-parallel-word-at-requires-2 t c κs = let s = c .before .before .before .before .before in second-row (s .pre .1 .0) (s .pre .1 .1)
 
--- src/lib.rt:468:9
 seek-parallel-first-ending-requires : (t : ℕ) → seek-parallel-lts.Need-first-ending-requires (seek-parallel-calls t) (seek-parallel-at t) seek-parallel.Post
 seek-parallel-first-ending-requires t c κs = c .before .before .before .before .before .before .pre .1 .0 .closes
 
--- src/lib.rt:476:9
 seek-parallel-beside-requires : (t : ℕ) → seek-parallel-lts.Need-beside-requires (seek-parallel-calls t) (seek-parallel-at t) seek-parallel.Post
 seek-parallel-beside-requires t c κs = (c .before .before .before .before .before .before .before .before .pre .1 .0 .closes, c .before .first-ending .ensures .small)
 
--- src/lib.rt:469:9
 seek-parallel-choose-requires : (t : ℕ) → seek-parallel-lts.Need-choose-requires (seek-parallel-calls t) (seek-parallel-at t) seek-parallel.Post
 seek-parallel-choose-requires t c κs = 
     let s = c .before .before .before .before .before .before .before .before .before in
@@ -445,15 +388,12 @@ seek-parallel-choose-requires t c κs =
     let f = c .before .before .first-ending .ensures in
     (omega (arith, s .pre .0, first-lower h), (first-spot h, (first-known h (s .pre .1 .1), (f .small, par-first-room h (s .pre .1 .1) (c .before .before .before .before .word-at .ensures) (c .before .before .before .word-at2 .ensures) f (c .beside .ensures)))))
 
--- src/lib.rt:479:9
 seek-parallel-weight-within-requires : (t : ℕ) → seek-parallel-lts.Need-weight-within-requires (seek-parallel-calls t) (seek-parallel-at t) seek-parallel.Post
 seek-parallel-weight-within-requires t c κs = search needs
 
--- src/lib.rt:480:9
 seek-parallel-second-ending-requires : (t : ℕ) → seek-parallel-lts.Need-second-ending-requires (seek-parallel-calls t) (seek-parallel-at t) seek-parallel.Post
 seek-parallel-second-ending-requires t c κs = (c .before .before .before .before .before .before .before .before .before .before .before .before .before .pre .1 .0 .closes, c .before .before .before .before .before .before .first-ending .ensures .small)
 
--- src/lib.rt:481:9
 seek-parallel-choose-requires-2 : (t : ℕ) → seek-parallel-lts.Need-choose-requires-2 (seek-parallel-calls t) (seek-parallel-at t) seek-parallel.Post
 seek-parallel-choose-requires-2 t c κs = 
     let s = c .before .before .before .before .before .before .before .before .before .before .before .before .before .before .before in
@@ -461,25 +401,20 @@ seek-parallel-choose-requires-2 t c κs =
     let x = c .before .before .before .before .before .choose in
     (omega (arith, s .pre .0, second-lower h), (same-room (second-spot h) (x .kept .1 .0), (second-still h (s .pre .1 .1) (x .ensures .kept), (c .before .second-ending .ensures .small, par-second-room h (s .pre .1 .1) (c .before .before .before .before .before .before .before .before .before .before .word-at .ensures) (c .before .before .before .before .before .before .before .before .before .word-at2 .ensures) (c .before .before .before .before .before .before .before .before .first-ending .ensures) (c .before .before .before .before .before .before .beside .ensures) (x .ensures) (c .before .before .weight-within .ensures) (c .before .second-ending .ensures)))))
 
--- src/lib.rt:484:16
 seek-parallel-sum-requires : (t : ℕ) → seek-parallel-lts.Need-sum-requires (seek-parallel-calls t) (seek-parallel-at t) seek-parallel.Post
 seek-parallel-sum-requires t c κs = search needs
 
--- src/lib.rt:459:1
 seek-parallel-same-length : (t : ℕ) → seek-parallel-lts.Need-same-length (seek-parallel-calls t) (seek-parallel-at t) seek-parallel.Post
 seek-parallel-same-length t c = c .before .before .before .before .before .choose2 .kept .1 .0 ∙ c .before .before .before .before .before .before .before .before .before .before .before .choose .kept .1 .0
 
--- src/lib.rt:459:1
 seek-parallel-returns : (t : ℕ) → seek-parallel-lts.Need-returns (seek-parallel-calls t) (seek-parallel-at t) seek-parallel.Post
 seek-parallel-returns t c = 
     let s = c .before .before .before .before .before .before .before .before .before .before .before .before .before .before .before .before .before .before .before .before .before in
     rw (c .before .before .sum .ensures) (par-chosen (s .pre .1 .0) (s .pre .1 .1) (c .before .before .before .before .before .before .before .before .before .before .before .before .before .before .before .before .word-at .ensures) (c .before .before .before .before .before .before .before .before .before .before .before .before .before .before .before .word-at2 .ensures) (c .before .before .before .before .before .before .before .before .before .before .before .before .before .before .first-ending .ensures) (c .before .before .before .before .before .before .before .before .before .before .before .before .beside .ensures) (c .before .before .before .before .before .before .before .before .before .before .before .choose .ensures) (c .before .before .before .before .before .before .before .before .weight-within .ensures) (c .before .before .before .before .before .before .before .second-ending .ensures) (c .before .before .before .before .before .choose2 .ensures))
 
--- src/lib.rt:423:9
 seek-running-own-weight-requires : (t : ℕ) → seek-running-lts.Need-own-weight-requires (seek-running-calls t) (seek-running-at t) seek-running.Post
 seek-running-own-weight-requires t c κs = let s = c .before .before .before in first-row (s .pre .1 .0) (s .pre .1 .1)
 
--- src/lib.rt:425:9
 seek-running-seek-marked-requires : (t : ℕ) → seek-running-lts.Need-seek-marked-requires (seek-running-calls t) (seek-running-at t) seek-running.Post
 seek-running-seek-marked-requires t c κs = 
     let s = c .before .before .before .before .before .before .before in
@@ -487,11 +422,9 @@ seek-running-seek-marked-requires t c κs =
     let d = own-weight h (s .pre .1 .1) (c .before .before .before .own-weight .ensures) in
     (omega (arith, s .pre .0), (own-below h d (c .before .if1 .taken), first-known h (s .pre .1 .1)))
 
--- src/lib.rt:425:9
 seek-running-same-length : (t : ℕ) → seek-running-lts.Need-same-length (seek-running-calls t) (seek-running-at t) seek-running.Post
 seek-running-same-length t c = c .before .before .seek-marked .kept .1 .0
 
--- src/lib.rt:425:9
 seek-running-returns : (t : ℕ) → seek-running-lts.Need-returns (seek-running-calls t) (seek-running-at t) seek-running.Post
 seek-running-returns t c = 
     let s = c .before .before .before .before .before .before .before .before .before .before in
@@ -499,11 +432,9 @@ seek-running-returns t c =
     let d = own-weight h (s .pre .1 .1) (c .before .before .before .before .before .before .own-weight .ensures) in
     own-chosen h d (c .before .before .before .before .if1 .taken) (c .before .before .seek-marked .ensures)
 
--- src/lib.rt:427:9
 seek-running-weight-before-requires : (t : ℕ) → seek-running-lts.Need-weight-before-requires (seek-running-calls t) (seek-running-at t) seek-running.Post
 seek-running-weight-before-requires t c κs = let s = c .before .before .before .before .before .before in second-row (s .pre .1 .0) (s .pre .1 .1)
 
--- src/lib.rt:428:9
 seek-running-choose-requires : (t : ℕ) → seek-running-lts.Need-choose-requires (seek-running-calls t) (seek-running-at t) seek-running.Post
 seek-running-choose-requires t c κs = 
     let s = c .before .before .before .before .before .before .before .before .before in
@@ -513,7 +444,6 @@ seek-running-choose-requires t c κs =
     let l = first-lower h in
     (omega (arith, s .pre .0, l), (first-spot h, (first-known h (s .pre .1 .1), (omega arith, both-room h d (c .before .before .before .if1 .left) e))))
 
--- src/lib.rt:438:5
 seek-running-seek-second-requires : (t : ℕ) → seek-running-lts.Need-seek-second-requires (seek-running-calls t) (seek-running-at t) seek-running.Post
 seek-running-seek-second-requires t c κs = 
     let s = c .before .before .before .before .before .before .before .before .before .before .before .before .before in
@@ -523,11 +453,9 @@ seek-running-seek-second-requires t c κs =
     let x = c .before .before .before .choose in
     (omega (arith, s .pre .0), (both-wanted h d (c .before .before .before .before .before .before .before .if1 .left) e (x .ensures) (x .kept .1 .0), second-still h (s .pre .1 .1) (x .ensures .kept)))
 
--- src/lib.rt:418:1
 seek-running-same-length-2 : (t : ℕ) → seek-running-lts.Need-same-length-2 (seek-running-calls t) (seek-running-at t) seek-running.Post
 seek-running-same-length-2 t c = c .before .before .seek-second .kept .1 .0 ∙ c .before .before .before .before .before .before .choose .kept .1 .0
 
--- src/lib.rt:418:1
 seek-running-returns-2 : (t : ℕ) → seek-running-lts.Need-returns-2 (seek-running-calls t) (seek-running-at t) seek-running.Post
 seek-running-returns-2 t c = 
     let s = c .before .before .before .before .before .before .before .before .before .before .before .before .before .before .before .before in
@@ -536,23 +464,18 @@ seek-running-returns-2 t c =
     let e = weight-before h (s .pre .1 .1) (c .before .before .before .before .before .before .before .before .before .weight-before .ensures) in
     both-chosen h d (c .before .before .before .before .before .before .before .before .before .before .if1 .left) e (c .before .before .before .before .before .before .choose .ensures) (c .before .before .seek-second .ensures)
 
--- src/lib.rt:388:9
 seek-second-weight-inside-requires : (t : ℕ) → seek-second-lts.Need-weight-inside-requires (seek-second-calls t) (seek-second-at t) seek-second.Post
 seek-second-weight-inside-requires t c κs = search needs
 
--- src/lib.rt:394:9
 seek-second-seek-marked-requires : (t : ℕ) → seek-second-lts.Need-seek-marked-requires (seek-second-calls t) (seek-second-at t) seek-second.Post
 seek-second-seek-marked-requires t c κs = let s = c .before .before .before .before .before in (omega (arith, s .pre .0), (second-below (s .pre .1 .0) (c .before .weight-inside .ensures), s .pre .1 .1))
 
--- src/lib.rt:397:16
 seek-second-moves-before-requires : (t : ℕ) → seek-second-lts.Need-moves-before-requires (seek-second-calls t) (seek-second-at t) seek-second.Post
 seek-second-moves-before-requires t c κs = search needs
 
--- src/lib.rt:373:1
 seek-second-same-length : (t : ℕ) → seek-second-lts.Need-same-length (seek-second-calls t) (seek-second-at t) seek-second.Post
 seek-second-same-length t c = c .before .before .before .before .before .seek-marked .kept .1 .0
 
--- src/lib.rt:373:1
 seek-second-returns : (t : ℕ) → seek-second-lts.Need-returns (seek-second-calls t) (seek-second-at t) seek-second.Post
 seek-second-returns t c = rw (c .before .before .moves-before .ensures) (second-chosen (c .before .before .before .before .before .before .before .before .before .before .before .pre .1 .0) (c .before .before .before .before .before .before .before .weight-inside .ensures) (c .before .before .before .before .before .seek-marked .ensures))
 

@@ -1,3 +1,5 @@
+-- `seek::weigh` meets its contract: it calls itself on falling node numbers, and each return is a lemma of Weighing, given what the
+-- code has learnt on its way there. Assumes nothing.
 use Rattle.seek.specs.Weighing.{basic-weighs, pair-weighs, both-weighs, held-weighs, as-weighs}
 use Rattle.counting.specs.CountLaws.{run-below}
 use Rattle.states.specs.ChildLaws.{lower-spot}
@@ -32,130 +34,105 @@ weigh-below t = and 3 weigh-kinds.ps (falls 3 weigh-kinds.ps _<_ μ-weigh t) wei
 abbrev weigh-calls : ℕ → weigh-lts.Claims
 weigh-calls t = (course-at-reads.Asked, course-at-reads.Learnt, basic-word-reads.Asked, basic-word-reads.Learnt, keep-reads.Asked, keep-reads.Learnt, count-run-reads.Asked, count-run-reads.Learnt, weigh-below t, weigh.Post, both-word-reads.Asked, both-word-reads.Learnt, count-std-reads.Asked, count-std-reads.Learnt, held-word-reads.Asked, held-word-reads.Learnt)
 
--- src/lib.rt:107:9
 weigh-course-at-requires : (t : ℕ) → weigh-lts.Need-course-at-requires (weigh-calls t) (weigh-at t) weigh.Post
 weigh-course-at-requires t c κs = c .before .before .pre .1
 
--- src/lib.rt:109:23
 weigh-enum-known-course : (t : ℕ) → weigh-lts.Need-enum-known-course (weigh-calls t) (weigh-at t) weigh.Post
 weigh-enum-known-course t c = search needs
 
--- src/lib.rt:109:45
 weigh-basic-word-requires : (t : ℕ) → weigh-lts.Need-basic-word-requires (weigh-calls t) (weigh-at t) weigh.Post
 weigh-basic-word-requires t c κs = search needs
 
--- src/lib.rt:109:34
 weigh-keep-requires : (t : ℕ) → weigh-lts.Need-keep-requires (weigh-calls t) (weigh-at t) weigh.Post
 weigh-keep-requires t c κs = let s = c .before .before .before .before .before .before .before .before .pre .1 in omega (arith, s .node .inside, s .node .sound .few)
 
--- src/lib.rt:111:17
 weigh-enum-told : (t : ℕ) → weigh-lts.Need-enum-told (weigh-calls t) (weigh-at t) weigh.Post
 weigh-enum-told t c = search needs
 
--- src/lib.rt:112:24
 weigh-count-run-requires : (t : ℕ) → weigh-lts.Need-count-run-requires (weigh-calls t) (weigh-at t) weigh.Post
 weigh-count-run-requires t c κs = c .before .before .before .before .before .before .before .pre .1
 
--- src/lib.rt:112:13
 weigh-keep-requires-2 : (t : ℕ) → weigh-lts.Need-keep-requires-2 (weigh-calls t) (weigh-at t) weigh.Post
 weigh-keep-requires-2 t c κs = let s = c .before .before .before .before .before .before .before .before .pre .1 in omega (arith, s .node .inside, s .node .sound .few)
 
--- src/lib.rt:114:22
 weigh-enum-known-course-2 : (t : ℕ) → weigh-lts.Need-enum-known-course-2 (weigh-calls t) (weigh-at t) weigh.Post
 weigh-enum-known-course-2 t c = search needs
 
--- src/lib.rt:115:17
 weigh-weigh-requires : (t : ℕ) → weigh-lts.Need-weigh-requires (weigh-calls t) (weigh-at t) weigh.Post
 weigh-weigh-requires t c κs = 
     let s = c .before .before .before .before .before .before .before in
     let low = run-below (s .pre .1) (s .args .a) (c .before .before .before .before .course-at .ensures) (c .before .before .course2 .given .1) .0 in
     (omega (arith, s .pre .0, low), lower-spot (s .pre .1) low)
 
--- src/lib.rt:116:17
 weigh-weigh-requires-2 : (t : ℕ) → weigh-lts.Need-weigh-requires-2 (weigh-calls t) (weigh-at t) weigh.Post
 weigh-weigh-requires-2 t c κs = 
     let s = c .before .before .before .before .before .before .before .before .before in
     let low = run-below (s .pre .1) (s .args .a) (c .before .before .before .before .before .before .course-at .ensures) (c .before .before .before .before .course2 .given .1) .1 in
     (omega (arith, s .pre .0, low), lower-spot (s .pre .1) low)
 
--- src/lib.rt:117:24
 weigh-both-word-requires : (t : ℕ) → weigh-lts.Need-both-word-requires (weigh-calls t) (weigh-at t) weigh.Post
 weigh-both-word-requires t c κs = search needs
 
--- src/lib.rt:117:13
 weigh-keep-requires-3 : (t : ℕ) → weigh-lts.Need-keep-requires-3 (weigh-calls t) (weigh-at t) weigh.Post
 weigh-keep-requires-3 t c κs = let s = c .before .before .before .before .before .before .before .before .before .before .before .before .pre .1 in omega (arith, s .node .inside, s .node .sound .few)
 
--- src/lib.rt:119:22
 weigh-enum-known-course-3 : (t : ℕ) → weigh-lts.Need-enum-known-course-3 (weigh-calls t) (weigh-at t) weigh.Post
 weigh-enum-known-course-3 t c = search needs
 
--- src/lib.rt:121:17
 weigh-count-std-requires : (t : ℕ) → weigh-lts.Need-count-std-requires (weigh-calls t) (weigh-at t) weigh.Post
 weigh-count-std-requires t c κs = 
     let s = c .before .before .before .before .before .before .before in
     let low = run-below (s .pre .1) (s .args .a) (c .before .before .before .before .course-at .ensures) (c .before .before .course3 .given .1) .0 in
     lower-spot (s .pre .1) low
 
--- src/lib.rt:122:17
 weigh-weigh-requires-3 : (t : ℕ) → weigh-lts.Need-weigh-requires-3 (weigh-calls t) (weigh-at t) weigh.Post
 weigh-weigh-requires-3 t c κs = 
     let s = c .before .before .before .before .before .before .before .before .before in
     let low = run-below (s .pre .1) (s .args .a) (c .before .before .before .before .before .before .course-at .ensures) (c .before .before .before .before .course3 .given .1) .1 in
     (omega (arith, s .pre .0, low), lower-spot (s .pre .1) low)
 
--- src/lib.rt:123:24
 weigh-held-word-requires : (t : ℕ) → weigh-lts.Need-held-word-requires (weigh-calls t) (weigh-at t) weigh.Post
 weigh-held-word-requires t c κs = search needs
 
--- src/lib.rt:123:13
 weigh-keep-requires-4 : (t : ℕ) → weigh-lts.Need-keep-requires-4 (weigh-calls t) (weigh-at t) weigh.Post
 weigh-keep-requires-4 t c κs = let s = c .before .before .before .before .before .before .before .before .before .before .before .before .pre .1 in omega (arith, s .node .inside, s .node .sound .few)
 
--- src/lib.rt:125:20
 weigh-enum-known-course-4 : (t : ℕ) → weigh-lts.Need-enum-known-course-4 (weigh-calls t) (weigh-at t) weigh.Post
 weigh-enum-known-course-4 t c = search needs
 
--- src/lib.rt:126:17
 weigh-weigh-requires-4 : (t : ℕ) → weigh-lts.Need-weigh-requires-4 (weigh-calls t) (weigh-at t) weigh.Post
 weigh-weigh-requires-4 t c κs = 
     let s = c .before .before .before .before .before .before .before in
     let low = run-below (s .pre .1) (s .args .a) (c .before .before .before .before .course-at .ensures) (c .before .before .course4 .given .1) in
     (omega (arith, s .pre .0, low), lower-spot (s .pre .1) low)
 
--- src/lib.rt:127:13
 weigh-keep-requires-5 : (t : ℕ) → weigh-lts.Need-keep-requires-5 (weigh-calls t) (weigh-at t) weigh.Post
 weigh-keep-requires-5 t c κs = let s = c .before .before .before .before .before .before .before .before .before .pre .1 in omega (arith, s .node .inside, s .node .sound .few)
 
--- src/lib.rt:101:1
 weigh-returns : (t : ℕ) → weigh-lts.Need-returns (weigh-calls t) (weigh-at t) weigh.Post
 weigh-returns t c = 
     let s = c .before .before .before .before .before .before .before .before .before in
     let runs = sym (c .before .before .before .before .before .before .course-at .ensures) ∙ c .before .before .before .before .course .given .1 in
     basic-weighs (s .pre .1) (s .args .a) (c .keep .ensures) runs refl (c .before .basic-word .ensures)
 
--- src/lib.rt:101:1
 weigh-returns-2 : (t : ℕ) → weigh-lts.Need-returns-2 (weigh-calls t) (weigh-at t) weigh.Post
 weigh-returns-2 t c = 
     let s = c .before .before .before .before .before .before .before .before .before in
     let runs = sym (c .before .before .before .before .before .before .course-at .ensures) ∙ c .before .before .before .before .enum-told .given .1 in
     pair-weighs (s .pre .1) (s .args .a) (c .keep2 .ensures) runs refl (c .before .count-run .ensures)
 
--- src/lib.rt:101:1
 weigh-returns-3 : (t : ℕ) → weigh-lts.Need-returns-3 (weigh-calls t) (weigh-at t) weigh.Post
 weigh-returns-3 t c = 
     let s = c .before .before .before .before .before .before .before .before .before .before .before .before .before in
     let runs = sym (c .before .before .before .before .before .before .before .before .before .before .course-at .ensures) ∙ c .before .before .before .before .before .before .before .before .course2 .given .1 in
     both-weighs (s .pre .1) (s .args .a) (c .keep3 .ensures) runs (c .before .before .before .before .before .weigh .ensures) (c .before .before .before .weigh2 .ensures) (c .before .both-word .ensures)
 
--- src/lib.rt:101:1
 weigh-returns-4 : (t : ℕ) → weigh-lts.Need-returns-4 (weigh-calls t) (weigh-at t) weigh.Post
 weigh-returns-4 t c = 
     let s = c .before .before .before .before .before .before .before .before .before .before .before .before .before in
     let runs = sym (c .before .before .before .before .before .before .before .before .before .before .course-at .ensures) ∙ c .before .before .before .before .before .before .before .before .course3 .given .1 in
     held-weighs (s .pre .1) (s .args .a) (c .keep4 .ensures) runs (c .before .before .before .before .before .count-std .ensures) (c .before .before .before .weigh3 .ensures) (c .before .held-word .ensures)
 
--- src/lib.rt:101:1
 weigh-returns-5 : (t : ℕ) → weigh-lts.Need-returns-5 (weigh-calls t) (weigh-at t) weigh.Post
 weigh-returns-5 t c = 
     let s = c .before .before .before .before .before .before .before .before .before .before in

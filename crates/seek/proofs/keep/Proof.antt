@@ -4,43 +4,31 @@ use Rattle.seek.specs.Weighing.{written-by}
 use borrow.Author.Needs.{needs}
 use Rattle.seek.proofs.keep.Statement.{statement}
 use Rattle.seek.proofs.keep.Tie as tie
-use Rattle.seek.proofs.keep.Reads as reads
-use Rattle.seek.proofs.keep.Lts as lts
-use Rattle.seek.proofs.put.Reads as put-reads
 
--- src/lib.rt:94:12
 mul-put : tie.Need-mul-put
 mul-put c = search needs
 
--- src/lib.rt:94:5
 put-requires : tie.Need-put-requires
 put-requires c κs = search needs
 
--- src/lib.rt:95:12
 mul-put-2 : tie.Need-mul-put-2
 mul-put-2 c = search needs
 
--- src/lib.rt:95:12
 add-put : tie.Need-add-put
 add-put c = search needs
 
--- src/lib.rt:95:5
 put-requires-2 : tie.Need-put-requires-2
 put-requires-2 c κs = search needs
 
--- src/lib.rt:96:12
 mul-put-3 : tie.Need-mul-put-3
 mul-put-3 c = search needs
 
--- src/lib.rt:96:12
 add-put-2 : tie.Need-add-put-2
 add-put-2 c = search needs
 
--- src/lib.rt:96:5
 put-requires-3 : tie.Need-put-requires-3
 put-requires-3 c κs = search needs
 
--- src/lib.rt:89:1
 returns : tie.Need-returns
 returns c = (refl, written-by (c .before .before .before .before .before .before .args .x) (search needs) (c .before .before .before .before .put .ensures) (c .before .before .put2 .ensures) (c .put3 .ensures))
 

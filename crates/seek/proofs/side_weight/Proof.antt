@@ -5,32 +5,22 @@ use Rattle.tallies.specs.BareLaws.{nothing-weighs}
 use borrow.Author.Needs.{needs}
 use Rattle.seek.proofs.side_weight.Statement.{statement}
 use Rattle.seek.proofs.side_weight.Tie as tie
-use Rattle.seek.proofs.side_weight.Reads as reads
-use Rattle.seek.proofs.side_weight.Lts as lts
-use Rattle.seek.proofs.beside.Reads as beside-reads
-use Rattle.tallies.proofs.tally_by.Reads as tally-by-reads
-use Rattle.tallies.proofs.weight_total.Reads as weight-total-reads
 
--- src/lib.rt:200:9
 tally-by-requires : tie.Need-tally-by-requires
 tally-by-requires c κs = search needs
 
--- src/lib.rt:202:9
 returns : tie.Need-returns
 returns c =
     let k = c .before .before .before .before .tally-by in
     let g = besideG (partnersT (c .before .before .before .before .before .args .q) (closing (c .before .before .before .before .before .args .w)) (closing (c .before .before .before .before .before .args .x))) (c .before .before .before .before .before .args .g) in
     nothing-weighs (k .result) g (c .if1 .taken) ∙ ap (λ x. total x g) (k .ensures)
 
--- src/lib.rt:204:30
 beside-requires : tie.Need-beside-requires
 beside-requires c κs = search needs
 
--- src/lib.rt:204:5
 weight-total-requires : tie.Need-weight-total-requires
 weight-total-requires c κs = search needs
 
--- src/lib.rt:196:1
 returns-2 : tie.Need-returns-2
 returns-2 c = cc
 

@@ -2,20 +2,13 @@
 use borrow.Author.Needs.{needs}
 use Rattle.seek.proofs.weight_before.Statement.{statement}
 use Rattle.seek.proofs.weight_before.Tie as tie
-use Rattle.seek.proofs.weight_before.Reads as reads
-use Rattle.seek.proofs.weight_before.Lts as lts
-use Rattle.seek.proofs.tally_at.Reads as tally-at-reads
-use Rattle.tallies.proofs.weight_after.Reads as weight-after-reads
 
--- src/lib.rt:177:27
 tally-at-requires : tie.Need-tally-at-requires
 tally-at-requires c κs = search needs
 
--- src/lib.rt:177:5
 weight-after-requires : tie.Need-weight-after-requires
 weight-after-requires c κs = search needs
 
--- src/lib.rt:173:1
 returns : tie.Need-returns
 returns c = cc
 

@@ -4,43 +4,31 @@ use Rattle.seek.specs.Weighed.{row}
 use borrow.Author.Needs.{needs}
 use Rattle.seek.proofs.word_at.Statement.{statement}
 use Rattle.seek.proofs.word_at.Tie as tie
-use Rattle.seek.proofs.word_at.Reads as reads
-use Rattle.seek.proofs.word_at.Lts as lts
-use Rattle.seek.proofs.share.Reads as share-reads
 
--- src/lib.rt:139:24
 mul-share : tie.Need-mul-share
 mul-share c = search needs
 
--- src/lib.rt:139:15
 share-requires : tie.Need-share-requires
 share-requires c κs = search needs
 
--- src/lib.rt:140:29
 mul-share-2 : tie.Need-mul-share-2
 mul-share-2 c = search needs
 
--- src/lib.rt:140:29
 add-share : tie.Need-add-share
 add-share c = search needs
 
--- src/lib.rt:140:20
 share-requires-2 : tie.Need-share-requires-2
 share-requires-2 c κs = search needs
 
--- src/lib.rt:141:26
 mul-share-3 : tie.Need-mul-share-3
 mul-share-3 c = search needs
 
--- src/lib.rt:141:26
 add-share-2 : tie.Need-add-share-2
 add-share-2 c = search needs
 
--- src/lib.rt:141:17
 share-requires-3 : tie.Need-share-requires-3
 share-requires-3 c κs = search needs
 
--- src/lib.rt:133:1
 returns : tie.Need-returns
 unfolding row
 returns c = λ z. worded 0 (c .before .before .share .ensures z) (c .before .share2 .ensures z) (c .share3 .ensures z)
