@@ -1,28 +1,26 @@
 -- Laws of the table of running parts: what is right for a node is right for the parts that run in it (`weighed-live`); it depends only
 -- on the modes and rows under the node (`weighed-same`, `weighed-rows`); and how it comes to be right, from part to whole. Assumes nothing.
-use Prim.Native.Nat.{ℕ, _+_, _*_, _<_, _≤_}
+use Prim.Native.Nat.{ℕ}
 use mathlib.Core.Path.{_≡_, refl, sym, _∙_, ap, subst}
 use mathlib.Core.List.{List}
-use mathlib.Core.Logic.{_⊎_, inl, inr, _≢_}
-use native.Mathlib.Omega.{arith}
+use mathlib.Core.Logic.{inl, inr}
 use lib.ListN.{length}
 use Rattle.flow.specs.Kinds.{node, shape}
 use Rattle.flow.specs.Shapes.{Kid}
-use Rattle.flow.specs.Trees.{Under, self, up, Tree}
+use Rattle.flow.specs.Trees.{Under, self, Tree}
 use Rattle.flow.specs.Nodes.{under-kid, under-trans}
-use Rattle.tallies.specs.declared.Word.{Word}
 use Rattle.tallies.specs.Counts.{word}
 use Rattle.tallies.specs.Bare.{bareW}
 use Rattle.states.specs.declared.Course.{Course}
 use Rattle.states.specs.declared.Course.the-variants as course
 use Rattle.states.specs.Standings.{course-of}
-use Rattle.states.specs.State.{part, modes}
+use Rattle.states.specs.State.{modes}
 use Rattle.states.specs.StateLaws.{part-frame}
-use Rattle.states.specs.LiveParts.{Twins, CRests}
+use Rattle.states.specs.LiveParts.{CRests}
 use Rattle.states.specs.Rests.{course-rests}
-use Rattle.states.specs.Contracts.{Spot, Scene, scene}
-use Rattle.seek.specs.Asked.{course-at, runs}
-use Rattle.seek.specs.Weighed.{row, Written, RowsKept, Live, RunsIn, itself, inside, Weighed, Known}
+use Rattle.states.specs.Contracts.{scene}
+use Rattle.seek.specs.Asked.{course-at}
+use Rattle.seek.specs.Weighed.{row, Live, RunsIn, itself, inside, Weighed, Known}
 
 -- Parts that run in a node ----------------------------------------------------------------------------------------------
 

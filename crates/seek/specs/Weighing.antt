@@ -14,7 +14,7 @@ use Rattle.flow.specs.declared.Operator.{Operator}
 use Rattle.flow.specs.declared.Two.{Two}
 use Rattle.flow.specs.Kinds.{shape}
 use Rattle.flow.specs.Shapes.{Kid}
-use Rattle.flow.specs.Trees.{Under, self, Tree}
+use Rattle.flow.specs.Trees.{self, Tree}
 use Rattle.flow.specs.Nodes.{under-kid}
 use Rattle.tallies.specs.declared.Tally.{Tally}
 use Rattle.tallies.specs.declared.View.{View}
@@ -22,10 +22,9 @@ use Rattle.tallies.specs.declared.Word.{Word}
 use Rattle.tallies.specs.Formulas.{tallied, worded, heldW}
 use Rattle.tallies.specs.Counts.{word}
 use Rattle.tallies.specs.CountsLaws.{word-held}
-use Rattle.tallies.specs.Bare.{bareT, bareW}
+use Rattle.tallies.specs.Bare.{bareW}
 use Rattle.states.specs.declared.Sense.the-variants.{Undoing}
 use Rattle.states.specs.declared.Role.the-variants.{Plain, Running}
-use Rattle.states.specs.declared.Course.{Course}
 use Rattle.states.specs.declared.Course.the-variants as course
 use Rattle.states.specs.State.{run-of}
 use Rattle.states.specs.ChildLaws.{set-sets, not-own}

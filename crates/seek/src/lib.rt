@@ -13,52 +13,18 @@ use tallies::Weight;
 use tallies::Word;
 ghost use mathlib.Core.Path.{_≡_};
 ghost use mathlib.Core.Bool.{not, cond};
-ghost use Prim.Native.Nat.{_+_, _*_, _<_, _≤_};
+ghost use Prim.Native.Nat.{_+_, _*_, _<_};
 ghost use lib.Dec.{eqb};
 ghost use lib.ListN.{length, set};
 ghost use Rattle.calculus.specs.Term.{done, withdrawn};
-ghost use Rattle.calculus.specs.Successors.{comps};
 ghost use Rattle.flow.specs.declared.Operator.the-variants.{Sequence, Choice, Parallel};
 ghost use Rattle.tallies.specs.Capped.{cap};
-ghost use Rattle.tallies.specs.Counts.{tally, word};
+ghost use Rattle.tallies.specs.Counts.{word};
 ghost use Rattle.tallies.specs.Formulas.{closing, whenT, byW, total, afterG, besideG, partnersT, fittingT};
-ghost use Rattle.tallies.specs.Bare.{bareT, bareW};
 ghost use Rattle.states.specs.declared.Course.the-variants.{Pair, Both, Held};
 ghost use Rattle.states.specs.Contracts.{Spot, scene, weight-of, ask, Chosen};
-ghost use Rattle.seek.specs.Asked.{Fallen, runs, own-of, course-at, asked, Wanted, Below, SecondWanted, SecondChosen, PairChosen};
+ghost use Rattle.seek.specs.Asked.{Fallen, runs, course-at, asked, Wanted, Below, SecondWanted, SecondChosen, PairChosen};
 ghost use Rattle.seek.specs.Weighed.{share, Shared, row, Written, RowsKept, Weighed, Known};
-
-// Weights -----------------------------------------------------------------------------------------------------------
-
-// On which of three endings a number falls, and how far into its weight.
-struct Fall {
-    ending: u8,
-    rest: u32,
-}
-
-// Where the first two of them weigh x and y.
-fn ending_at(x: u32, y: u32, j: u32) -> Fall
-    ensures { λ r. ⌜ Fallen x y j (r .ending) (r .rest) ⌝ }
-{
-    if j < x {
-        return Fall {
-            ending: tallies::RANK_DONE,
-            rest: j,
-        };
-    }
-    let k = j - x;
-    if k < y {
-        Fall {
-            ending: tallies::RANK_WITHDRAWN,
-            rest: k,
-        }
-    } else {
-        Fall {
-            ending: tallies::RANK_FAILED,
-            rest: k - y,
-        }
-    }
-}
 
 // What is known of running parts ------------------------------------------------------------------------------------
 
@@ -142,7 +108,39 @@ fn word_at(d: &[u32], i: usize) -> Word
     }
 }
 
-// What is kept of its compensations by w.
+// Weights -----------------------------------------------------------------------------------------------------------
+
+// On which of three endings a number falls, and how far into its weight.
+struct Fall {
+    ending: u8,
+    rest: u32,
+}
+
+// Where the first two of them weigh x and y.
+fn ending_at(x: u32, y: u32, j: u32) -> Fall
+    ensures { λ r. ⌜ Fallen x y j (r .ending) (r .rest) ⌝ }
+{
+    if j < x {
+        return Fall {
+            ending: tallies::RANK_DONE,
+            rest: j,
+        };
+    }
+    let k = j - x;
+    if k < y {
+        Fall {
+            ending: tallies::RANK_WITHDRAWN,
+            rest: k,
+        }
+    } else {
+        Fall {
+            ending: tallies::RANK_FAILED,
+            rest: k - y,
+        }
+    }
+}
+
+// What is kept of the compensations of node i's running part by w.
 fn tally_at(d: &[u32], i: usize, w: u8) -> Tally
     requires { ⌜ 9 * i + 8 < length (now d) ⌝ }
     ensures { λ r. ⌜ r ≡ byW (row (now (d .entry)) i) (closing w) ⌝ }
@@ -256,7 +254,16 @@ pub fn seek(ns: &[u16], t: &mut [u8], a: u16, i: usize, w: u8, g: Weight, j: u32
 }
 
 // With what d keeps of the part and of those that run in it, or nothing.
-pub fn choose(ns: &[u16], t: &mut [u8], a: u16, d: &[u32], i: usize, w: u8, g: Weight, j: u32) -> Picked
+pub fn choose(
+    ns: &[u16],
+    t: &mut [u8],
+    a: u16,
+    d: &[u32],
+    i: usize,
+    w: u8,
+    g: Weight,
+    j: u32,
+) -> Picked
     requires { ⌜ Spot (now ns) (now t) i ⌝ }
     requires { ⌜ Known (scene (now ns) (now t) a) (now d) i ⌝ }
     requires { ⌜ (w < 3) × (j < weight-of (scene (now ns) (now t) a) i (closing w) g) ⌝ }
@@ -456,7 +463,15 @@ fn seek_choice(ns: &[u16], t: &mut [u8], a: u16, d: &[u32], i: usize, two: Two, 
     seek_marked(ns, t, a, d, i, states::SECOND_TAKEN, two.second, rest)
 }
 
-fn seek_parallel(ns: &[u16], t: &mut [u8], a: u16, d: &[u32], i: usize, two: Two, q: Query) -> Picked
+fn seek_parallel(
+    ns: &[u16],
+    t: &mut [u8],
+    a: u16,
+    d: &[u32],
+    i: usize,
+    two: Two,
+    q: Query,
+) -> Picked
     requires { ⌜ Wanted (scene (now ns) (now t) a) i (Both Parallel two) (q .closing) (q .weight) (q .number) ⌝ }
     requires { ⌜ Weighed (scene (now ns) (now t) a) (now d) i ⌝ }
     ensures { λ r. ⌜ Chosen (scene (now (ns .entry)) (now (t .entry)) a) i (asked q) (now (t .exit)) r ⌝ }

@@ -225,7 +225,7 @@ choose-enum-known-course-4 : (t : ℕ) → choose-lts.Need-enum-known-course-4 (
 choose-enum-known-course-4 t c = search needs
 
 choose-choose-requires : (t : ℕ) → choose-lts.Need-choose-requires (choose-calls t) (choose-at t) choose.Post
-choose-choose-requires t c κs = 
+choose-choose-requires t c κs =
     let s = c .before .before .before .before .before .before .before .before .before in
     let h = wanted (s .pre .1 .0) (s .pre .1 .1 .1) (c .before .before .before .before .course-at .ensures) (c .before .before .course4 .given .1) in
     let l = as-lower h in
@@ -356,7 +356,7 @@ seek-marked-set-mode-requires : (t : ℕ) → seek-marked-lts.Need-set-mode-requ
 seek-marked-set-mode-requires t c κs = c .before .before .before .before .pre .1 .0 .spot .room
 
 seek-marked-choose-requires : (t : ℕ) → seek-marked-lts.Need-choose-requires (seek-marked-calls t) (seek-marked-at t) seek-marked.Post
-seek-marked-choose-requires t c κs = 
+seek-marked-choose-requires t c κs =
     let s = c .before .before .before .before .before .before .before .before in
     let b = s .pre .1 .0 in
     let e = c .before .before .before .set-mode .ensures in
@@ -382,7 +382,7 @@ seek-parallel-beside-requires : (t : ℕ) → seek-parallel-lts.Need-beside-requ
 seek-parallel-beside-requires t c κs = (c .before .before .before .before .before .before .before .before .pre .1 .0 .closes, c .before .first-ending .ensures .small)
 
 seek-parallel-choose-requires : (t : ℕ) → seek-parallel-lts.Need-choose-requires (seek-parallel-calls t) (seek-parallel-at t) seek-parallel.Post
-seek-parallel-choose-requires t c κs = 
+seek-parallel-choose-requires t c κs =
     let s = c .before .before .before .before .before .before .before .before .before in
     let h = s .pre .1 .0 in
     let f = c .before .before .first-ending .ensures in
@@ -395,7 +395,7 @@ seek-parallel-second-ending-requires : (t : ℕ) → seek-parallel-lts.Need-seco
 seek-parallel-second-ending-requires t c κs = (c .before .before .before .before .before .before .before .before .before .before .before .before .before .pre .1 .0 .closes, c .before .before .before .before .before .before .first-ending .ensures .small)
 
 seek-parallel-choose-requires-2 : (t : ℕ) → seek-parallel-lts.Need-choose-requires-2 (seek-parallel-calls t) (seek-parallel-at t) seek-parallel.Post
-seek-parallel-choose-requires-2 t c κs = 
+seek-parallel-choose-requires-2 t c κs =
     let s = c .before .before .before .before .before .before .before .before .before .before .before .before .before .before .before in
     let h = s .pre .1 .0 in
     let x = c .before .before .before .before .before .choose in
@@ -408,7 +408,7 @@ seek-parallel-same-length : (t : ℕ) → seek-parallel-lts.Need-same-length (se
 seek-parallel-same-length t c = c .before .before .before .before .before .choose2 .kept .1 .0 ∙ c .before .before .before .before .before .before .before .before .before .before .before .choose .kept .1 .0
 
 seek-parallel-returns : (t : ℕ) → seek-parallel-lts.Need-returns (seek-parallel-calls t) (seek-parallel-at t) seek-parallel.Post
-seek-parallel-returns t c = 
+seek-parallel-returns t c =
     let s = c .before .before .before .before .before .before .before .before .before .before .before .before .before .before .before .before .before .before .before .before .before in
     rw (c .before .before .sum .ensures) (par-chosen (s .pre .1 .0) (s .pre .1 .1) (c .before .before .before .before .before .before .before .before .before .before .before .before .before .before .before .before .word-at .ensures) (c .before .before .before .before .before .before .before .before .before .before .before .before .before .before .before .word-at2 .ensures) (c .before .before .before .before .before .before .before .before .before .before .before .before .before .before .first-ending .ensures) (c .before .before .before .before .before .before .before .before .before .before .before .before .beside .ensures) (c .before .before .before .before .before .before .before .before .before .before .before .choose .ensures) (c .before .before .before .before .before .before .before .before .weight-within .ensures) (c .before .before .before .before .before .before .before .second-ending .ensures) (c .before .before .before .before .before .choose2 .ensures))
 
@@ -416,7 +416,7 @@ seek-running-own-weight-requires : (t : ℕ) → seek-running-lts.Need-own-weigh
 seek-running-own-weight-requires t c κs = let s = c .before .before .before in first-row (s .pre .1 .0) (s .pre .1 .1)
 
 seek-running-seek-marked-requires : (t : ℕ) → seek-running-lts.Need-seek-marked-requires (seek-running-calls t) (seek-running-at t) seek-running.Post
-seek-running-seek-marked-requires t c κs = 
+seek-running-seek-marked-requires t c κs =
     let s = c .before .before .before .before .before .before .before in
     let h = s .pre .1 .0 in
     let d = own-weight h (s .pre .1 .1) (c .before .before .before .own-weight .ensures) in
@@ -426,7 +426,7 @@ seek-running-same-length : (t : ℕ) → seek-running-lts.Need-same-length (seek
 seek-running-same-length t c = c .before .before .seek-marked .kept .1 .0
 
 seek-running-returns : (t : ℕ) → seek-running-lts.Need-returns (seek-running-calls t) (seek-running-at t) seek-running.Post
-seek-running-returns t c = 
+seek-running-returns t c =
     let s = c .before .before .before .before .before .before .before .before .before .before in
     let h = s .pre .1 .0 in
     let d = own-weight h (s .pre .1 .1) (c .before .before .before .before .before .before .own-weight .ensures) in
@@ -436,7 +436,7 @@ seek-running-weight-before-requires : (t : ℕ) → seek-running-lts.Need-weight
 seek-running-weight-before-requires t c κs = let s = c .before .before .before .before .before .before in second-row (s .pre .1 .0) (s .pre .1 .1)
 
 seek-running-choose-requires : (t : ℕ) → seek-running-lts.Need-choose-requires (seek-running-calls t) (seek-running-at t) seek-running.Post
-seek-running-choose-requires t c κs = 
+seek-running-choose-requires t c κs =
     let s = c .before .before .before .before .before .before .before .before .before in
     let h = s .pre .1 .0 in
     let d = own-weight h (s .pre .1 .1) (c .before .before .before .before .before .own-weight .ensures) in
@@ -445,7 +445,7 @@ seek-running-choose-requires t c κs =
     (omega (arith, s .pre .0, l), (first-spot h, (first-known h (s .pre .1 .1), (omega arith, both-room h d (c .before .before .before .if1 .left) e))))
 
 seek-running-seek-second-requires : (t : ℕ) → seek-running-lts.Need-seek-second-requires (seek-running-calls t) (seek-running-at t) seek-running.Post
-seek-running-seek-second-requires t c κs = 
+seek-running-seek-second-requires t c κs =
     let s = c .before .before .before .before .before .before .before .before .before .before .before .before .before in
     let h = s .pre .1 .0 in
     let d = own-weight h (s .pre .1 .1) (c .before .before .before .before .before .before .before .before .before .own-weight .ensures) in
@@ -457,7 +457,7 @@ seek-running-same-length-2 : (t : ℕ) → seek-running-lts.Need-same-length-2 (
 seek-running-same-length-2 t c = c .before .before .seek-second .kept .1 .0 ∙ c .before .before .before .before .before .before .choose .kept .1 .0
 
 seek-running-returns-2 : (t : ℕ) → seek-running-lts.Need-returns-2 (seek-running-calls t) (seek-running-at t) seek-running.Post
-seek-running-returns-2 t c = 
+seek-running-returns-2 t c =
     let s = c .before .before .before .before .before .before .before .before .before .before .before .before .before .before .before .before in
     let h = s .pre .1 .0 in
     let d = own-weight h (s .pre .1 .1) (c .before .before .before .before .before .before .before .before .before .before .before .before .own-weight .ensures) in

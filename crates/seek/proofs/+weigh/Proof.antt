@@ -59,13 +59,13 @@ weigh-enum-known-course-2 : (t : ℕ) → weigh-lts.Need-enum-known-course-2 (we
 weigh-enum-known-course-2 t c = search needs
 
 weigh-weigh-requires : (t : ℕ) → weigh-lts.Need-weigh-requires (weigh-calls t) (weigh-at t) weigh.Post
-weigh-weigh-requires t c κs = 
+weigh-weigh-requires t c κs =
     let s = c .before .before .before .before .before .before .before in
     let low = run-below (s .pre .1) (s .args .a) (c .before .before .before .before .course-at .ensures) (c .before .before .course2 .given .1) .0 in
     (omega (arith, s .pre .0, low), lower-spot (s .pre .1) low)
 
 weigh-weigh-requires-2 : (t : ℕ) → weigh-lts.Need-weigh-requires-2 (weigh-calls t) (weigh-at t) weigh.Post
-weigh-weigh-requires-2 t c κs = 
+weigh-weigh-requires-2 t c κs =
     let s = c .before .before .before .before .before .before .before .before .before in
     let low = run-below (s .pre .1) (s .args .a) (c .before .before .before .before .before .before .course-at .ensures) (c .before .before .before .before .course2 .given .1) .1 in
     (omega (arith, s .pre .0, low), lower-spot (s .pre .1) low)
@@ -80,13 +80,13 @@ weigh-enum-known-course-3 : (t : ℕ) → weigh-lts.Need-enum-known-course-3 (we
 weigh-enum-known-course-3 t c = search needs
 
 weigh-count-std-requires : (t : ℕ) → weigh-lts.Need-count-std-requires (weigh-calls t) (weigh-at t) weigh.Post
-weigh-count-std-requires t c κs = 
+weigh-count-std-requires t c κs =
     let s = c .before .before .before .before .before .before .before in
     let low = run-below (s .pre .1) (s .args .a) (c .before .before .before .before .course-at .ensures) (c .before .before .course3 .given .1) .0 in
     lower-spot (s .pre .1) low
 
 weigh-weigh-requires-3 : (t : ℕ) → weigh-lts.Need-weigh-requires-3 (weigh-calls t) (weigh-at t) weigh.Post
-weigh-weigh-requires-3 t c κs = 
+weigh-weigh-requires-3 t c κs =
     let s = c .before .before .before .before .before .before .before .before .before in
     let low = run-below (s .pre .1) (s .args .a) (c .before .before .before .before .before .before .course-at .ensures) (c .before .before .before .before .course3 .given .1) .1 in
     (omega (arith, s .pre .0, low), lower-spot (s .pre .1) low)
@@ -101,7 +101,7 @@ weigh-enum-known-course-4 : (t : ℕ) → weigh-lts.Need-enum-known-course-4 (we
 weigh-enum-known-course-4 t c = search needs
 
 weigh-weigh-requires-4 : (t : ℕ) → weigh-lts.Need-weigh-requires-4 (weigh-calls t) (weigh-at t) weigh.Post
-weigh-weigh-requires-4 t c κs = 
+weigh-weigh-requires-4 t c κs =
     let s = c .before .before .before .before .before .before .before in
     let low = run-below (s .pre .1) (s .args .a) (c .before .before .before .before .course-at .ensures) (c .before .before .course4 .given .1) in
     (omega (arith, s .pre .0, low), lower-spot (s .pre .1) low)
@@ -110,31 +110,31 @@ weigh-keep-requires-5 : (t : ℕ) → weigh-lts.Need-keep-requires-5 (weigh-call
 weigh-keep-requires-5 t c κs = let s = c .before .before .before .before .before .before .before .before .before .pre .1 in omega (arith, s .node .inside, s .node .sound .few)
 
 weigh-returns : (t : ℕ) → weigh-lts.Need-returns (weigh-calls t) (weigh-at t) weigh.Post
-weigh-returns t c = 
+weigh-returns t c =
     let s = c .before .before .before .before .before .before .before .before .before in
     let runs = sym (c .before .before .before .before .before .before .course-at .ensures) ∙ c .before .before .before .before .course .given .1 in
     basic-weighs (s .pre .1) (s .args .a) (c .keep .ensures) runs refl (c .before .basic-word .ensures)
 
 weigh-returns-2 : (t : ℕ) → weigh-lts.Need-returns-2 (weigh-calls t) (weigh-at t) weigh.Post
-weigh-returns-2 t c = 
+weigh-returns-2 t c =
     let s = c .before .before .before .before .before .before .before .before .before in
     let runs = sym (c .before .before .before .before .before .before .course-at .ensures) ∙ c .before .before .before .before .enum-told .given .1 in
     pair-weighs (s .pre .1) (s .args .a) (c .keep2 .ensures) runs refl (c .before .count-run .ensures)
 
 weigh-returns-3 : (t : ℕ) → weigh-lts.Need-returns-3 (weigh-calls t) (weigh-at t) weigh.Post
-weigh-returns-3 t c = 
+weigh-returns-3 t c =
     let s = c .before .before .before .before .before .before .before .before .before .before .before .before .before in
     let runs = sym (c .before .before .before .before .before .before .before .before .before .before .course-at .ensures) ∙ c .before .before .before .before .before .before .before .before .course2 .given .1 in
     both-weighs (s .pre .1) (s .args .a) (c .keep3 .ensures) runs (c .before .before .before .before .before .weigh .ensures) (c .before .before .before .weigh2 .ensures) (c .before .both-word .ensures)
 
 weigh-returns-4 : (t : ℕ) → weigh-lts.Need-returns-4 (weigh-calls t) (weigh-at t) weigh.Post
-weigh-returns-4 t c = 
+weigh-returns-4 t c =
     let s = c .before .before .before .before .before .before .before .before .before .before .before .before .before in
     let runs = sym (c .before .before .before .before .before .before .before .before .before .before .course-at .ensures) ∙ c .before .before .before .before .before .before .before .before .course3 .given .1 in
     held-weighs (s .pre .1) (s .args .a) (c .keep4 .ensures) runs (c .before .before .before .before .before .count-std .ensures) (c .before .before .before .weigh3 .ensures) (c .before .held-word .ensures)
 
 weigh-returns-5 : (t : ℕ) → weigh-lts.Need-returns-5 (weigh-calls t) (weigh-at t) weigh.Post
-weigh-returns-5 t c = 
+weigh-returns-5 t c =
     let s = c .before .before .before .before .before .before .before .before .before .before in
     let runs = sym (c .before .before .before .before .before .before .before .course-at .ensures) ∙ c .before .before .before .before .before .course4 .given .1 in
     as-weighs (s .pre .1) (s .args .a) (c .keep5 .ensures) runs (c .before .before .weigh4 .ensures)
