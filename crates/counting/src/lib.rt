@@ -62,7 +62,7 @@ fn both_view(operator: Operator, p: View, q: View) -> View
     }
 }
 
-fn basic_word(simple: Simple) -> Word
+pub fn basic_word(simple: Simple) -> Word
     ensures { λ r. ⌜ r ≡ simpleW simple ⌝ }
 {
     match simple {
@@ -72,7 +72,7 @@ fn basic_word(simple: Simple) -> Word
     }
 }
 
-fn both_word(operator: Operator, p: Word, q: Word) -> Word
+pub fn both_word(operator: Operator, p: Word, q: Word) -> Word
     ensures { λ r. ⌜ r ≡ operatorW operator p q ⌝ }
 {
     match operator {

@@ -1,15 +1,15 @@
 -- Why each way through the search is right: one lemma for each call that the code makes and for each way in which it returns. Each
 -- takes what the code has learnt, in the code's order; what it says of terms is in SeekLaws of the crate below. Assumes nothing.
-use Prim.Native.Nat.{ℕ, _+_, _-_, _<_, _≤_}
+use Prim.Native.Nat.{ℕ, _+_, _*_, _-_, _<_, _≤_}
 use mathlib.Core.Path.{_≡_, refl, sym, _∙_, ap, subst}
 use mathlib.Core.Bool.{true, not, _&&_, cond}
 use mathlib.Core.List.{List, map}
-use mathlib.Core.Logic.{_≢_}
+use mathlib.Core.Logic.{inl, inr, _≢_}
 use native.Mathlib.Omega.{arith}
 use lib.Dec.{eqb}
 use lib.ListN.{length, set}
-use Rattle.calculus.specs.Term.{done, withdrawn, Std, Cmp, skip, seq, par, pair, cseq, held}
-use Rattle.calculus.specs.Successors.{eqc, only, comps}
+use Rattle.calculus.specs.Term.{Closing, done, withdrawn, skip, seq, par, pair, cseq, held}
+use Rattle.calculus.specs.Successors.{comps}
 use Rattle.flow.specs.declared.Simple.{Simple}
 use Rattle.flow.specs.declared.Simple.the-variants.{Skip, Throw, Yield}
 use Rattle.flow.specs.declared.Operator.{Operator}
@@ -22,10 +22,11 @@ use Rattle.flow.specs.Trees.{Tree}
 use Rattle.flow.specs.NodeChildren.{two-kids, kids-disjoint}
 use Rattle.tallies.specs.Capped.{cap}
 use Rattle.tallies.specs.Counts.{sum-of, moves, view, tally, word, weight}
-use Rattle.tallies.specs.CountsLaws.{tally-only, weight-total}
+use Rattle.tallies.specs.CountsLaws.{by-word}
 use Rattle.tallies.specs.Formulas.{closing, whenT, byW, total, afterG, insideG, besideG, withinG, fittingT, partnersT}
-use Rattle.tallies.specs.SeekLaws.{eqc-done, closing-other, view-moves, view-able, seek-pair, seek-pair-skip, seek-skip, seek-calt-first, seek-calt-room, seek-calt-second, seek-second-room, seek-second, seek-held-room, seek-held, seek-own-room, seek-own, seek-both-room, seek-both-rest, seek-both, seek-par-first-room, seek-par-second-room, seek-par}
-use Rattle.tallies.specs.declared.Tally.{Tally}
+use Rattle.tallies.specs.Bare.{bareW}
+use Rattle.tallies.specs.BareLaws.{total-by-bare, total-when-bare, after-by-bare, beside-partners-bare, side-bare, fitting-bare}
+use Rattle.tallies.specs.SeekLaws.{eqc-done, closing-other, total-by, total-when, view-moves, view-able, seek-pair, seek-pair-skip, seek-skip, seek-calt-first, seek-calt-room, seek-calt-second, seek-second-room, seek-second, seek-held-room, seek-held, seek-own-room, seek-own, seek-both-room, seek-both-rest, seek-both, seek-par-first-room, seek-par-second-room, seek-par}
 use Rattle.tallies.specs.declared.View.{View}
 use Rattle.tallies.specs.declared.Word.{Word}
 use Rattle.tallies.specs.declared.Weight.{Weight}
@@ -39,20 +40,37 @@ use Rattle.states.specs.Standings.{first-taken, second-taken, left-second, left
 use Rattle.states.specs.State.{std-of, run-of, part, modes}
 use Rattle.states.specs.StateLaws.{std-part}
 use Rattle.states.specs.LiveParts.{Twins}
-use Rattle.states.specs.Contracts.{Spot, Sets, scene, weight-of, ask, Counted, Chosen}
-use Rattle.states.specs.ChildLaws.{set-sets, lower-spot, same-room, kept-set, kept-part, kid-lower, kept-kid, own-kept, same-part, spot-down}
+use Rattle.states.specs.Contracts.{Spot, Kept, Sets, Scene, scene, weight-of, ask, Counted, Chosen}
+use Rattle.states.specs.ChildLaws.{set-sets, not-own, lower-spot, same-room, kept-set, kept-part, kid-lower, kept-kid, own-kept, same-part, spot-down}
 use Rattle.seek.specs.Asked.{Fallen, course-at, runs, left, picked, Picks, own-of, Wanted, Below, seconds, SecondWanted, SecondChosen, PairChosen}
+use Rattle.seek.specs.Weighed.{row, Live, itself, Weighed, Known}
+use Rattle.seek.specs.WeighedLaws.{weighed-live, known-live, known-same}
 use Rattle.seek.specs.NodeLaws.{course-runs, course-kids, course-node, left-is, room-is, sought-is, marked-picks, marked-mode, marked-kept, marked-beside}
 
--- What is weighed ---------------------------------------------------------------------------------------------------------------
+-- What is read from the table ------------------------------------------------------------------------------------------------
 
-module _ (a : ℕ) (g : Weight) where
-  pub weighed : (l : List Std) {x : Tally} {r : ℕ} → x ≡ tally a l → r ≡ total x g → r ≡ cap (sum-of (weight a g) l)
-  weighed l e d = d ∙ ap (λ x. total x g) e ∙ weight-total a g l
+module _ {ns t : List ℕ} {a i : ℕ} {d : List ℕ} (k : Weighed (scene ns t a) d i) where
+  row-is : row d i ≡ bareW (word a (runs ns t i))
+  row-is = k .right i (itself refl)
 
-  -- none where the closing is done
-  pub own-weighed : (pp : Cmp) (w : ℕ) {x y : Tally} {r : ℕ} → x ≡ tally a (comps pp (closing w)) → y ≡ whenT (not (eqb w 0)) x → r ≡ total y g → r ≡ cap (sum-of (weight a g) (only (not (eqc (closing w) done)) (comps pp (closing w))))
-  own-weighed pp w e f d = rw eqc-done (weighed (only (not (eqb w 0)) (comps pp (closing w))) (f ∙ ap (whenT (not (eqb w 0))) e ∙ sym (tally-only a (not (eqb w 0)) (comps pp (closing w)))) d)
+  row-room : Spot ns t i → 9 * i + 8 < length d
+  row-room spot = omega (arith, k .long, spot .node .inside, spot .node .sound .few)
+
+  module _ (w : ℕ) (g : Weight) where
+    weight-read : {r : ℕ} → r ≡ total (byW (row d i) (closing w)) g → r ≡ weight-of (scene ns t a) i (closing w) g
+    weight-read e = total-by a g _ (closing w) refl refl (e ∙ ap (λ x. total (byW x (closing w)) g) row-is ∙ total-by-bare _ (closing w) g)
+
+    -- none where the closing is done
+    own-read : {r : ℕ} → r ≡ total (whenT (not (eqb w 0)) (byW (row d i) (closing w))) g → r ≡ own-of (scene ns t a) i (closing w) g
+    own-read e = rw eqc-done (total-when a g _ (closing w) (not (eqb w 0)) refl (e ∙ ap (λ x. total (whenT (not (eqb w 0)) (byW x (closing w))) g) row-is ∙ total-when-bare _ (closing w) g (not (eqb w 0))))
+
+    before-read : {r : Weight} → r ≡ afterG (byW (row d i) (closing w)) g → r ≡ afterG (tally a (comps (runs ns t i) (closing w))) g
+    before-read e = e ∙ ap (λ x. afterG (byW x (closing w)) g) row-is ∙ after-by-bare _ (closing w) g ∙ ap (λ x. afterG x g) (by-word a (runs ns t i) (closing w))
+
+-- something is kept
+pub known-some : {s : Scene} {d : List ℕ} {i : ℕ} → Known s d i → length d ≢ 0 → Weighed s d i
+known-some (inl e) n = absurd (n e)
+known-some (inr k) n = k
 
 -- A node by its course ---------------------------------------------------------------------------------------------------------
 
@@ -60,9 +78,8 @@ pub wanted : {ns t : List ℕ} {a i w : ℕ} {g : Weight} {j : ℕ} {r x : Cours
 wanted spot q e d = record { spot = spot; is = sym e ∙ d; closes = q .0; room = q .1 }
 
 -- by its operator too
-pub wanted-both : {ns t : List ℕ} {a i w : ℕ} {g : Weight} {j : ℕ} {r : Course} {o o′ : Operator} {two : Two} → Spot ns t i → (w < 3) × (j < weight-of (scene ns t a) i (closing w) g) → r ≡ course-at ns t i → r ≡ course.Both o two → o ≡ o′
-    → Wanted (scene ns t a) i (course.Both o′ two) w g j
-wanted-both {two} spot q e d f = wanted spot q e (d ∙ ap (λ o. course.Both o two) f)
+pub wanted-both : {s : Scene} {i w : ℕ} {g : Weight} {j : ℕ} {o o′ : Operator} {two : Two} → Wanted s i (course.Both o two) w g j → o ≡ o′ → Wanted s i (course.Both o′ two) w g j
+wanted-both {s} {i} {w} {g} {j} {two = two} h e = subst (λ o. Wanted s i (course.Both o two) w g j) e h
 
 -- A node gets a mode, and a child is sought in ----------------------------------------------------------------------------------
 
@@ -75,6 +92,9 @@ module _ {ns t : List ℕ} {a i : ℕ} (m : ℕ) {c w : ℕ} {g : Weight} {j : �
 
   pub below-room : j < weight-of (scene ns t₁ a) c (closing w) g
   below-room = room-is a g (closing w) (ap (λ p. p .run) (sym (same-part ns (b .spot .node .sound .tree) (b .kid) below-sets))) (b .room)
+
+  pub below-known : {d : List ℕ} → Known (scene ns t a) d c → Known (scene ns t₁ a) d c
+  below-known {d} = known-same ns (b .spot .node .sound .tree) a t t₁ d c (λ j u. sym (below-sets .others j (not-own ns (b .spot .node .sound .tree) (b .kid) u)))
 
   pub below-chosen : {t′ : List ℕ} {p : Picked} → Chosen (scene ns t₁ a) c (ask (closing w) g j) t′ p → Chosen (scene ns (set t i m) a) c (ask (closing w) g j) t′ p
   below-chosen {t′} {p} h = subst (λ u. Chosen (scene ns u a) c (ask (closing w) g j) t′ p) e h
@@ -149,6 +169,9 @@ module _ {ns t : List ℕ} {a i c w : ℕ} {g : Weight} {j : ℕ} (h : Wanted (s
   pub as-room : j < weight-of (scene ns t a) c (closing w) g
   as-room = room-is a g (closing w) as-runs (h .room)
 
+  pub as-known : {d : List ℕ} → Known (scene ns t a) d i → Known (scene ns t a) d c
+  as-known = known-live (subst (λ x. Live x c) (sym (h .is)) refl)
+
   -- its mode stays, and says what it becomes too
   pub as-chosen : {t′ : List ℕ} {p : Picked} → Chosen (scene ns t a) c (ask (closing w) g j) t′ p → Chosen (scene ns t a) i (ask (closing w) g j) t′ p
   unfolding std-of
@@ -184,6 +207,29 @@ module _ {ns t : List ℕ} {a i w : ℕ} {g : Weight} {j : ℕ} {o : Operator} {
   pub second-spot : Spot ns t (two .second)
   second-spot = lower-spot (h .spot) second-lower
 
+  module _ {d : List ℕ} (k : Weighed (scene ns t a) d i) where
+    first-weighed : Weighed (scene ns t a) d (two .first)
+    first-weighed = weighed-live (subst (λ x. Live x (two .first)) (sym (h .is)) (inl refl)) k
+
+    second-weighed : Weighed (scene ns t a) d (two .second)
+    second-weighed = weighed-live (subst (λ x. Live x (two .second)) (sym (h .is)) (inr refl)) k
+
+    pub first-known : Known (scene ns t a) d (two .first)
+    first-known = inr first-weighed
+
+    pub second-known : Known (scene ns t a) d (two .second)
+    second-known = inr second-weighed
+
+    pub first-row : 9 * two .first + 8 < length d
+    first-row = row-room first-weighed first-spot
+
+    pub second-row : 9 * two .second + 8 < length d
+    second-row = row-room second-weighed second-spot
+
+    -- the first has become its compensation, and the second is as it was
+    pub second-still : {t₁ : List ℕ} → Kept ns (two .first) (modes t) (modes t₁) → Known (scene ns t₁ a) d (two .second)
+    second-still {t₁} x = known-same ns two-tree a t t₁ d (two .second) (λ j u. sym (x j (λ v. two-twins .free j v u))) second-known
+
   -- the mode m leaves the child c alone, and what is picked there is what is picked in the whole
   alone-chosen : (m : ℕ) {c n : ℕ} → Kid (shape ns) i c → stand Undoing (Compensable o two) m ≡ standings.only c Undoing → {t′ : List ℕ} {p : Picked}
       → (Picks a (ask (closing w) g n) (comps (runs ns t c) (closing w)) (left ns t′ c) p → Picks a (ask (closing w) g j) (comps (compensable o (runs ns t (two .first)) (runs ns t (two .second))) (closing w)) (left ns t′ c) p)
@@ -196,6 +242,9 @@ module _ {ns t : List ℕ} {a i w : ℕ} {g : Weight} {j : ℕ} {o : Operator} {
 -- PP□QQ ---------------------------------------------------------------------------------------------------------------------
 
 module _ {ns t : List ℕ} {a i w : ℕ} {g : Weight} {j : ℕ} {two : Two} (h : Wanted (scene ns t a) i (course.Both Choice two) w g j) where
+  pub choice-weight : {d : List ℕ} → Weighed (scene ns t a) d i → {c : ℕ} → c ≡ total (byW (row d (two .first)) (closing w)) g → c ≡ weight-of (scene ns t a) (two .first) (closing w) g
+  choice-weight k = weight-read (first-weighed h k) w g
+
   -- the first's compensations weigh c
   module _ {c : ℕ} (d : c ≡ weight-of (scene ns t a) (two .first) (closing w) g) where
     module _ (lt : j < c) where
@@ -253,6 +302,9 @@ module _ {ns t : List ℕ} {a i w : ℕ} {g : Weight} {j : ℕ} {two : Two} (h :
   pub held-spot : Spot ns t (two .first)
   held-spot = lower-spot (h .spot) (kid-lower ns held-tree (held-twins .one))
 
+  pub held-known : {d : List ℕ} → Known (scene ns t a) d i → Known (scene ns t a) d (two .second)
+  held-known = known-live (subst (λ x. Live x (two .second)) (sym (h .is)) refl)
+
   pub held-wanted : {c c′ : List ℕ} {v : View} → Counted (scene ns t a) (Plain Undoing) (two .first) c c′ v → SecondWanted (scene ns t a) i two w g (picked j (v .moves) (v .done))
   held-wanted x = record {
     spot = h .spot;
@@ -271,6 +323,13 @@ module _ {ns t : List ℕ} {a i w : ℕ} {g : Weight} {j : ℕ} {two : Two} (h :
 -- PP;QQ whose PP runs -------------------------------------------------------------------------------------------------------
 
 module _ {ns t : List ℕ} {a i w : ℕ} {g : Weight} {j : ℕ} {two : Two} (h : Wanted (scene ns t a) i (course.Both Sequence two) w g j) where
+  module _ {d : List ℕ} (k : Weighed (scene ns t a) d i) where
+    pub own-weight : {c : ℕ} → c ≡ total (whenT (not (eqb w 0)) (byW (row d (two .first)) (closing w))) g → c ≡ own-of (scene ns t a) (two .first) (closing w) g
+    own-weight = own-read (first-weighed h k) w g
+
+    pub weight-before : {g₁ : Weight} → g₁ ≡ afterG (byW (row d (two .second)) (closing w)) g → g₁ ≡ afterG (tally a (comps (runs ns t (two .second)) (closing w))) g
+    weight-before = before-read (second-weighed h k) w g
+
   module _ {c : ℕ} (d : c ≡ own-of (scene ns t a) (two .first) (closing w) g) where
     -- PP closes by w
     module _ (lt : j < c) where
@@ -311,17 +370,39 @@ module _ {ns t : List ℕ} {a i w : ℕ} {g : Weight} {j : ℕ} {two : Two} (h :
 
 -- PP∥QQ ---------------------------------------------------------------------------------------------------------------------
 
-module _ {ns t : List ℕ} {a i w : ℕ} {g : Weight} {j : ℕ} {two : Two} (h : Wanted (scene ns t a) i (course.Both Parallel two) w g j) where
-  module _ {p q : Word} (ep : p ≡ word a (runs ns t (two .first))) (eq : q ≡ word a (runs ns t (two .second))) {x r : ℕ} (fx : Fallen (total (byW p done) (besideG (partnersT q (closing w) done) g)) (total (byW p withdrawn) (besideG (partnersT q (closing w) withdrawn) g)) j x r) {g₁ : Weight} (e₁ : g₁ ≡ besideG (partnersT q (closing w) (closing x)) g) where
+module _ {ns t : List ℕ} {a i w : ℕ} {g : Weight} {j : ℕ} {two : Two} (h : Wanted (scene ns t a) i (course.Both Parallel two) w g j) {d : List ℕ} (weighed : Weighed (scene ns t a) d i) where
+  abbrev first-word : Word
+  first-word = word a (runs ns t (two .first))
+
+  abbrev second-word : Word
+  second-word = word a (runs ns t (two .second))
+
+  module _ {p q : Word} (ep : p ≡ row d (two .first)) (eq : q ≡ row d (two .second)) where
+    first-is : p ≡ bareW first-word
+    first-is = ep ∙ row-is (first-weighed h weighed)
+
+    second-is : q ≡ bareW second-word
+    second-is = eq ∙ row-is (second-weighed h weighed)
+
+    side-is : (x : Closing) → total (byW p x) (besideG (partnersT q (closing w) x) g) ≡ total (byW first-word x) (besideG (partnersT second-word (closing w) x) g)
+    side-is x = (λ z. total (byW (first-is z) x) (besideG (partnersT (second-is z) (closing w) x) g)) ∙ side-bare first-word second-word (closing w) x g
+
+    beside-is : (x : Closing) → besideG (partnersT q (closing w) x) g ≡ besideG (partnersT second-word (closing w) x) g
+    beside-is x = ap (λ q. besideG (partnersT q (closing w) x) g) second-is ∙ beside-partners-bare second-word (closing w) x g
+
+    fitting-is : (x y : Closing) (g₂ : Weight) → total (fittingT q (closing w) x y) g₂ ≡ total (fittingT second-word (closing w) x y) g₂
+    fitting-is x y g₂ = ap (λ q. total (fittingT q (closing w) x y) g₂) second-is ∙ fitting-bare second-word (closing w) x y g₂
+
+  module _ {p q : Word} (ep : p ≡ row d (two .first)) (eq : q ≡ row d (two .second)) {x r : ℕ} (fx : Fallen (total (byW p done) (besideG (partnersT q (closing w) done) g)) (total (byW p withdrawn) (besideG (partnersT q (closing w) withdrawn) g)) j x r) {g₁ : Weight} (e₁ : g₁ ≡ besideG (partnersT q (closing w) (closing x)) g) where
     pub par-first-room : r < weight-of (scene ns t a) (two .first) (closing x) g₁
-    par-first-room = seek-par-first-room a g _ _ (closing w) ep eq (two-room h) refl refl (fx .falls) e₁
+    par-first-room = seek-par-first-room a g _ _ (closing w) refl refl (two-room h) (side-is ep eq done) (side-is ep eq withdrawn) (fx .falls) (e₁ ∙ beside-is ep eq (closing x))
 
     module _ {t₁ : List ℕ} {k : Picked} (c₁ : Chosen (scene ns t a) (two .first) (ask (closing x) g₁ r) t₁ k) {g₂ : Weight} (e₂ : g₂ ≡ withinG g (k .moves) (k .able)) {y r₂ : ℕ} (fy : Fallen (total (fittingT q (closing w) (closing x) done) g₂) (total (fittingT q (closing w) (closing x) withdrawn) g₂) (k .rest) y r₂) where
       second-same : part ns (modes t₁) (two .second) ≡ part ns (modes t) (two .second)
       second-same = kept-part ns (two-tree h) (two .first) (two-twins h .free) (c₁ .kept)
 
       pub par-second-room : r₂ < weight-of (scene ns t₁ a) (two .second) (closing y) g₂
-      par-second-room = room-is a g₂ (closing y) (ap (λ p. p .run) (sym second-same)) (seek-par-second-room a g _ _ (closing w) ep eq (two-room h) refl refl (fx .falls) e₁ (c₁ .sought) e₂ refl refl (fy .falls))
+      par-second-room = room-is a g₂ (closing y) (ap (λ p. p .run) (sym second-same)) (seek-par-second-room a g _ _ (closing w) refl refl (two-room h) (side-is ep eq done) (side-is ep eq withdrawn) (fx .falls) (e₁ ∙ beside-is ep eq (closing x)) (c₁ .sought) e₂ (fitting-is ep eq (closing x) done g₂) (fitting-is ep eq (closing x) withdrawn g₂) (fy .falls))
 
       pub par-chosen : {t₂ : List ℕ} {l : Picked} → Chosen (scene ns t₁ a) (two .second) (ask (closing y) g₂ r₂) t₂ l → Chosen (scene ns t a) i (ask (closing w) g j) t₂ (picked (l .rest) (cap (k .moves + l .moves)) (k .able && l .able))
       unfolding std-of stand stand-undoing undoing-two
@@ -331,6 +412,6 @@ module _ {ns t : List ℕ} {a i w : ℕ} {g : Weight} {j : ℕ} {two : Two} (h :
           let m : par (left ns t₁ (two .first)) (left ns t₂ (two .second)) ≡ left ns t₂ i = sym (o ∙ ap (λ p. par (p .std Undoing) (left ns t₂ (two .second))) z) in
           let v : Picks a (ask (closing y) g₂ r₂) (comps (runs ns t (two .second)) (closing y)) (left ns t₂ (two .second)) l = sought-is a g₂ (closing y) (ap (λ p. p .run) second-same) refl (c₂ .sought) in
           record {
-            sought = sought-is a g (closing w) (sym (two-runs h)) m (seek-par a g _ _ (closing w) ep eq (two-room h) refl refl (fx .falls) e₁ (c₁ .sought) e₂ refl refl (fy .falls) v);
+            sought = sought-is a g (closing w) (sym (two-runs h)) m (seek-par a g _ _ (closing w) refl refl (two-room h) (side-is ep eq done) (side-is ep eq withdrawn) (fx .falls) (e₁ ∙ beside-is ep eq (closing x)) (c₁ .sought) e₂ (fitting-is ep eq (closing x) done g₂) (fitting-is ep eq (closing x) withdrawn g₂) (fy .falls) v);
             kept = λ b u. kept-kid ns (two-tree h) (two-twins h .other) (c₂ .kept) b u ∙ kept-kid ns (two-tree h) (two-twins h .one) (c₁ .kept) b u;
           }

@@ -1,7 +1,8 @@
 // A running part ends by a closing and becomes one of its compensations: the one on which a number falls when each compensation
 // has a weight. The modes in t are those of the state before, and become those of the state after; the answer says how far into
 // the compensation the number falls, how many steps it has by the event and whether it can end done. A compensation without
-// weight is passed over without being looked at, however many there are.
+// weight is passed over without being looked at, however many there are. What is known of the parts that run is counted once, into
+// a table, and read from there: a choice looks at each part a few times.
 use flow::Operator;
 use flow::Two;
 use states::Course;
@@ -11,18 +12,101 @@ use tallies::Tally;
 use tallies::Weight;
 use tallies::Word;
 ghost use mathlib.Core.Path.{_≡_};
-ghost use mathlib.Core.Bool.{cond};
-ghost use Prim.Native.Nat.{_+_, _<_};
-ghost use lib.ListN.{set};
+ghost use mathlib.Core.Bool.{not, cond};
+ghost use Prim.Native.Nat.{_+_, _*_, _<_};
+ghost use lib.Dec.{eqb};
+ghost use lib.ListN.{length, set};
 ghost use Rattle.calculus.specs.Term.{done, withdrawn};
-ghost use Rattle.calculus.specs.Successors.{comps};
 ghost use Rattle.flow.specs.declared.Operator.the-variants.{Sequence, Choice, Parallel};
 ghost use Rattle.tallies.specs.Capped.{cap};
-ghost use Rattle.tallies.specs.Counts.{tally, word};
-ghost use Rattle.tallies.specs.Formulas.{closing, byW, total, afterG, besideG, partnersT, fittingT};
+ghost use Rattle.tallies.specs.Counts.{word};
+ghost use Rattle.tallies.specs.Formulas.{closing, whenT, byW, total, afterG, besideG, partnersT, fittingT};
 ghost use Rattle.states.specs.declared.Course.the-variants.{Pair, Both, Held};
 ghost use Rattle.states.specs.Contracts.{Spot, scene, weight-of, ask, Chosen};
-ghost use Rattle.seek.specs.Asked.{Fallen, runs, own-of, course-at, asked, Wanted, Below, SecondWanted, SecondChosen, PairChosen};
+ghost use Rattle.seek.specs.Asked.{Fallen, runs, course-at, asked, Wanted, Below, SecondWanted, SecondChosen, PairChosen};
+ghost use Rattle.seek.specs.Weighed.{share, Shared, row, Written, RowsKept, Weighed, Known};
+
+// What is known of running parts ------------------------------------------------------------------------------------
+
+// The three numbers of a tally that weights look at, at place k of the table. By what else compensations can end is not kept.
+fn share(d: &[u32], k: usize) -> Tally
+    requires { ⌜ k + 2 < length (now d) ⌝ }
+    ensures { λ r. ⌜ r ≡ share (now (d .entry)) k ⌝ }
+{
+    Tally {
+        many: d[k],
+        able: d[k + 1],
+        moves: d[k + 2],
+        withdraws: false,
+        fails: false,
+    }
+}
+
+fn put(d: &mut [u32], k: usize, x: Tally)
+    requires { ⌜ k + 2 < length (now d) ⌝ }
+    ensures { λ _. ⌜ Shared (now (d .entry)) k x (now (d .exit)) ⌝ }
+{
+    d[k] = x.many;
+    d[k + 1] = x.able;
+    d[k + 2] = x.moves;
+}
+
+// What is known of node i's running part is kept, nine numbers a node, and answered.
+fn keep(d: &mut [u32; 576], i: usize, x: Word) -> Word
+    requires { ⌜ i < 64 ⌝ }
+    ensures { λ r. ⌜ r ≡ x ⌝ }
+    ensures kept { λ _. ⌜ Written (now (d .entry)) i x (now (d .exit)) ⌝ }
+{
+    put(d, 9 * i, x.done);
+    put(d, 9 * i + 3, x.withdrawn);
+    put(d, 9 * i + 6, x.failed);
+    x
+}
+
+// The running part of node i is counted, and what is known of it and of each part that runs in it is kept.
+pub fn weigh(ns: &[u16], t: &[u8], a: u16, d: &mut [u32; 576], i: usize) -> Word
+    requires { ⌜ Spot (now ns) (now t) i ⌝ }
+    ensures { λ r. ⌜ r ≡ word a (runs (now (ns .entry)) (now (t .entry)) i) ⌝ }
+    ensures weighed { λ _. ⌜ Weighed (scene (now (ns .entry)) (now (t .entry)) a) (now (d .exit)) i ⌝ }
+    ensures kept { λ _. ⌜ RowsKept (now (ns .entry)) i (now (d .entry)) (now (d .exit)) ⌝ }
+{
+    let course = states::course_at(ns, t, i);
+    match course {
+        Course::Basic(simple) => keep(d, i, counting::basic_word(simple)),
+        Course::Pair(_) => {
+            let mut c = [0u32; 64];
+            keep(d, i, counting::count_run(ns, t, a, &mut c, i))
+        }
+        Course::Both(operator, two) => {
+            let p = weigh(ns, t, a, d, two.first);
+            let q = weigh(ns, t, a, d, two.second);
+            keep(d, i, counting::both_word(operator, p, q))
+        }
+        Course::Held(two) => {
+            let mut c = [0u32; 64];
+            let k = counting::count_std(ns, t, a, &mut c, two.first, Sense::Undoing);
+            let q = weigh(ns, t, a, d, two.second);
+            keep(d, i, tallies::held_word(q, k))
+        }
+        Course::As(child) => {
+            let w = weigh(ns, t, a, d, child);
+            keep(d, i, w)
+        }
+    }
+}
+
+// What is kept of node i's running part.
+fn word_at(d: &[u32], i: usize) -> Word
+    requires { ⌜ 9 * i + 8 < length (now d) ⌝ }
+    ensures { λ r. ⌜ r ≡ row (now (d .entry)) i ⌝ }
+{
+    Word {
+        moves: 0,
+        done: share(d, 9 * i),
+        withdrawn: share(d, 9 * i + 3),
+        failed: share(d, 9 * i + 6),
+    }
+}
 
 // Weights -----------------------------------------------------------------------------------------------------------
 
@@ -56,48 +140,39 @@ fn ending_at(x: u32, y: u32, j: u32) -> Fall
     }
 }
 
-// What is known of the running part of a node.
-fn word_at(ns: &[u16], t: &[u8], a: u16, i: usize) -> Word
-    requires { ⌜ Spot (now ns) (now t) i ⌝ }
-    ensures { λ r. ⌜ r ≡ word a (runs (now (ns .entry)) (now (t .entry)) i) ⌝ }
+// What is kept of the compensations of node i's running part by w.
+fn tally_at(d: &[u32], i: usize, w: u8) -> Tally
+    requires { ⌜ 9 * i + 8 < length (now d) ⌝ }
+    ensures { λ r. ⌜ r ≡ byW (row (now (d .entry)) i) (closing w) ⌝ }
 {
-    let mut c = [0u32; 64];
-    counting::count_run(ns, t, a, &mut c, i)
+    tallies::tally_by(word_at(d, i), w)
 }
 
-// What is known of its compensations by w.
-fn tally_at(ns: &[u16], t: &[u8], a: u16, i: usize, w: u8) -> Tally
-    requires { ⌜ Spot (now ns) (now t) i ⌝ }
-    ensures { λ r. ⌜ r ≡ tally a (comps (runs (now (ns .entry)) (now (t .entry)) i) (closing w)) ⌝ }
+// What all compensations of node i's running part by w weigh.
+fn weight_by(d: &[u32], i: usize, w: u8, g: Weight) -> u32
+    requires { ⌜ 9 * i + 8 < length (now d) ⌝ }
+    ensures { λ r. ⌜ r ≡ total (byW (row (now (d .entry)) i) (closing w)) g ⌝ }
 {
-    tallies::tally_by(word_at(ns, t, a, i), w)
-}
-
-// What all compensations of a running part by w weigh.
-fn weight_by(ns: &[u16], t: &[u8], a: u16, i: usize, w: u8, g: Weight) -> u32
-    requires { ⌜ Spot (now ns) (now t) i ⌝ }
-    ensures { λ r. ⌜ r ≡ weight-of (scene (now (ns .entry)) (now (t .entry)) a) i (closing w) g ⌝ }
-{
-    tallies::weight_total(tally_at(ns, t, a, i, w), g)
+    tallies::weight_total(tally_at(d, i, w), g)
 }
 
 // What the compensations of PP, node i, weigh in PP;QQ by w: nothing if w is done, since then QQ goes on.
-fn own_weight(ns: &[u16], t: &[u8], a: u16, i: usize, w: u8, g: Weight) -> u32
-    requires { ⌜ Spot (now ns) (now t) i ⌝ }
-    ensures { λ r. ⌜ r ≡ own-of (scene (now (ns .entry)) (now (t .entry)) a) i (closing w) g ⌝ }
+fn own_weight(d: &[u32], i: usize, w: u8, g: Weight) -> u32
+    requires { ⌜ 9 * i + 8 < length (now d) ⌝ }
+    ensures { λ r. ⌜ r ≡ total (whenT (not (eqb w 0)) (byW (row (now (d .entry)) i) (closing w))) g ⌝ }
 {
     tallies::weight_total(
-        tallies::tally_when(w != tallies::RANK_DONE, tally_at(ns, t, a, i, w)),
+        tallies::tally_when(w != tallies::RANK_DONE, tally_at(d, i, w)),
         g,
     )
 }
 
 // What a compensation of PP weighs with all those of QQ, node i, by w.
-fn weight_before(ns: &[u16], t: &[u8], a: u16, i: usize, w: u8, g: Weight) -> Weight
-    requires { ⌜ Spot (now ns) (now t) i ⌝ }
-    ensures { λ r. ⌜ r ≡ afterG (tally a (comps (runs (now (ns .entry)) (now (t .entry)) i) (closing w))) g ⌝ }
+fn weight_before(d: &[u32], i: usize, w: u8, g: Weight) -> Weight
+    requires { ⌜ 9 * i + 8 < length (now d) ⌝ }
+    ensures { λ r. ⌜ r ≡ afterG (byW (row (now (d .entry)) i) (closing w)) g ⌝ }
 {
-    tallies::weight_after(tally_at(ns, t, a, i, w), g)
+    tallies::weight_after(tally_at(d, i, w), g)
 }
 
 // The steps of l;k, where l has so many and can end done or not.
@@ -115,12 +190,16 @@ fn beside(q: Word, w: u8, x: u8, g: Weight) -> Weight
     tallies::weight_beside(tallies::partners(q, w, x), g)
 }
 
-// All those by x, with all that go with them.
+// All those by x, with all that go with them. Mostly there are none, and this is told before what goes with them is put together.
 fn side_weight(p: Word, q: Word, w: u8, x: u8, g: Weight) -> u32
     requires { ⌜ (w < 3) × (x < 3) ⌝ }
     ensures { λ r. ⌜ r ≡ total (byW p (closing x)) (besideG (partnersT q (closing w) (closing x)) g) ⌝ }
 {
-    tallies::weight_total(tallies::tally_by(p, x), beside(q, w, x, g))
+    let k = tallies::tally_by(p, x);
+    if (k.many == 0) & (k.able == 0) & (k.moves == 0) {
+        return 0;
+    }
+    tallies::weight_total(k, beside(q, w, x, g))
 }
 
 // By what the first side ends.
@@ -164,8 +243,29 @@ struct Query {
     number: u32,
 }
 
+// With nothing known yet.
 pub fn seek(ns: &[u16], t: &mut [u8], a: u16, i: usize, w: u8, g: Weight, j: u32) -> Picked
     requires { ⌜ Spot (now ns) (now t) i ⌝ }
+    requires { ⌜ (w < 3) × (j < weight-of (scene (now ns) (now t) a) i (closing w) g) ⌝ }
+    ensures { λ r. ⌜ Chosen (scene (now (ns .entry)) (now (t .entry)) a) i (ask (closing w) g j) (now (t .exit)) r ⌝ }
+{
+    let none = [0u32; 1];
+    choose(ns, t, a, &none[..0], i, w, g, j)
+}
+
+// With what d keeps of the part and of those that run in it, or nothing.
+pub fn choose(
+    ns: &[u16],
+    t: &mut [u8],
+    a: u16,
+    d: &[u32],
+    i: usize,
+    w: u8,
+    g: Weight,
+    j: u32,
+) -> Picked
+    requires { ⌜ Spot (now ns) (now t) i ⌝ }
+    requires { ⌜ Known (scene (now ns) (now t) a) (now d) i ⌝ }
     requires { ⌜ (w < 3) × (j < weight-of (scene (now ns) (now t) a) i (closing w) g) ⌝ }
     ensures { λ r. ⌜ Chosen (scene (now (ns .entry)) (now (t .entry)) a) i (ask (closing w) g j) (now (t .exit)) r ⌝ }
 {
@@ -182,13 +282,54 @@ pub fn seek(ns: &[u16], t: &mut [u8], a: u16, i: usize, w: u8, g: Weight, j: u32
             able: true,
         },
         Course::Pair(two) => seek_pair(ns, t, a, i, two, w, j),
-        Course::Both(operator, two) => match operator {
-            Operator::Sequence => seek_running(ns, t, a, i, two, q),
-            Operator::Choice => seek_choice(ns, t, a, i, two, q),
-            Operator::Parallel => seek_parallel(ns, t, a, i, two, q),
-        },
-        Course::Held(two) => seek_held(ns, t, a, i, two, q),
-        Course::As(child) => seek(ns, t, a, child, w, g, j),
+        Course::Both(operator, two) => {
+            if d.len() == 0 {
+                choose_fresh(ns, t, a, i, operator, two, q)
+            } else {
+                choose_both(ns, t, a, d, i, operator, two, q)
+            }
+        }
+        Course::Held(two) => seek_held(ns, t, a, d, i, two, q),
+        Course::As(child) => choose(ns, t, a, d, child, w, g, j),
+    }
+}
+
+// Both parts run, and nothing is known of them yet.
+fn choose_fresh(
+    ns: &[u16],
+    t: &mut [u8],
+    a: u16,
+    i: usize,
+    operator: Operator,
+    two: Two,
+    q: Query,
+) -> Picked
+    requires { ⌜ Wanted (scene (now ns) (now t) a) i (Both operator two) (q .closing) (q .weight) (q .number) ⌝ }
+    ensures { λ r. ⌜ Chosen (scene (now (ns .entry)) (now (t .entry)) a) i (asked q) (now (t .exit)) r ⌝ }
+{
+    let mut d = [0u32; 576];
+    weigh(ns, t, a, &mut d, i);
+    choose_both(ns, t, a, &d, i, operator, two, q)
+}
+
+fn choose_both(
+    ns: &[u16],
+    t: &mut [u8],
+    a: u16,
+    d: &[u32],
+    i: usize,
+    operator: Operator,
+    two: Two,
+    q: Query,
+) -> Picked
+    requires { ⌜ Wanted (scene (now ns) (now t) a) i (Both operator two) (q .closing) (q .weight) (q .number) ⌝ }
+    requires { ⌜ Weighed (scene (now ns) (now t) a) (now d) i ⌝ }
+    ensures { λ r. ⌜ Chosen (scene (now (ns .entry)) (now (t .entry)) a) i (asked q) (now (t .exit)) r ⌝ }
+{
+    match operator {
+        Operator::Sequence => seek_running(ns, t, a, d, i, two, q),
+        Operator::Choice => seek_choice(ns, t, a, d, i, two, q),
+        Operator::Parallel => seek_parallel(ns, t, a, d, i, two, q),
     }
 }
 
@@ -217,12 +358,22 @@ fn seek_pair(ns: &[u16], t: &mut [u8], a: u16, i: usize, two: Two, w: u8, j: u32
 }
 
 // Node i gets the mode m, and its child c becomes one of its compensations.
-fn seek_marked(ns: &[u16], t: &mut [u8], a: u16, i: usize, m: u8, c: usize, q: Query) -> Picked
+fn seek_marked(
+    ns: &[u16],
+    t: &mut [u8],
+    a: u16,
+    d: &[u32],
+    i: usize,
+    m: u8,
+    c: usize,
+    q: Query,
+) -> Picked
     requires { ⌜ Below (scene (now ns) (now t) a) i c (q .closing) (q .weight) (q .number) ⌝ }
+    requires { ⌜ Known (scene (now ns) (now t) a) (now d) c ⌝ }
     ensures { λ r. ⌜ Chosen (scene (now (ns .entry)) (set (now (t .entry)) i m) a) c (asked q) (now (t .exit)) r ⌝ }
 {
     states::set_mode(t, i, m);
-    seek(ns, t, a, c, q.closing, q.weight, q.number)
+    choose(ns, t, a, d, c, q.closing, q.weight, q.number)
 }
 
 // PP;QQ whose PP has ended: QQ's compensation, and then PP's, k.
@@ -230,6 +381,7 @@ fn seek_second(
     ns: &[u16],
     t: &mut [u8],
     a: u16,
+    d: &[u32],
     i: usize,
     two: Two,
     w: u8,
@@ -237,6 +389,7 @@ fn seek_second(
     k: Picked,
 ) -> Picked
     requires { ⌜ SecondWanted (scene (now ns) (now t) a) i two w g k ⌝ }
+    requires { ⌜ Known (scene (now ns) (now t) a) (now d) (two .second) ⌝ }
     ensures { λ r. ⌜ SecondChosen (scene (now (ns .entry)) (now (t .entry)) a) i two (ask (closing w) g (k .rest)) (now (t .exit)) r ⌝ }
 {
     let inside = tallies::weight_inside(g, k.moves, k.able);
@@ -245,7 +398,7 @@ fn seek_second(
         weight: inside,
         number: k.rest,
     };
-    let l = seek_marked(ns, t, a, i, states::LEFT_BOTH, two.second, inner);
+    let l = seek_marked(ns, t, a, d, i, states::LEFT_BOTH, two.second, inner);
     Picked {
         rest: l.rest,
         moves: moves_before(l.able, l.moves, k.moves),
@@ -253,8 +406,9 @@ fn seek_second(
     }
 }
 
-fn seek_held(ns: &[u16], t: &mut [u8], a: u16, i: usize, two: Two, q: Query) -> Picked
+fn seek_held(ns: &[u16], t: &mut [u8], a: u16, d: &[u32], i: usize, two: Two, q: Query) -> Picked
     requires { ⌜ Wanted (scene (now ns) (now t) a) i (Held two) (q .closing) (q .weight) (q .number) ⌝ }
+    requires { ⌜ Known (scene (now ns) (now t) a) (now d) i ⌝ }
     ensures { λ r. ⌜ Chosen (scene (now (ns .entry)) (now (t .entry)) a) i (asked q) (now (t .exit)) r ⌝ }
 {
     let mut c = [0u32; 64];
@@ -264,61 +418,74 @@ fn seek_held(ns: &[u16], t: &mut [u8], a: u16, i: usize, two: Two, q: Query) -> 
         moves: v.moves,
         able: v.done,
     };
-    seek_second(ns, t, a, i, two, q.closing, q.weight, k)
+    seek_second(ns, t, a, d, i, two, q.closing, q.weight, k)
 }
 
 // PP closes by w, or it ends done and QQ closes by w.
-fn seek_running(ns: &[u16], t: &mut [u8], a: u16, i: usize, two: Two, q: Query) -> Picked
+fn seek_running(ns: &[u16], t: &mut [u8], a: u16, d: &[u32], i: usize, two: Two, q: Query) -> Picked
     requires { ⌜ Wanted (scene (now ns) (now t) a) i (Both Sequence two) (q .closing) (q .weight) (q .number) ⌝ }
+    requires { ⌜ Weighed (scene (now ns) (now t) a) (now d) i ⌝ }
     ensures { λ r. ⌜ Chosen (scene (now (ns .entry)) (now (t .entry)) a) i (asked q) (now (t .exit)) r ⌝ }
 {
-    let own = own_weight(ns, t, a, two.first, q.closing, q.weight);
+    let own = own_weight(d, two.first, q.closing, q.weight);
     if q.number < own {
-        return seek_marked(ns, t, a, i, states::LEFT_FIRST, two.first, q);
+        return seek_marked(ns, t, a, d, i, states::LEFT_FIRST, two.first, q);
     }
-    let before = weight_before(ns, t, a, two.second, q.closing, q.weight);
-    let k = seek(
+    let before = weight_before(d, two.second, q.closing, q.weight);
+    let k = choose(
         ns,
         t,
         a,
+        d,
         two.first,
         tallies::RANK_DONE,
         before,
         q.number - own,
     );
-    seek_second(ns, t, a, i, two, q.closing, q.weight, k)
+    seek_second(ns, t, a, d, i, two, q.closing, q.weight, k)
 }
 
-fn seek_choice(ns: &[u16], t: &mut [u8], a: u16, i: usize, two: Two, q: Query) -> Picked
+fn seek_choice(ns: &[u16], t: &mut [u8], a: u16, d: &[u32], i: usize, two: Two, q: Query) -> Picked
     requires { ⌜ Wanted (scene (now ns) (now t) a) i (Both Choice two) (q .closing) (q .weight) (q .number) ⌝ }
+    requires { ⌜ Weighed (scene (now ns) (now t) a) (now d) i ⌝ }
     ensures { λ r. ⌜ Chosen (scene (now (ns .entry)) (now (t .entry)) a) i (asked q) (now (t .exit)) r ⌝ }
 {
     let g = q.weight;
-    let p = weight_by(ns, t, a, two.first, q.closing, g);
+    let p = weight_by(d, two.first, q.closing, g);
     if q.number < p {
-        return seek_marked(ns, t, a, i, states::FIRST_TAKEN, two.first, q);
+        return seek_marked(ns, t, a, d, i, states::FIRST_TAKEN, two.first, q);
     }
     let rest = Query {
         closing: q.closing,
         weight: g,
         number: q.number - p,
     };
-    seek_marked(ns, t, a, i, states::SECOND_TAKEN, two.second, rest)
+    seek_marked(ns, t, a, d, i, states::SECOND_TAKEN, two.second, rest)
 }
 
-fn seek_parallel(ns: &[u16], t: &mut [u8], a: u16, i: usize, two: Two, q: Query) -> Picked
+fn seek_parallel(
+    ns: &[u16],
+    t: &mut [u8],
+    a: u16,
+    d: &[u32],
+    i: usize,
+    two: Two,
+    q: Query,
+) -> Picked
     requires { ⌜ Wanted (scene (now ns) (now t) a) i (Both Parallel two) (q .closing) (q .weight) (q .number) ⌝ }
+    requires { ⌜ Weighed (scene (now ns) (now t) a) (now d) i ⌝ }
     ensures { λ r. ⌜ Chosen (scene (now (ns .entry)) (now (t .entry)) a) i (asked q) (now (t .exit)) r ⌝ }
 {
     let w = q.closing;
     let g = q.weight;
-    let first = word_at(ns, t, a, two.first);
-    let second = word_at(ns, t, a, two.second);
+    let first = word_at(d, two.first);
+    let second = word_at(d, two.second);
     let x = first_ending(first, second, w, g, q.number);
-    let k = seek(
+    let k = choose(
         ns,
         t,
         a,
+        d,
         two.first,
         x.ending,
         beside(second, w, x.ending, g),
@@ -326,7 +493,7 @@ fn seek_parallel(ns: &[u16], t: &mut [u8], a: u16, i: usize, two: Two, q: Query)
     );
     let within = tallies::weight_within(g, k.moves, k.able);
     let y = second_ending(second, w, x.ending, within, k.rest);
-    let l = seek(ns, t, a, two.second, y.ending, within, y.rest);
+    let l = choose(ns, t, a, d, two.second, y.ending, within, y.rest);
     Picked {
         rest: l.rest,
         moves: tallies::sum(k.moves, l.moves),

@@ -5,6 +5,7 @@ pub mod Counts
 pub mod Places
 pub mod Grids
 pub mod Sought
+pub mod Bare
 -- Laws.
 pub mod CappedLaws
 pub mod RankLaws
@@ -14,3 +15,4 @@ pub mod PlacesLaws
 pub mod SeekLaws
 pub mod StepLaws
 pub mod RuledOut
+pub mod BareLaws

@@ -1,6 +1,4 @@
--- `seek::own_weight` meets its contract: a tally's weight is that of its compensations, of none where the closing is done. Assumes nothing.
-use Rattle.seek.specs.Branches.{own-weighed}
-use Rattle.seek.specs.Asked.{runs}
+-- `seek::own_weight` meets its contract: what the three calls ensure, put together. Assumes nothing.
 use borrow.Author.Needs.{needs}
 use Rattle.seek.proofs.own_weight.Statement.{statement}
 use Rattle.seek.proofs.own_weight.Tie as tie
@@ -15,9 +13,7 @@ weight-total-requires : tie.Need-weight-total-requires
 weight-total-requires c κs = search needs
 
 returns : tie.Need-returns
-returns c =
-    let s = c .before .before .before .before .before in
-    own-weighed (s .args .a) (s .args .g) (runs (s .args .ns .now) (s .args .t .now) (s .args .i)) (s .args .w) (c .before .before .tally-at .ensures) (c .before .tally-when .ensures) (c .weight-total .ensures)
+returns c = cc
 
 pub own-weight-spec : {M : Type 1} → statement M
 own-weight-spec =
