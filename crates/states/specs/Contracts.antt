@@ -16,6 +16,7 @@ use Rattle.tallies.specs.Counts.{sum-of, weight}
 use Rattle.tallies.specs.Places.{At}
 use Rattle.tallies.specs.Sought.{Sought}
 use Rattle.tallies.specs.declared.Weight.{Weight}
+use Rattle.states.specs.Standings.{as-drawn}
 use Rattle.states.specs.State.{Part, part, modes, counts}
 use Rattle.states.specs.Stored.{Right, stored, noted}
 use Rattle.states.specs.declared.Picked.{Picked}
@@ -47,6 +48,12 @@ pub record Sets (t : List ℕ) (i n : ℕ) (t′ : List ℕ) : Type 0 where
 -- outside what is under i, d′ is as d
 abbrev pub Kept : List ℕ → ℕ → (ℕ → ℕ) → (ℕ → ℕ) → Type 0
 Kept ns i d d′ = (j : ℕ) → (Under (shape ns) i j → ⊥) → d′ j ≡ d j
+
+-- node i and all under it are as drawn, and the rest is as it was
+pub record Redrawn (ns : List ℕ) (i : ℕ) (t t′ : List ℕ) : Type 0 where
+  pub under : (j : ℕ) → Under (shape ns) i j → modes t′ j ≡ as-drawn
+  pub kept : Kept ns i (modes t) (modes t′)
+  pub long : length t′ ≡ length t
 
 -- A state and the event of the next record: the table ns, the modes t, the event a
 pub record Scene : Type 0 where

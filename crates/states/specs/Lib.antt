@@ -11,3 +11,4 @@ pub mod StateLaws
 pub mod NotedLaws
 pub mod ChildLaws
 pub mod DrawnLaws
+pub mod RedrawLaws

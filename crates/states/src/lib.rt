@@ -6,12 +6,12 @@ use flow::Simple;
 use flow::Two;
 ghost use mathlib.Core.Path.{_≡_};
 ghost use mathlib.Core.Logic.{_≢_};
-ghost use Prim.Native.Nat.{_<_};
+ghost use Prim.Native.Nat.{_+_, _*_, _<_};
 ghost use lib.ListN.{length, set};
-ghost use Rattle.flow.specs.Kinds.{node};
+ghost use Rattle.flow.specs.Kinds.{node, two-of};
 ghost use Rattle.states.specs.Standings.{as-drawn, only, drawn-two, undoing-two, stand-drawn, stand-undoing, stand, course-two, course-of};
 ghost use Rattle.states.specs.State.{modes};
-ghost use Rattle.states.specs.Contracts.{Spot};
+ghost use Rattle.states.specs.Contracts.{Spot, Redrawn};
 
 // A standard part is one that is drawn, or the compensation that a compensable part has become.
 pub enum Sense {
@@ -248,5 +248,28 @@ pub fn course_at(ns: &[u16], t: &[u8], i: usize) -> Course
         Node::Compensable(operator, two) => course_two(operator, two, mode_of(t, i)),
         Node::Paired(word) => Course::Basic(word),
         _ => Course::Basic(Simple::Skip),
+    }
+}
+
+fn second_at(ns: &[u16], i: usize) -> u16
+    requires { ⌜ 3 * i + 2 < length (now ns) ⌝ }
+    ensures { λ r. ⌜ r ≡ two-of (now (ns .entry)) i ⌝ }
+{
+    ns[3 * i + 2]
+}
+
+// Node i and all under it get the modes of the drawn flow: what is dropped or passed has no other, so that equal states have equal modes.
+pub fn redraw(ns: &[u16], t: &mut [u8], i: usize)
+    requires { ⌜ Spot (now ns) (now t) i ⌝ }
+    ensures { λ r. ⌜ Redrawn (now (ns .entry)) i (now (t .entry)) (now (t .exit)) ⌝ }
+{
+    set_mode(t, i, AS_DRAWN);
+    let form = flow::form_at(ns, i);
+    if form.kids == 0 {
+        return;
+    }
+    redraw(ns, t, flow::first_at(ns, i) as usize);
+    if form.kids == 2 {
+        redraw(ns, t, second_at(ns, i) as usize);
     }
 }
