@@ -40,7 +40,7 @@ use Rattle.states.specs.Standings.{first-taken, second-taken, left-second, left
 use Rattle.states.specs.State.{std-of, run-of, part, modes}
 use Rattle.states.specs.StateLaws.{std-part}
 use Rattle.states.specs.LiveParts.{Twins}
-use Rattle.states.specs.Contracts.{Spot, Kept, Sets, Scene, scene, weight-of, ask, Counted, Chosen}
+use Rattle.states.specs.Contracts.{Spot, Kept, Sets, Redrawn, Scene, scene, weight-of, ask, Counted, Chosen}
 use Rattle.states.specs.ChildLaws.{set-sets, not-own, lower-spot, same-room, kept-set, kept-part, kid-lower, kept-kid, own-kept, same-part, spot-down}
 use Rattle.seek.specs.Asked.{Fallen, course-at, runs, left, picked, Picks, own-of, Wanted, Below, seconds, SecondWanted, SecondChosen, PairChosen}
 use Rattle.seek.specs.Weighed.{row, Live, itself, Weighed, Known}
@@ -128,29 +128,40 @@ module _ {ns t : List ℕ} {i : ℕ} {two : Two} (spot : Spot ns t i) (e : cours
   unfolding run-of
   pair-runs = course-runs spot e
 
-  module _ (m : ℕ) {t′ : List ℕ} (f : t′ ≡ set t i m) where
-    pair-sets : Sets t i m t′
-    pair-sets = set-sets (spot .room) f
+  pub pair-first : Spot ns t (two .first)
+  pair-first = lower-spot spot (kid-lower ns pair-tree (pair-twins .one))
+
+  -- P is redrawn, and the node gets the mode m: Q stays
+  module _ (m : ℕ) {t₁ t′ : List ℕ} (x : Redrawn ns (two .first) t t₁) (f : t′ ≡ set t₁ i m) where
+    pair-sets : Sets t₁ i m t′
+    pair-sets = set-sets (omega (arith, spot .room, x .long)) f
 
     pub pair-spot : Spot ns t′ (two .second)
-    pair-spot = spot-down ns pair-tree (pair-twins .other) pair-sets spot
+    pair-spot = spot-down ns pair-tree (pair-twins .other) pair-sets (same-room spot (x .long))
 
-  pub pair-done : {a w j : ℕ} {t′ : List ℕ} → t′ ≡ set t i left-second → w ≡ 0 → {c c′ : List ℕ} {v : View} → Counted (scene ns t′ a) (Plain Drawn) (two .second) c c′ v → PairChosen (scene ns t a) i (closing w) j t′ (picked j (v .moves) (v .done))
+    pair-same : part ns (modes t′) (two .second) ≡ part ns (modes t) (two .second)
+    pair-same = same-part ns pair-tree (pair-twins .other) pair-sets ∙ kept-part ns pair-tree (two .first) (pair-twins .free) (x .kept)
+
+    pair-kept : Kept ns i (modes t) (modes t′)
+    pair-kept j n = kept-set ns pair-sets j n ∙ kept-kid ns pair-tree (pair-twins .one) (x .kept) j n
+
+  pub pair-done : {a w j : ℕ} {t₁ t′ : List ℕ} → Redrawn ns (two .first) t t₁ → t′ ≡ set t₁ i left-second → w ≡ 0 → {c c′ : List ℕ} {v : View} → Counted (scene ns t′ a) (Plain Drawn) (two .second) c c′ v
+      → PairChosen (scene ns t a) i (closing w) j t′ (picked j (v .moves) (v .done))
   unfolding std-of stand stand-undoing
-  pair-done {a} {w} {t′} f o {v} h g room =
-      let q : part ns (modes t′) (two .second) ≡ part ns (modes t) (two .second) = same-part ns pair-tree (pair-twins .other) (pair-sets left-second f) in
-      let l : left ns t′ i ≡ part ns (modes t) (two .second) .std Drawn = left-is ns t′ i pair-tree (course-node spot e) (pair-sets left-second f .here) ∙ ap (λ p. p .std Drawn) q in
+  pair-done {a} {w} {t′} x f o {v} h g room =
+      let q = pair-same left-second x f in
+      let l : left ns t′ i ≡ part ns (modes t) (two .second) .std Drawn = left-is ns t′ i pair-tree (course-node spot e) (pair-sets left-second x f .here) ∙ ap (λ p. p .std Drawn) q in
       let u : v ≡ view a (part ns (modes t) (two .second) .std Drawn) = h .seen ∙ ap (λ p. view a (p .std Drawn)) q in
       record {
         sought = sought-is a g (closing w) (sym pair-runs) (sym l) (seek-pair a g _ _ (ap closing o) u (room-is a g (closing w) pair-runs room));
-        kept = kept-set ns (pair-sets left-second f);
+        kept = pair-kept left-second x f;
       }
 
-  pub pair-other : {a w j : ℕ} {t′ : List ℕ} → t′ ≡ set t i left-nothing → w ≢ 0 → PairChosen (scene ns t a) i (closing w) j t′ (picked j 0 true)
+  pub pair-other : {a w j : ℕ} {t₁ t′ : List ℕ} → Redrawn ns (two .first) t t₁ → t′ ≡ set t₁ i left-nothing → w ≢ 0 → PairChosen (scene ns t a) i (closing w) j t′ (picked j 0 true)
   unfolding std-of stand stand-undoing
-  pair-other {a} {w} {t′} f n g room = record {
-    sought = sought-is a g (closing w) (sym pair-runs) (sym (left-is ns t′ i pair-tree (course-node spot e) (pair-sets left-nothing f .here))) (seek-pair-skip a g _ _ (closing w) (closing-other w n) (room-is a g (closing w) pair-runs room));
-    kept = kept-set ns (pair-sets left-nothing f);
+  pair-other {a} {w} {t′} x f n g room = record {
+    sought = sought-is a g (closing w) (sym pair-runs) (sym (left-is ns t′ i pair-tree (course-node spot e) (pair-sets left-nothing x f .here))) (seek-pair-skip a g _ _ (closing w) (closing-other w n) (room-is a g (closing w) pair-runs room));
+    kept = pair-kept left-nothing x f;
   }
 
 -- A choice that has been made -----------------------------------------------------------------------------------------------

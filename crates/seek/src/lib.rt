@@ -333,12 +333,13 @@ fn choose_both(
     }
 }
 
-// P÷Q has one compensation by each closing.
+// P÷Q has one compensation by each closing. P is passed, by all of them.
 fn seek_pair(ns: &[u16], t: &mut [u8], a: u16, i: usize, two: Two, w: u8, j: u32) -> Picked
     requires { ⌜ Spot (now ns) (now t) i ⌝ }
     requires { ⌜ course-at (now ns) (now t) i ≡ Pair two ⌝ }
     ensures { λ r. ⌜ PairChosen (scene (now (ns .entry)) (now (t .entry)) a) i (closing w) j (now (t .exit)) r ⌝ }
 {
+    states::redraw(ns, t, two.first);
     if w == tallies::RANK_DONE {
         states::set_mode(t, i, states::LEFT_SECOND);
         let mut c = [0u32; 64];
