@@ -1,5 +1,5 @@
 -- What holds at a node whose child makes a step, whatever it is: its term, its room and its counts from what is left of it, and how
--- a step of a child is one of the node (`handed`, `handed-by`). Assumes nothing.
+-- a step of a child is one of the node (`handed`, `handed-by`, `handed-past`). Assumes nothing.
 use Prim.Native.Nat.{ℕ, _<_}
 use mathlib.Core.Path.{_≡_, refl, sym, _∙_, ap, subst, subst₂}
 use mathlib.Core.List.{List}
@@ -18,7 +18,7 @@ use Rattle.states.specs.Stored.{stored, noted}
 use Rattle.states.specs.StateLaws.{std-part, run-part, std-stored, run-stored}
 use Rattle.states.specs.Roles.{get, nexts, many, ok}
 use Rattle.states.specs.Contracts.{Scene, scene, part-at, stored-at, noted-at, Kept, Sets, Ready}
-use Rattle.states.specs.ChildLaws.{lower-spot, same-room, kept-set, kept-part, kid-lower, kept-kid, own-kept, same-part, same-stored}
+use Rattle.states.specs.ChildLaws.{lower-spot, same-room, kept-set, kept-part, kid-lower, kept-kid, own-kept, same-part, same-stored, mode-after, kept-up, beside-part, beside-stored}
 use Rattle.steps.specs.Turns.{Move, move, Turned, Reached, Stance, stance-of, stance-term, stance-right}
 
 -- A node by its role ---------------------------------------------------------------------------------------------------------
@@ -85,6 +85,19 @@ module _ {s : Scene} {r : Role} {c : List ℕ} {i k : ℕ} (h : Ready s r c i k)
         (subst (λ z. T (ok q z)) (sym (same-stored (s .ns) tree-of kid w (s .a) c)) good)
         (subst (λ z. l < many q (s .a) z) (sym same) room)
         (λ at beside u. goes at (λ j other free. beside j free ∙ same-part (s .ns) tree-of other w) (subst (λ z. At (nexts q (get q z) (s .a)) l (get q (at g))) same u))
+
+    -- it is set, and something under another child d changes
+    module _ {d : ℕ} (other : Kid (shape (s .ns)) i d) (free : (n : ℕ) → Under (shape (s .ns)) d n → Under (shape (s .ns)) g n → ⊥) where
+      pub handed-past : {m : ℕ} {t₁ : List ℕ} {x′ : Stance r} {l : ℕ} → Sets (s .t) i m t₁ → Kept (s .ns) d (modes t₁) (modes t′) → length t′ ≡ length t₁ → stance-of r (node (s .ns) i) m ≡ x′
+          → T (ok q (stored-at s c g)) → l < many q (s .a) (part-at s g)
+          → ((at : ℕ → Part) → at d ≡ part (s .ns) (modes t′) d → At (nexts q (get q (part-at s g)) (s .a)) l (get q (at g)) → At (nexts r (stance-term r x (part-at s)) (s .a)) k (stance-term r x′ at))
+          → Turned s c (move r i k) t′ (move q g l)
+      handed-past {l = l} w keep long e′ good room goes =
+          let same : part (s .ns) (modes t′) g ≡ part-at s g = beside-part (s .ns) tree-of other w t′ keep kid free in
+          handed (ap (stance-of r (node (s .ns) i)) (mode-after (s .ns) tree-of other w t′ keep) ∙ e′) (kept-up (s .ns) tree-of other w t′ keep) (long ∙ w .long)
+          (subst (λ z. T (ok q z)) (sym (beside-stored (s .ns) tree-of other w t′ keep kid free (s .a) c)) good)
+          (subst (λ z. l < many q (s .a) z) (sym same) room)
+          (λ at beside u. goes at (beside d (λ n v z. free n z v)) (subst (λ z. At (nexts q (get q z) (s .a)) l (get q (at g))) same u))
 
 -- A step comes down ----------------------------------------------------------------------------------------------------------
 

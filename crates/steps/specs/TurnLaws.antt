@@ -42,12 +42,12 @@ use Rattle.states.specs.NotedLaws.{own-count, noted-stored, counted-right}
 use Rattle.states.specs.LiveParts.{Twins, Rests, CRests}
 use Rattle.states.specs.Rests.{stand-rests, course-rests}
 use Rattle.states.specs.Roles.{get, nexts, many, ok}
-use Rattle.states.specs.Contracts.{Spot, Sets, Scene, scene, part-at, stored-at, noted-at, weight-of, ask, Chosen, Counted, Ready, Stepped}
-use Rattle.states.specs.ChildLaws.{set-sets, sets-none, same-room, kept-set, kid-lower, same-part, spot-down, mode-after, kept-up, beside-part, beside-stored}
+use Rattle.states.specs.Contracts.{Spot, Kept, Sets, Redrawn, Scene, scene, part-at, stored-at, noted-at, weight-of, ask, Chosen, Counted, Ready, Stepped}
+use Rattle.states.specs.ChildLaws.{set-sets, sets-none, lower-spot, same-room, kept-set, kid-lower, same-part, spot-down, mode-after, kept-up}
 use Rattle.steps.specs.declared.Turn.{Turn}
-use Rattle.steps.specs.Turns.{move, Turned, gone, stand-in, course-in, first-mode, second-mode, halves, Forked, in-first, in-second, Stance, stance-of, stance-term}
+use Rattle.steps.specs.Turns.{move, Turned, gone, stand-in, course-in, first-mode, second-mode, halves, Forked, in-first, in-second, Passed, Stance, stance-of, stance-term}
 use Rattle.steps.specs.AfterLaws.{After, CAfter, stand-after, course-after}
-use Rattle.steps.specs.NodeLaws.{tree-of, step-room, parts-right, step-goes, handed, handed-by}
+use Rattle.steps.specs.NodeLaws.{tree-of, step-room, parts-right, step-goes, handed, handed-by, handed-past}
 
 -- Node numbers are small ------------------------------------------------------------------------------------------------------
 
@@ -89,6 +89,13 @@ module _ {s : Scene} {r : Role} {c : List ℕ} {i k : ℕ} (h : Ready s r c i k)
         → At (nexts r (stance-term r x (part-at s)) (s .a)) k (stance-term r x′ at))
         → Turned s c (move r i k) t′ (move r (p .second) (k - counts c (p .first)))
     to-second room goes = handed-by h e r (tw .other) w e′ second-right room (λ at same u. goes at (same (p .first) (tw .one) (λ j y z. tw .free j z y)) u)
+
+    -- something under the first changes, which is left out
+    past-first : {t₂ : List ℕ} → Kept (s .ns) (p .first) (modes t′) (modes t₂) → length t₂ ≡ length t′ → k - counts c (p .first) < many r (s .a) (part-at s (p .second))
+        → ((at : ℕ → Part) → At (nexts r (get r (part-at s (p .second))) (s .a)) (k - counts c (p .first)) (get r (at (p .second)))
+        → At (nexts r (stance-term r x (part-at s)) (s .a)) k (stance-term r x′ at))
+        → Turned s c (move r i k) t₂ (move r (p .second) (k - counts c (p .first)))
+    past-first keep long room goes = handed-past h e r (tw .other) (tw .one) (tw .free) w keep long e′ second-right room (λ at d u. goes at u)
 
 -- what is left of two parts after a step of the first, and after one of the second
 abbrev first-standing : Operator → Two → Sense → Standing
@@ -153,37 +160,65 @@ module _ {s : Scene} {v : Sense} {c : List ℕ} {i k : ℕ} (h : Ready s (Plain 
   handler-twins : stand-in s v i ≡ standing.Handler p → Twins (s .ns) i p
   handler-twins e = subst (Rests (s .ns) i) e (stand-rests (s .ns) i (tree-of h e) v (modes (s .t) i))
 
+  pub both-first-spot : {t₁ : List ℕ} {o : Operator} → stand-in s v i ≡ standing.Both o p → length t₁ ≡ length (s .t) → Spot (s .ns) t₁ (p .first)
+  both-first-spot e long = lower-spot (same-room (h .spot) long) (kid-lower (s .ns) (tree-of h e) (both-twins e .one))
+
+  pub handler-first-spot : {t₁ : List ℕ} → stand-in s v i ≡ standing.Handler p → length t₁ ≡ length (s .t) → Spot (s .ns) t₁ (p .first)
+  handler-first-spot e long = lower-spot (same-room (h .spot) long) (kid-lower (s .ns) (tree-of h e) (handler-twins e .one))
+
   pub both-small : {o : Operator} → stand-in s v i ≡ standing.Both o p → p .first < 64
   both-small e = number-small h (both-twins e .one)
 
   pub handler-small : stand-in s v i ≡ standing.Handler p → p .first < 64
   handler-small e = number-small h (handler-twins e .one)
 
-  pub both-turned : {t′ : List ℕ} {y : Turn} {o : Operator} → stand-in s v i ≡ standing.Both o p → Forked c (s .t) k (halves i o p (gone v)) t′ y
+  -- the first makes the step
+  pub both-first-turned : {t′ : List ℕ} {y : Turn} {o : Operator} → stand-in s v i ≡ standing.Both o p → Forked c (s .t) k (halves i o p (gone v)) t′ y → y .second ≡ false
       → Turned s c (move (Plain v) i k) t′ (move (Plain v) (y .node) (y .at))
   unfolding std-of std-right
-  both-turned {o = o} e (in-first l w) =
+  both-first-turned {o = o} e (in-first l w) b =
       let tw = both-twins e in
       to-first h e tw (parts-right h e) w (first-stands v (node (s .ns) i) (modes (s .t) i) o e) l (λ at d u. both-first (s .a) v p (part-at s) at k o d u)
-  both-turned {o = o} e (in-second g w) =
-      let tw = both-twins e in
-      let n = first-count h e tw (parts-right h e) in
-      to-second h e tw (parts-right h e) w (second-stands v (node (s .ns) i) (modes (s .t) i) o e) (both-room (s .a) v p (part-at s) (part-at s) k n g o (step-room h e))
-      (λ at d u. both-second (s .a) v p (part-at s) at k n g o (step-room h e) d u)
+  both-first-turned e (in-second g w) b = absurd (true≢false b)
+
+  module _ {o : Operator} (e : stand-in s v i ≡ standing.Both o p) (g : counts c (p .first) ≤ k) {t′ : List ℕ} (w : Sets (s .t) i (second-mode o (gone v) (modes (s .t) i)) t′) where
+    beside-turned : Turned s c (move (Plain v) i k) t′ (move (Plain v) (p .second) (k - counts c (p .first)))
+    unfolding std-of std-right
+    beside-turned =
+        let tw = both-twins e in
+        let n = first-count h e tw (parts-right h e) in
+        to-second h e tw (parts-right h e) w (second-stands v (node (s .ns) i) (modes (s .t) i) o e) (both-room (s .a) v p (part-at s) (part-at s) k n g o (step-room h e))
+        (λ at d u. both-second (s .a) v p (part-at s) at k n g o (step-room h e) d u)
+
+  -- the second makes it, and the first of a sequence is passed
+  pub both-second-turned : {t₁ t′ : List ℕ} {y : Turn} {o : Operator} → stand-in s v i ≡ standing.Both o p → Forked c (s .t) k (halves i o p (gone v)) t₁ y → y .second ≡ true → Passed (s .ns) o (p .first) t₁ t′
+      → Turned s c (move (Plain v) i k) t′ (move (Plain v) (y .node) (y .at))
+  unfolding std-of std-right moves
+  both-second-turned e (in-first l w) b z = absurd (true≢false (sym b))
+  both-second-turned {o = Sequence} e (in-second g w) b z =
+      let n = first-count h e (both-twins e) (parts-right h e) in
+      past-first h e (both-twins e) (parts-right h e) w (second-stands v (node (s .ns) i) (modes (s .t) i) Sequence e) (z .kept) (z .long)
+      (both-room (s .a) v p (part-at s) (part-at s) k n g Sequence (step-room h e))
+      (λ at u. at-seq-second (s .a) (part-at s (p .first) .std v) (part-at s (p .second) .std v) n (step-room h e) g u)
+  both-second-turned {y = y} {o = Choice} e (in-second g w) b z = subst (λ t. Turned s c (move (Plain v) i k) t (move (Plain v) (y .node) (y .at))) (sym z) (beside-turned e g w)
+  both-second-turned {y = y} {o = Parallel} e (in-second g w) b z = subst (λ t. Turned s c (move (Plain v) i k) t (move (Plain v) (y .node) (y .at))) (sym z) (beside-turned e g w)
 
   -- a handler goes on as a sequence does
-  pub handler-turned : {t′ : List ℕ} {y : Turn} → stand-in s v i ≡ standing.Handler p → Forked c (s .t) k (halves i Sequence p moved-on) t′ y
+  pub handler-first-turned : {t′ : List ℕ} {y : Turn} → stand-in s v i ≡ standing.Handler p → Forked c (s .t) k (halves i Sequence p moved-on) t′ y → y .second ≡ false
       → Turned s c (move (Plain v) i k) t′ (move (Plain v) (y .node) (y .at))
-  unfolding std-of std-right first-mode second-mode moves
-  handler-turned e (in-first l w) =
-      let tw = handler-twins e in
-      to-first h e tw (parts-right h e) w e l (λ at d u. hnd-first (s .a) v p (part-at s) at k d u)
-  handler-turned e (in-second g w) =
-      let tw = handler-twins e in
-      let n = first-count h e tw (parts-right h e) in
-      to-second h e tw (parts-right h e) w (subst (After v (node (s .ns) i)) e (stand-after v (node (s .ns) i) (modes (s .t) i)))
+  unfolding std-of std-right first-mode
+  handler-first-turned e (in-first l w) b = to-first h e (handler-twins e) (parts-right h e) w e l (λ at d u. hnd-first (s .a) v p (part-at s) at k d u)
+  handler-first-turned e (in-second g w) b = absurd (true≢false b)
+
+  pub handler-second-turned : {t₁ t′ : List ℕ} {y : Turn} → stand-in s v i ≡ standing.Handler p → Forked c (s .t) k (halves i Sequence p moved-on) t₁ y → y .second ≡ true → Redrawn (s .ns) (p .first) t₁ t′
+      → Turned s c (move (Plain v) i k) t′ (move (Plain v) (y .node) (y .at))
+  unfolding std-of std-right second-mode moves
+  handler-second-turned e (in-first l w) b z = absurd (true≢false (sym b))
+  handler-second-turned e (in-second g w) b z =
+      let n = first-count h e (handler-twins e) (parts-right h e) in
+      past-first h e (handler-twins e) (parts-right h e) w (subst (After v (node (s .ns) i)) e (stand-after v (node (s .ns) i) (modes (s .t) i))) (z .kept) (z .long)
       (hnd-room (s .a) (part-at s (p .first) .std v) (part-at s (p .second) .std v) n (step-room h e) g)
-      (λ at d u. at-hnd-second (s .a) (part-at s (p .first) .std v) (part-at s (p .second) .std v) n (step-room h e) g u)
+      (λ at u. at-hnd-second (s .a) (part-at s (p .first) .std v) (part-at s (p .second) .std v) n (step-room h e) g u)
 
 -- Compensable parts ----------------------------------------------------------------------------------------------------------
 
@@ -299,21 +334,14 @@ module _ {s : Scene} {c : List ℕ} {i k : ℕ} (h : Ready s Running c i k) {p :
       on-found : Finds (weight (s .a) per-step) (comps pp done) (k - counts c (p .first)) (part (s .ns) (modes t₂) (p .first) .std Undoing) (y .rest)
       on-found = subst (λ z. Finds (weight (s .a) per-step) (comps (z .run) done) (k - counts c (p .first)) (part (s .ns) (modes t₂) (p .first) .std Undoing) (y .rest)) on-same (ch .sought .found)
 
-      on-beside : part (s .ns) (modes t₂) (p .second) ≡ part-at s (p .second)
-      on-beside = beside-part (s .ns) (tree-of h e) (run-twins e .one) w t₂ (ch .kept) (run-twins e .other) (run-twins e .free)
-
       on-turned : length t₂ ≡ length t₁ → Turned s c (move Running i k) t₂ (move Running (p .second) (y .rest))
       unfolding run-of
       on-turned long =
           let tw = run-twins e in
           let n = first-count h e tw (both-right e) in
-          handed h e Running (tw .other)
-          (ap (course-of (node (s .ns) i)) (mode-after (s .ns) (tree-of h e) (tw .one) w t₂ (ch .kept)) ∙ subst (CAfter (node (s .ns) i)) e (course-after (node (s .ns) i) (modes (s .t) i)))
-          (kept-up (s .ns) (tree-of h e) (tw .one) w t₂ (ch .kept)) (long ∙ w .long)
-          (subst (λ z. T (z .run)) (sym (beside-stored (s .ns) (tree-of h e) (tw .one) w t₂ (ch .kept) (tw .other) (tw .free) (s .a) c)) (second-right h e tw (both-right e)))
-          (subst (λ z. y .rest < many Running (s .a) z) (sym on-beside) (cseq-rest (s .a) pp qq n on-left g second-count on-found))
-          (λ at beside u. subst (λ z. At (csteps (cseq pp qq) (s .a)) k (held (at (p .second) .run) (z .std Undoing))) (sym (beside (p .first) (λ j v z. tw .free j z v)))
-          (at-cseq-second (s .a) pp qq n on-left g second-count on-found (subst (λ z. At (csteps (z .run) (s .a)) (y .rest) (at (p .second) .run)) on-beside u)))
+          handed-past h e Running (tw .other) (tw .one) (tw .free) w (ch .kept) long (subst (CAfter (node (s .ns) i)) e (course-after (node (s .ns) i) (modes (s .t) i)))
+          (second-right h e tw (both-right e)) (cseq-rest (s .a) pp qq n on-left g second-count on-found)
+          (λ at d u. subst (λ z. At (csteps (cseq pp qq) (s .a)) k (held (at (p .second) .run) (z .std Undoing))) (sym d) (at-cseq-second (s .a) pp qq n on-left g second-count on-found u))
 
   module _ (e : course-in s i ≡ course.Both Sequence p) where
     pub held-spot : {t₁ : List ℕ} {y : Turn} → Forked c (s .t) k (halves i Sequence p holding) t₁ y → y .second ≡ true → Spot (s .ns) t₁ (p .first)

@@ -20,7 +20,7 @@ use Rattle.states.specs.Standings.{moved-on, first-taken, second-taken, left-fi
 use Rattle.states.specs.State.{Part, std-of, run-of, modes, counts}
 use Rattle.states.specs.Stored.{Right, std-right, run-right}
 use Rattle.states.specs.Roles.{Term}
-use Rattle.states.specs.Contracts.{Scene, scene, Sets, Ready, Stepped}
+use Rattle.states.specs.Contracts.{Scene, scene, Sets, Redrawn, Ready, Stepped}
 use Rattle.steps.specs.declared.Turn.{Turn}
 
 -- a step of node i in role r, at place k among its steps
@@ -85,6 +85,12 @@ turn-to j l b = record { node = j; at = l; second = b }
 pub data Forked (c t : List ℕ) (k : ℕ) (f : Halves) (t′ : List ℕ) : Turn → Type 0 where
   in-first : k < counts c (f .two .first) → Sets t (f .node) (first-mode (f .operator) (modes t (f .node))) t′ → Forked c t k f t′ (turn-to (f .two .first) k false)
   in-second : counts c (f .two .first) ≤ k → Sets t (f .node) (second-mode (f .operator) (f .gone) (modes t (f .node))) t′ → Forked c t k f t′ (turn-to (f .two .second) (k - counts c (f .two .first)) true)
+
+-- once the second part has made a step: the first part of a sequence, node j, is passed, and so redrawn
+abbrev pub Passed : List ℕ → Operator → ℕ → List ℕ → List ℕ → Type 0
+Passed ns Sequence j t t′ = Redrawn ns j t t′
+Passed ns Choice j t t′ = t′ ≡ t
+Passed ns Parallel j t t′ = t′ ≡ t
 
 -- what is left of a part in a role, and its term and counts from those of its live parts
 abbrev pub Stance : Role → Type 0

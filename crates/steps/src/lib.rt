@@ -19,7 +19,7 @@ ghost use Rattle.states.specs.declared.Sense.the-variants.{Drawn, Undoing};
 ghost use Rattle.states.specs.declared.Role.the-variants.{Plain, Running};
 ghost use Rattle.states.specs.State.{modes, counts};
 ghost use Rattle.states.specs.Contracts.{Spot, Sets, scene, weight-of, ask, Chosen, Ready, Stepped};
-ghost use Rattle.steps.specs.Turns.{move, Turned, stand-in, course-in, gone, first-mode, second-mode, halves, Forked};
+ghost use Rattle.steps.specs.Turns.{move, Turned, stand-in, course-in, gone, first-mode, second-mode, halves, Forked, Passed};
 
 // Where a step goes on: a live part, the place among its steps, and whether it is the second of two.
 struct Turn {
@@ -98,6 +98,18 @@ fn turn_two(
             at: k - n,
             second: true,
         }
+    }
+}
+
+// The second of two standard parts makes the step: of a sequence, the first is passed.
+fn pass(ns: &[u16], t: &mut [u8], operator: Operator, first: usize)
+    requires { ⌜ Spot (now ns) (now t) first ⌝ }
+    ensures { λ r. ⌜ Passed (now (ns .entry)) operator first (now (t .entry)) (now (t .exit)) ⌝ }
+{
+    match operator {
+        Operator::Sequence => states::redraw(ns, t, first),
+        Operator::Choice => {}
+        Operator::Parallel => {}
     }
 }
 
@@ -195,11 +207,17 @@ pub fn step_std(ns: &[u16], t: &mut [u8], a: u16, c: &[u32; 64], i: usize, sense
             Standing::Basic(_) => return,
             Standing::Both(operator, two) => {
                 let x = turn_two(t, c, here, operator, two, gone_on(live), at);
+                if x.second {
+                    pass(ns, t, operator, two.first);
+                }
                 here = x.node;
                 at = x.at;
             }
             Standing::Handler(two) => {
                 let x = turn_two(t, c, here, Operator::Sequence, two, states::MOVED_ON, at);
+                if x.second {
+                    states::redraw(ns, t, two.first);
+                }
                 here = x.node;
                 at = x.at;
             }

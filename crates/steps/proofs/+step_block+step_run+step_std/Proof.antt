@@ -1,7 +1,7 @@
 -- `steps::step_std`, `step_block` and `step_run` meet their contracts: a node hands its step down, the child makes it, and so the node
 -- has made it. The measure is twice the node's number, and one more for a standard node, which may be a block. The loop's invariant:
 -- the step has come down to the node where it is (Reached). Assumes nothing.
-use Rattle.steps.specs.TurnLaws.{both-small, both-turned, handler-small, handler-turned, pair-turned, held-turned, only-turned, as-turned, block-small, block-ready, block-stands, block-stepped, inside-turned, event-stepped, no-step, no-run-step}
+use Rattle.steps.specs.TurnLaws.{both-small, both-first-spot, both-first-turned, both-second-turned, handler-small, handler-first-spot, handler-first-turned, handler-second-turned, pair-turned, held-turned, only-turned, as-turned, block-small, block-ready, block-stands, block-stepped, inside-turned, event-stepped, no-step, no-run-step}
 use native.Mathlib.Omega.{arith}
 use mathlib.Core.Path.{refl, sym, _∙_}
 use Prim.Native.Nat.{ℕ, _<_, _+_, _*_}
@@ -22,10 +22,12 @@ use Rattle.steps.proofs.step_std.Reads as step-std
 use Rattle.steps.proofs.step_std.Kinds as step-std-kinds
 use Rattle.steps.proofs.+step_block+step_run+step_std.Lts-step_std as step-std-lts
 use Rattle.states.proofs.course_at.Reads as course-at-reads
+use Rattle.states.proofs.redraw.Reads as redraw-reads
 use Rattle.states.proofs.set_mode.Reads as set-mode-reads
 use Rattle.states.proofs.stand_at.Reads as stand-at-reads
 use Rattle.steps.proofs.count_at.Reads as count-at-reads
 use Rattle.steps.proofs.gone_on.Reads as gone-on-reads
+use Rattle.steps.proofs.pass.Reads as pass-reads
 use Rattle.steps.proofs.turn_out.Reads as turn-out-reads
 use Rattle.steps.proofs.turn_run.Reads as turn-run-reads
 use Rattle.steps.proofs.turn_two.Reads as turn-two-reads
@@ -70,15 +72,15 @@ abbrev step-run-calls : ℕ → step-run-lts.Claims
 step-run-calls t = (course-at-reads.Asked, course-at-reads.Learnt, step-std-below t, step-std.Post, turn-run-reads.Asked, turn-run-reads.Learnt, step-run-below t, step-run.Post)
 
 abbrev step-std-calls : ℕ → step-std-lts.Claims
-step-std-calls t = (stand-at-reads.Asked, stand-at-reads.Learnt, set-mode-reads.Asked, set-mode-reads.Learnt, gone-on-reads.Asked, gone-on-reads.Learnt, turn-two-reads.Asked, turn-two-reads.Learnt, step-block-below t, step-block.Post)
+step-std-calls t = (stand-at-reads.Asked, stand-at-reads.Learnt, set-mode-reads.Asked, set-mode-reads.Learnt, gone-on-reads.Asked, gone-on-reads.Learnt, turn-two-reads.Asked, turn-two-reads.Learnt, pass-reads.Asked, pass-reads.Learnt, redraw-reads.Asked, redraw-reads.Learnt, step-block-below t, step-block.Post)
 
--- src/lib.rt:221:12
+-- src/lib.rt:239:12
 step-block-count-at-requires : (t : ℕ) → step-block-lts.Need-count-at-requires (step-block-calls t) (step-block-at t) step-block.Post
 step-block-count-at-requires t c κs =
     let s = c .before .before in
     block-small (s .pre .1 .0) (s .pre .1 .1)
 
--- src/lib.rt:222:9
+-- src/lib.rt:240:9
 step-block-step-run-requires : (t : ℕ) → step-block-lts.Need-step-run-requires (step-block-calls t) (step-block-at t) step-block.Post
 step-block-step-run-requires t c κs =
     let s = c .before .before .before .before .before in
@@ -86,25 +88,25 @@ step-block-step-run-requires t c κs =
     let x = inside-turned (s .pre .1 .0) (s .pre .1 .1) (omega (arith, c .before .if1 .taken)) in
     (omega (arith, x .lower, s .pre .0), x .ready)
 
--- src/lib.rt:225:13
+-- src/lib.rt:243:13
 step-block-turn-out-requires : (t : ℕ) → step-block-lts.Need-turn-out-requires (step-block-calls t) (step-block-at t) step-block.Post
 step-block-turn-out-requires t c κs =
     let s = c .before .before .before .before .before .before in
     let n = c .before .before .before .count-at .ensures in
     (s .pre .1 .0, (s .pre .1 .1, omega (arith, c .before .before .if1 .left)))
 
--- src/lib.rt:226:9
+-- src/lib.rt:244:9
 step-block-step-std-requires : (t : ℕ) → step-block-lts.Need-step-std-requires (step-block-calls t) (step-block-at t) step-block.Post
 step-block-step-std-requires t c κs =
     let s = c .before .before .before .before .before .before .before .before .before .before .before in
     let x = c .before .before .before .before .turn-out .ensures in
     (omega (arith, x .lower, s .pre .0), x .ready)
 
--- src/lib.rt:216:1
+-- src/lib.rt:234:1
 step-block-same-length : (t : ℕ) → step-block-lts.Need-same-length (step-block-calls t) (step-block-at t) step-block.Post
 step-block-same-length t c = c .before .before .step-run .kept .1 .0
 
--- src/lib.rt:216:1
+-- src/lib.rt:234:1
 step-block-returns : (t : ℕ) → step-block-lts.Need-returns (step-block-calls t) (step-block-at t) step-block.Post
 step-block-returns t c =
     let s = c .before .before .before .before .before .before .before .before in
@@ -112,114 +114,114 @@ step-block-returns t c =
     let x = inside-turned (s .pre .1 .0) (s .pre .1 .1) (omega (arith, c .before .before .before .before .if1 .taken)) in
     x .back _ (c .before .before .step-run .ensures)
 
--- src/lib.rt:216:1
+-- src/lib.rt:234:1
 step-block-same-length-2 : (t : ℕ) → step-block-lts.Need-same-length-2 (step-block-calls t) (step-block-at t) step-block.Post
 step-block-same-length-2 t c = c .before .before .step-std .kept .1 .0 ∙ c .before .before .before .before .before .before .before .turn-out .kept .1 .0
 
--- src/lib.rt:216:1
+-- src/lib.rt:234:1
 step-block-returns-2 : (t : ℕ) → step-block-lts.Need-returns-2 (step-block-calls t) (step-block-at t) step-block.Post
 step-block-returns-2 t c = c .before .before .before .before .before .before .before .turn-out .ensures .back _ (c .before .before .step-std .ensures)
 
--- src/lib.rt:235:9
+-- src/lib.rt:253:9
 step-run-course-at-requires : (t : ℕ) → step-run-lts.Need-course-at-requires (step-run-calls t) (step-run-at t) step-run.Post
 step-run-course-at-requires t c κs = c .before .before .before .pre .1 .spot
 
 step-run-enum-told : (t : ℕ) → step-run-lts.Need-enum-told (step-run-calls t) (step-run-at t) step-run.Post
 step-run-enum-told t c = search needs
 
--- src/lib.rt:238:22
+-- src/lib.rt:256:22
 step-run-enum-known-runs : (t : ℕ) → step-run-lts.Need-enum-known-runs (step-run-calls t) (step-run-at t) step-run.Post
 step-run-enum-known-runs t c = search needs
 
--- src/lib.rt:238:30
+-- src/lib.rt:256:30
 step-run-step-std-requires : (t : ℕ) → step-run-lts.Need-step-std-requires (step-run-calls t) (step-run-at t) step-run.Post
 step-run-step-std-requires t c κs =
     let s = c .before .before .before .before .before .before .before .before in
     let x = pair-turned (s .pre .1) (sym (c .before .before .before .before .course-at .ensures) ∙ c .before .before .runs .given .1) in
     (omega (arith, x .lower, s .pre .0), x .ready)
 
--- src/lib.rt:239:22
+-- src/lib.rt:257:22
 step-run-enum-known-runs-2 : (t : ℕ) → step-run-lts.Need-enum-known-runs-2 (step-run-calls t) (step-run-at t) step-run.Post
 step-run-enum-known-runs-2 t c = search needs
 
--- src/lib.rt:240:17
+-- src/lib.rt:258:17
 step-run-turn-run-requires : (t : ℕ) → step-run-lts.Need-turn-run-requires (step-run-calls t) (step-run-at t) step-run.Post
 step-run-turn-run-requires t c κs =
     let s = c .before .before .before .before .before .before .before .before in
     (s .pre .1, sym (c .before .before .before .before .course-at .ensures) ∙ c .before .before .runs2 .given .1)
 
--- src/lib.rt:241:13
+-- src/lib.rt:259:13
 step-run-step-run-requires : (t : ℕ) → step-run-lts.Need-step-run-requires (step-run-calls t) (step-run-at t) step-run.Post
 step-run-step-run-requires t c κs =
     let s = c .before .before .before .before .before .before .before .before .before .before .before .before in
     let x = c .before .before .before .turn-run .ensures in
     (omega (arith, x .lower, s .pre .0), x .ready)
 
--- src/lib.rt:243:22
+-- src/lib.rt:261:22
 step-run-enum-known-runs-3 : (t : ℕ) → step-run-lts.Need-enum-known-runs-3 (step-run-calls t) (step-run-at t) step-run.Post
 step-run-enum-known-runs-3 t c = search needs
 
--- src/lib.rt:243:30
+-- src/lib.rt:261:30
 step-run-step-run-requires-2 : (t : ℕ) → step-run-lts.Need-step-run-requires-2 (step-run-calls t) (step-run-at t) step-run.Post
 step-run-step-run-requires-2 t c κs =
     let s = c .before .before .before .before .before .before .before .before in
     let x = held-turned (s .pre .1) (sym (c .before .before .before .before .course-at .ensures) ∙ c .before .before .runs3 .given .1) in
     (omega (arith, x .lower, s .pre .0), x .ready)
 
--- src/lib.rt:244:20
+-- src/lib.rt:262:20
 step-run-enum-known-runs-4 : (t : ℕ) → step-run-lts.Need-enum-known-runs-4 (step-run-calls t) (step-run-at t) step-run.Post
 step-run-enum-known-runs-4 t c = search needs
 
--- src/lib.rt:244:30
+-- src/lib.rt:262:30
 step-run-step-run-requires-3 : (t : ℕ) → step-run-lts.Need-step-run-requires-3 (step-run-calls t) (step-run-at t) step-run.Post
 step-run-step-run-requires-3 t c κs =
     let s = c .before .before .before .before .before .before .before .before in
     let x = as-turned (s .pre .1) (sym (c .before .before .before .before .course-at .ensures) ∙ c .before .before .runs4 .given .1) in
     (omega (arith, x .lower, s .pre .0), x .ready)
 
--- src/lib.rt:231:1
+-- src/lib.rt:249:1
 step-run-same-length : (t : ℕ) → step-run-lts.Need-same-length (step-run-calls t) (step-run-at t) step-run.Post
 step-run-same-length t c = search needs
 
--- src/lib.rt:231:1
+-- src/lib.rt:249:1
 step-run-returns : (t : ℕ) → step-run-lts.Need-returns (step-run-calls t) (step-run-at t) step-run.Post
 step-run-returns t c = absurd (no-run-step (c .before .before .before .before .before .before .pre .1) (sym (c .before .before .course-at .ensures) ∙ c .enum-told .given .1))
 
--- src/lib.rt:231:1
+-- src/lib.rt:249:1
 step-run-same-length-2 : (t : ℕ) → step-run-lts.Need-same-length-2 (step-run-calls t) (step-run-at t) step-run.Post
 step-run-same-length-2 t c = c .before .before .step-std .kept .1 .0
 
--- src/lib.rt:231:1
+-- src/lib.rt:249:1
 step-run-returns-2 : (t : ℕ) → step-run-lts.Need-returns-2 (step-run-calls t) (step-run-at t) step-run.Post
 step-run-returns-2 t c =
     let s = c .before .before .before .before .before .before .before .before .before .before .before in
     let x = pair-turned (s .pre .1) (sym (c .before .before .before .before .before .before .before .course-at .ensures) ∙ c .before .before .before .before .before .runs .given .1) in
     x .back _ (c .before .before .step-std .ensures)
 
--- src/lib.rt:231:1
+-- src/lib.rt:249:1
 step-run-same-length-3 : (t : ℕ) → step-run-lts.Need-same-length-3 (step-run-calls t) (step-run-at t) step-run.Post
 step-run-same-length-3 t c = c .before .before .step-run .kept .1 .0 ∙ c .before .before .before .before .before .before .turn-run .kept .1 .0
 
--- src/lib.rt:231:1
+-- src/lib.rt:249:1
 step-run-returns-3 : (t : ℕ) → step-run-lts.Need-returns-3 (step-run-calls t) (step-run-at t) step-run.Post
 step-run-returns-3 t c = c .before .before .before .before .before .before .turn-run .ensures .back _ (c .before .before .step-run .ensures)
 
--- src/lib.rt:231:1
+-- src/lib.rt:249:1
 step-run-same-length-4 : (t : ℕ) → step-run-lts.Need-same-length-4 (step-run-calls t) (step-run-at t) step-run.Post
 step-run-same-length-4 t c = c .before .before .step-run2 .kept .1 .0
 
--- src/lib.rt:231:1
+-- src/lib.rt:249:1
 step-run-returns-4 : (t : ℕ) → step-run-lts.Need-returns-4 (step-run-calls t) (step-run-at t) step-run.Post
 step-run-returns-4 t c =
     let s = c .before .before .before .before .before .before .before .before .before .before .before in
     let x = held-turned (s .pre .1) (sym (c .before .before .before .before .before .before .before .course-at .ensures) ∙ c .before .before .before .before .before .runs3 .given .1) in
     x .back _ (c .before .before .step-run2 .ensures)
 
--- src/lib.rt:231:1
+-- src/lib.rt:249:1
 step-run-same-length-5 : (t : ℕ) → step-run-lts.Need-same-length-5 (step-run-calls t) (step-run-at t) step-run.Post
 step-run-same-length-5 t c = c .before .before .step-run3 .kept .1 .0
 
--- src/lib.rt:231:1
+-- src/lib.rt:249:1
 step-run-returns-5 : (t : ℕ) → step-run-lts.Need-returns-5 (step-run-calls t) (step-run-at t) step-run.Post
 step-run-returns-5 t c =
     let s = c .before .before .before .before .before .before .before .before .before .before .before in
@@ -232,101 +234,137 @@ step-std-Inv-loop ns t₀ a c i k here₀ live₀ at₀ t here live at = Reached
 abbrev step-std-μ-loop : step-std-lts.MeasureT-loop
 step-std-μ-loop ns t₀ a c i k here₀ live₀ at₀ t here live at = here
 
--- src/lib.rt:191:5
+-- src/lib.rt:203:5
 step-std-loop-holds : (t : ℕ) → step-std-lts.Need-loop-holds (step-std-calls t) (step-std-at t) step-std.Post step-std-Inv-loop step-std-μ-loop
 step-std-loop-holds t c = reached-self (c .before .before .pre .1)
 
--- src/lib.rt:192:13
+-- src/lib.rt:204:13
 step-std-stand-at-requires : (t : ℕ) → step-std-lts.Need-stand-at-requires (step-std-calls t) (step-std-at t) step-std.Post step-std-Inv-loop step-std-μ-loop
 step-std-stand-at-requires t c κs = c .before .loop .inv .ready .spot
 
--- src/lib.rt:194:59
+-- src/lib.rt:206:59
 step-std-enum-told : (t : ℕ) → step-std-lts.Need-enum-told (step-std-calls t) (step-std-at t) step-std.Post step-std-Inv-loop step-std-μ-loop
 step-std-enum-told t c = search needs
 
--- src/lib.rt:194:35
+-- src/lib.rt:206:35
 step-std-set-mode-requires : (t : ℕ) → step-std-lts.Need-set-mode-requires (step-std-calls t) (step-std-at t) step-std.Post step-std-Inv-loop step-std-μ-loop
 step-std-set-mode-requires t c κs = c .before .before .before .before .before .loop .inv .ready .spot .room
 
--- src/lib.rt:194:35
+-- src/lib.rt:206:35
 step-std-same-length : (t : ℕ) → step-std-lts.Need-same-length (step-std-calls t) (step-std-at t) step-std.Post step-std-Inv-loop step-std-μ-loop
 step-std-same-length t c = c .before .before .set-mode .kept .0 ∙ c .before .before .before .before .before .before .before .before .loop .inv .long
 
--- src/lib.rt:194:35
+-- src/lib.rt:206:35
 step-std-returns : (t : ℕ) → step-std-lts.Need-returns (step-std-calls t) (step-std-at t) step-std.Post step-std-Inv-loop step-std-μ-loop
 step-std-returns t c =
     let down = c .before .before .before .before .before .before .before .before .loop .inv in
     down .back _ (event-stepped (down .ready) (sym (c .before .before .before .before .before .before .stand-at .ensures) ∙ c .before .before .before .before .enum-told .given .1) (c .before .before .set-mode .ensures))
 
--- src/lib.rt:195:35
+-- src/lib.rt:207:35
 step-std-enum-told-2 : (t : ℕ) → step-std-lts.Need-enum-told-2 (step-std-calls t) (step-std-at t) step-std.Post step-std-Inv-loop step-std-μ-loop
 step-std-enum-told-2 t c = search needs
 
--- src/lib.rt:195:35
+-- src/lib.rt:207:35
 step-std-same-length-2 : (t : ℕ) → step-std-lts.Need-same-length-2 (step-std-calls t) (step-std-at t) step-std.Post step-std-Inv-loop step-std-μ-loop
 step-std-same-length-2 t c = c .before .before .before .before .loop .inv .long
 
--- src/lib.rt:195:35
+-- src/lib.rt:207:35
 step-std-returns-2 : (t : ℕ) → step-std-lts.Need-returns-2 (step-std-calls t) (step-std-at t) step-std.Post step-std-Inv-loop step-std-μ-loop
 step-std-returns-2 t c = absurd (no-step (c .before .before .before .before .loop .inv .ready) (sym (c .before .before .stand-at .ensures) ∙ c .enum-told2 .given .1))
 
--- src/lib.rt:196:28
+-- src/lib.rt:208:28
 step-std-enum-known-stands : (t : ℕ) → step-std-lts.Need-enum-known-stands (step-std-calls t) (step-std-at t) step-std.Post step-std-Inv-loop step-std-μ-loop
 step-std-enum-known-stands t c = search needs
 
--- src/lib.rt:197:61
+-- src/lib.rt:209:61
 step-std-gone-on-requires : (t : ℕ) → step-std-lts.Need-gone-on-requires (step-std-calls t) (step-std-at t) step-std.Post step-std-Inv-loop step-std-μ-loop
 step-std-gone-on-requires t c κs = search needs
 
--- src/lib.rt:197:21
+-- src/lib.rt:209:21
 step-std-turn-two-requires : (t : ℕ) → step-std-lts.Need-turn-two-requires (step-std-calls t) (step-std-at t) step-std.Post step-std-Inv-loop step-std-μ-loop
 step-std-turn-two-requires t c κs =
     let down = c .before .before .before .before .before .before .before .loop .inv in
     (down .ready .spot .room, both-small (down .ready) (sym (c .before .before .before .before .before .stand-at .ensures) ∙ c .before .before .before .stands .given .1))
 
--- src/lib.rt:191:5
+-- src/lib.rt:211:21
+step-std-pass-requires : (t : ℕ) → step-std-lts.Need-pass-requires (step-std-calls t) (step-std-at t) step-std.Post step-std-Inv-loop step-std-μ-loop
+step-std-pass-requires t c κs = both-first-spot (c .before .before .before .before .before .before .before .before .before .before .before .before .loop .inv .ready) (sym (c .before .before .before .before .before .before .before .before .before .before .stand-at .ensures) ∙ c .before .before .before .before .before .before .before .before .stands .given .1) (c .before .before .before .before .turn-two .kept .0)
+
+-- src/lib.rt:203:5
 step-std-loop-less : (t : ℕ) → step-std-lts.Need-loop-less (step-std-calls t) (step-std-at t) step-std.Post step-std-Inv-loop step-std-μ-loop
 step-std-loop-less t c =
-    let down = c .before .before .before .before .before .before .before .before .before .before .loop .inv in
-    let x = both-turned (down .ready) (sym (c .before .before .before .before .before .before .before .before .stand-at .ensures) ∙ c .before .before .before .before .before .before .stands .given .1) (rw (c .before .before .before .gone-on .ensures) at (c .before .before .turn-two .ensures)) in
+    let down = c .before .before .before .before .before .before .before .before .before .before .before .before .before .before .before .loop .inv in
+    let x = both-second-turned (down .ready) (sym (c .before .before .before .before .before .before .before .before .before .before .before .before .before .stand-at .ensures) ∙ c .before .before .before .before .before .before .before .before .before .before .before .stands .given .1) (rw (c .before .before .before .before .before .before .before .before .gone-on .ensures) at (c .before .before .before .before .before .before .before .turn-two .ensures)) (c .before .before .before .before .if1 .taken) (c .before .before .pass .ensures) in
     x .lower
 
--- src/lib.rt:191:5
+-- src/lib.rt:203:5
 step-std-loop-again : (t : ℕ) → step-std-lts.Need-loop-again (step-std-calls t) (step-std-at t) step-std.Post step-std-Inv-loop step-std-μ-loop
 step-std-loop-again t c =
-    let down = c .before .before .before .before .before .before .before .before .before .before .loop .inv in
-    let x = both-turned (down .ready) (sym (c .before .before .before .before .before .before .before .before .stand-at .ensures) ∙ c .before .before .before .before .before .before .stands .given .1) (rw (c .before .before .before .gone-on .ensures) at (c .before .before .turn-two .ensures)) in
-    reached-on down x (c .before .before .turn-two .kept .0)
+    let down = c .before .before .before .before .before .before .before .before .before .before .before .before .before .before .before .loop .inv in
+    let x = both-second-turned (down .ready) (sym (c .before .before .before .before .before .before .before .before .before .before .before .before .before .stand-at .ensures) ∙ c .before .before .before .before .before .before .before .before .before .before .before .stands .given .1) (rw (c .before .before .before .before .before .before .before .before .gone-on .ensures) at (c .before .before .before .before .before .before .before .turn-two .ensures)) (c .before .before .before .before .if1 .taken) (c .before .before .pass .ensures) in
+    reached-on down x (c .before .before .pass .kept .1 .0 ∙ c .before .before .before .before .before .before .before .turn-two .kept .0)
 
--- src/lib.rt:201:31
+-- src/lib.rt:203:5
+step-std-loop-less-2 : (t : ℕ) → step-std-lts.Need-loop-less-2 (step-std-calls t) (step-std-at t) step-std.Post step-std-Inv-loop step-std-μ-loop
+step-std-loop-less-2 t c =
+    let down = c .before .before .before .before .before .before .before .before .before .before .before .loop .inv in
+    let x = both-first-turned (down .ready) (sym (c .before .before .before .before .before .before .before .before .before .stand-at .ensures) ∙ c .before .before .before .before .before .before .before .stands .given .1) (rw (c .before .before .before .before .gone-on .ensures) at (c .before .before .before .turn-two .ensures)) (c .if1 .left) in
+    x .lower
+
+-- src/lib.rt:203:5
+step-std-loop-again-2 : (t : ℕ) → step-std-lts.Need-loop-again-2 (step-std-calls t) (step-std-at t) step-std.Post step-std-Inv-loop step-std-μ-loop
+step-std-loop-again-2 t c =
+    let down = c .before .before .before .before .before .before .before .before .before .before .before .loop .inv in
+    let x = both-first-turned (down .ready) (sym (c .before .before .before .before .before .before .before .before .before .stand-at .ensures) ∙ c .before .before .before .before .before .before .before .stands .given .1) (rw (c .before .before .before .before .gone-on .ensures) at (c .before .before .before .turn-two .ensures)) (c .if1 .left) in
+    reached-on down x (c .before .before .before .turn-two .kept .0)
+
+-- src/lib.rt:216:31
 step-std-enum-known-stands-2 : (t : ℕ) → step-std-lts.Need-enum-known-stands-2 (step-std-calls t) (step-std-at t) step-std.Post step-std-Inv-loop step-std-μ-loop
 step-std-enum-known-stands-2 t c = search needs
 
--- src/lib.rt:202:21
+-- src/lib.rt:217:21
 step-std-turn-two-requires-2 : (t : ℕ) → step-std-lts.Need-turn-two-requires-2 (step-std-calls t) (step-std-at t) step-std.Post step-std-Inv-loop step-std-μ-loop
 step-std-turn-two-requires-2 t c κs =
     let down = c .before .before .before .before .before .before .loop .inv in
     (down .ready .spot .room, handler-small (down .ready) (sym (c .before .before .before .before .stand-at .ensures) ∙ c .before .before .stands2 .given .1))
 
--- src/lib.rt:191:5
-step-std-loop-less-2 : (t : ℕ) → step-std-lts.Need-loop-less-2 (step-std-calls t) (step-std-at t) step-std.Post step-std-Inv-loop step-std-μ-loop
-step-std-loop-less-2 t c =
-    let down = c .before .before .before .before .before .before .before .before .before .loop .inv in
-    let x = handler-turned (down .ready) (sym (c .before .before .before .before .before .before .before .stand-at .ensures) ∙ c .before .before .before .before .before .stands2 .given .1) (c .before .before .turn-two2 .ensures) in
+-- src/lib.rt:219:21
+step-std-redraw-requires : (t : ℕ) → step-std-lts.Need-redraw-requires (step-std-calls t) (step-std-at t) step-std.Post step-std-Inv-loop step-std-μ-loop
+step-std-redraw-requires t c κs = handler-first-spot (c .before .before .before .before .before .before .before .before .before .before .before .loop .inv .ready) (sym (c .before .before .before .before .before .before .before .before .before .stand-at .ensures) ∙ c .before .before .before .before .before .before .before .stands2 .given .1) (c .before .before .before .before .turn-two2 .kept .0)
+
+-- src/lib.rt:203:5
+step-std-loop-less-3 : (t : ℕ) → step-std-lts.Need-loop-less-3 (step-std-calls t) (step-std-at t) step-std.Post step-std-Inv-loop step-std-μ-loop
+step-std-loop-less-3 t c =
+    let down = c .before .before .before .before .before .before .before .before .before .before .before .before .before .before .loop .inv in
+    let x = handler-second-turned (down .ready) (sym (c .before .before .before .before .before .before .before .before .before .before .before .before .stand-at .ensures) ∙ c .before .before .before .before .before .before .before .before .before .before .stands2 .given .1) (c .before .before .before .before .before .before .before .turn-two2 .ensures) (c .before .before .before .before .if2 .taken) (c .before .before .redraw .ensures) in
     x .lower
 
--- src/lib.rt:191:5
-step-std-loop-again-2 : (t : ℕ) → step-std-lts.Need-loop-again-2 (step-std-calls t) (step-std-at t) step-std.Post step-std-Inv-loop step-std-μ-loop
-step-std-loop-again-2 t c =
-    let down = c .before .before .before .before .before .before .before .before .before .loop .inv in
-    let x = handler-turned (down .ready) (sym (c .before .before .before .before .before .before .before .stand-at .ensures) ∙ c .before .before .before .before .before .stands2 .given .1) (c .before .before .turn-two2 .ensures) in
-    reached-on down x (c .before .before .turn-two2 .kept .0)
+-- src/lib.rt:203:5
+step-std-loop-again-3 : (t : ℕ) → step-std-lts.Need-loop-again-3 (step-std-calls t) (step-std-at t) step-std.Post step-std-Inv-loop step-std-μ-loop
+step-std-loop-again-3 t c =
+    let down = c .before .before .before .before .before .before .before .before .before .before .before .before .before .before .loop .inv in
+    let x = handler-second-turned (down .ready) (sym (c .before .before .before .before .before .before .before .before .before .before .before .before .stand-at .ensures) ∙ c .before .before .before .before .before .before .before .before .before .before .stands2 .given .1) (c .before .before .before .before .before .before .before .turn-two2 .ensures) (c .before .before .before .before .if2 .taken) (c .before .before .redraw .ensures) in
+    reached-on down x (c .before .before .redraw .kept .1 .0 ∙ c .before .before .before .before .before .before .before .turn-two2 .kept .0)
 
--- src/lib.rt:206:29
+-- src/lib.rt:203:5
+step-std-loop-less-4 : (t : ℕ) → step-std-lts.Need-loop-less-4 (step-std-calls t) (step-std-at t) step-std.Post step-std-Inv-loop step-std-μ-loop
+step-std-loop-less-4 t c =
+    let down = c .before .before .before .before .before .before .before .before .before .before .loop .inv in
+    let x = handler-first-turned (down .ready) (sym (c .before .before .before .before .before .before .before .before .stand-at .ensures) ∙ c .before .before .before .before .before .before .stands2 .given .1) (c .before .before .before .turn-two2 .ensures) (c .if2 .left) in
+    x .lower
+
+-- src/lib.rt:203:5
+step-std-loop-again-4 : (t : ℕ) → step-std-lts.Need-loop-again-4 (step-std-calls t) (step-std-at t) step-std.Post step-std-Inv-loop step-std-μ-loop
+step-std-loop-again-4 t c =
+    let down = c .before .before .before .before .before .before .before .before .before .before .loop .inv in
+    let x = handler-first-turned (down .ready) (sym (c .before .before .before .before .before .before .before .before .stand-at .ensures) ∙ c .before .before .before .before .before .before .stands2 .given .1) (c .before .before .before .turn-two2 .ensures) (c .if2 .left) in
+    reached-on down x (c .before .before .before .turn-two2 .kept .0)
+
+-- src/lib.rt:224:29
 step-std-enum-known-stands-3 : (t : ℕ) → step-std-lts.Need-enum-known-stands-3 (step-std-calls t) (step-std-at t) step-std.Post step-std-Inv-loop step-std-μ-loop
 step-std-enum-known-stands-3 t c = search needs
 
--- src/lib.rt:206:39
+-- src/lib.rt:224:39
 step-std-step-block-requires : (t : ℕ) → step-std-lts.Need-step-block-requires (step-std-calls t) (step-std-at t) step-std.Post step-std-Inv-loop step-std-μ-loop
 step-std-step-block-requires t c κs =
     let start = c .before .before .before .before .before .before .before .before .before in
@@ -334,33 +372,33 @@ step-std-step-block-requires t c κs =
     let stands = sym (c .before .before .before .before .stand-at .ensures) ∙ c .before .before .stands3 .given .1 in
     (omega (arith, start .pre .0, down .low), (block-ready (down .ready) stands, block-stands (down .ready) stands))
 
--- src/lib.rt:206:39
+-- src/lib.rt:224:39
 step-std-same-length-3 : (t : ℕ) → step-std-lts.Need-same-length-3 (step-std-calls t) (step-std-at t) step-std.Post step-std-Inv-loop step-std-μ-loop
 step-std-same-length-3 t c = c .before .before .step-block .kept .1 .0 ∙ c .before .before .before .before .before .before .before .before .before .loop .inv .long
 
--- src/lib.rt:206:39
+-- src/lib.rt:224:39
 step-std-returns-3 : (t : ℕ) → step-std-lts.Need-returns-3 (step-std-calls t) (step-std-at t) step-std.Post step-std-Inv-loop step-std-μ-loop
 step-std-returns-3 t c =
     let down = c .before .before .before .before .before .before .before .before .before .loop .inv in
     down .back _ (block-stepped (down .ready) (sym (c .before .before .before .before .before .before .before .stand-at .ensures) ∙ c .before .before .before .before .before .stands3 .given .1) (c .before .before .step-block .ensures))
 
--- src/lib.rt:207:26
+-- src/lib.rt:225:26
 step-std-enum-known-stands-4 : (t : ℕ) → step-std-lts.Need-enum-known-stands-4 (step-std-calls t) (step-std-at t) step-std.Post step-std-Inv-loop step-std-μ-loop
 step-std-enum-known-stands-4 t c = search needs
 
--- src/lib.rt:191:5
-step-std-loop-less-3 : (t : ℕ) → step-std-lts.Need-loop-less-3 (step-std-calls t) (step-std-at t) step-std.Post step-std-Inv-loop step-std-μ-loop
-step-std-loop-less-3 t c =
+-- src/lib.rt:203:5
+step-std-loop-less-5 : (t : ℕ) → step-std-lts.Need-loop-less-5 (step-std-calls t) (step-std-at t) step-std.Post step-std-Inv-loop step-std-μ-loop
+step-std-loop-less-5 t c =
     let down = c .before .before .before .before .before .loop .inv in
     let x = only-turned (down .ready) (sym (c .before .before .before .stand-at .ensures) ∙ c .before .stands4 .given .1) in
     x .lower
 
--- src/lib.rt:191:5
-step-std-loop-again-3 : (t : ℕ) → step-std-lts.Need-loop-again-3 (step-std-calls t) (step-std-at t) step-std.Post step-std-Inv-loop step-std-μ-loop
-step-std-loop-again-3 t c =
+-- src/lib.rt:203:5
+step-std-loop-again-5 : (t : ℕ) → step-std-lts.Need-loop-again-5 (step-std-calls t) (step-std-at t) step-std.Post step-std-Inv-loop step-std-μ-loop
+step-std-loop-again-5 t c =
     let down = c .before .before .before .before .before .loop .inv in
     let x = only-turned (down .ready) (sym (c .before .before .before .stand-at .ensures) ∙ c .before .stands4 .given .1) in
     reached-on down x refl
 
 pub +step-block+step-run+step-std-spec : {M : Type 1} → statement M
-+step-block+step-run+step-std-spec = close μ-step-block μ-step-run μ-step-std (λ t. step-block-lts.spec (step-block-calls t) (step-block-at t) step-block.Post (step-block-count-at-requires t) (step-block-step-run-requires t) (step-block-turn-out-requires t) (step-block-step-std-requires t) (step-block-same-length t) (step-block-returns t) (step-block-same-length-2 t) (step-block-returns-2 t)) (λ t. step-run-lts.spec (step-run-calls t) (step-run-at t) step-run.Post (step-run-course-at-requires t) (step-run-enum-told t) (step-run-enum-known-runs t) (step-run-step-std-requires t) (step-run-enum-known-runs-2 t) (step-run-turn-run-requires t) (step-run-step-run-requires t) (step-run-enum-known-runs-3 t) (step-run-step-run-requires-2 t) (step-run-enum-known-runs-4 t) (step-run-step-run-requires-3 t) (step-run-same-length t) (step-run-returns t) (step-run-same-length-2 t) (step-run-returns-2 t) (step-run-same-length-3 t) (step-run-returns-3 t) (step-run-same-length-4 t) (step-run-returns-4 t) (step-run-same-length-5 t) (step-run-returns-5 t)) λ t. step-std-lts.spec (step-std-calls t) (step-std-at t) step-std.Post step-std-Inv-loop step-std-μ-loop (step-std-loop-holds t) (step-std-stand-at-requires t) (step-std-enum-told t) (step-std-set-mode-requires t) (step-std-same-length t) (step-std-returns t) (step-std-enum-told-2 t) (step-std-same-length-2 t) (step-std-returns-2 t) (step-std-enum-known-stands t) (step-std-gone-on-requires t) (step-std-turn-two-requires t) (step-std-loop-less t) (step-std-loop-again t) (step-std-enum-known-stands-2 t) (step-std-turn-two-requires-2 t) (step-std-loop-less-2 t) (step-std-loop-again-2 t) (step-std-enum-known-stands-3 t) (step-std-step-block-requires t) (step-std-same-length-3 t) (step-std-returns-3 t) (step-std-enum-known-stands-4 t) (step-std-loop-less-3 t) (step-std-loop-again-3 t)
++step-block+step-run+step-std-spec = close μ-step-block μ-step-run μ-step-std (λ t. step-block-lts.spec (step-block-calls t) (step-block-at t) step-block.Post (step-block-count-at-requires t) (step-block-step-run-requires t) (step-block-turn-out-requires t) (step-block-step-std-requires t) (step-block-same-length t) (step-block-returns t) (step-block-same-length-2 t) (step-block-returns-2 t)) (λ t. step-run-lts.spec (step-run-calls t) (step-run-at t) step-run.Post (step-run-course-at-requires t) (step-run-enum-told t) (step-run-enum-known-runs t) (step-run-step-std-requires t) (step-run-enum-known-runs-2 t) (step-run-turn-run-requires t) (step-run-step-run-requires t) (step-run-enum-known-runs-3 t) (step-run-step-run-requires-2 t) (step-run-enum-known-runs-4 t) (step-run-step-run-requires-3 t) (step-run-same-length t) (step-run-returns t) (step-run-same-length-2 t) (step-run-returns-2 t) (step-run-same-length-3 t) (step-run-returns-3 t) (step-run-same-length-4 t) (step-run-returns-4 t) (step-run-same-length-5 t) (step-run-returns-5 t)) λ t. step-std-lts.spec (step-std-calls t) (step-std-at t) step-std.Post step-std-Inv-loop step-std-μ-loop (step-std-loop-holds t) (step-std-stand-at-requires t) (step-std-enum-told t) (step-std-set-mode-requires t) (step-std-same-length t) (step-std-returns t) (step-std-enum-told-2 t) (step-std-same-length-2 t) (step-std-returns-2 t) (step-std-enum-known-stands t) (step-std-gone-on-requires t) (step-std-turn-two-requires t) (step-std-pass-requires t) (step-std-loop-less t) (step-std-loop-again t) (step-std-loop-less-2 t) (step-std-loop-again-2 t) (step-std-enum-known-stands-2 t) (step-std-turn-two-requires-2 t) (step-std-redraw-requires t) (step-std-loop-less-3 t) (step-std-loop-again-3 t) (step-std-loop-less-4 t) (step-std-loop-again-4 t) (step-std-enum-known-stands-3 t) (step-std-step-block-requires t) (step-std-same-length-3 t) (step-std-returns-3 t) (step-std-enum-known-stands-4 t) (step-std-loop-less-5 t) (step-std-loop-again-5 t)
