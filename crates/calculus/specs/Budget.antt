@@ -1,15 +1,16 @@
 -- The search that is given what is left of the allowance (Spending) gives the verdict of the search that is counted: `budgeted`.
--- Assumes nothing.
+-- What it brings back of any allowance is what the counted search saw, or nothing where that is more (`visit-left`); so what is brought
+-- back of one allowance tells of any larger one (`more-left`), and what was seen (`back-seen`). Assumes nothing.
 use Prim.Native.Nat.{ℕ, zero, suc, _+_, _-_, max, _≤_, _<_}
 use mathlib.Core.Path.{_≡_, refl, sym, _∙_, ap, ap₂, subst}
-use mathlib.Core.Bool.{Bool, true, false}
+use mathlib.Core.Bool.{Bool, true, false, cond}
 use mathlib.Core.List.{List, [], _∷_}
 use native.Mathlib.Omega.{arith}
 use lib.Dec.{leb}
 use lib.ListN.{length}
 use borrow.Author.Tests.{le-leb, lt-leb}
 use Rattle.calculus.specs.Records.{Record, State}
-use Rattle.calculus.specs.Spending.{Out, spent, back, bump, chain, triesB, visitB}
+use Rattle.calculus.specs.Spending.{Out, spent, back, bump, chain, triesB, visitB, left-of}
 use Rattle.calculus.specs.Search.{next, Seen, or-else, tries, visit, Verdict, accepted, rejected, undecided, settle, judge}
 
 -- what came back is what is seen, if the allowance n is enough
@@ -50,6 +51,38 @@ visit-fits (r ∷ rs) s (suc n) = one-more (triesB (λ t m. visitB rs t m) (next
     one-more : (o : Out) → Fits (tries (λ t. visit rs t) (next s r)) n o → Fits (visit (r ∷ rs) s) (suc n) o
     one-more spent (short k) = short (omega arith)
     one-more (back b d m) (fit eb ed en) = fit {m = m} eb ed (omega arith)
+
+-- what is seen decides what is brought back
+pub visit-left : (rs : List Record) (s : State) (n : ℕ) → visitB rs s n ≡ left-of (visit rs s) n
+unfolding left-of
+visit-left rs s n = by (visitB rs s n) (visit-fits rs s n)
+  where
+    by : (o : Out) → Fits (visit rs s) n o → o ≡ left-of (visit rs s) n
+    by spent (short k) = sym (ap (λ c. cond c (back ((visit rs s) .found) ((visit rs s) .reached) (n - (visit rs s) .entered)) spent) (lt-leb ((visit rs s) .entered) n k))
+    by (back b d m) (fit eb ed en) =
+        let q : m ≡ n - (visit rs s) .entered = omega arith in
+        (λ i. back (eb i) (ed i) (q i))
+        ∙ sym (ap (λ c. cond c (back ((visit rs s) .found) ((visit rs s) .reached) (n - (visit rs s) .entered)) spent) (le-leb ((visit rs s) .entered) n (omega arith)))
+
+module _ (rs : List Record) (s : State) (n : ℕ) {b : Bool} {d m : ℕ} (e : visitB rs s n ≡ back b d m) where
+  fitted : Fits (visit rs s) n (back b d m)
+  fitted = subst (Fits (visit rs s) n) e (visit-fits rs s n)
+
+  -- what was seen, told by what came back
+  pub back-seen : visit rs s ≡ record { found = b; reached = d; entered = n - m }
+  back-seen = by fitted
+    where
+      by : Fits (visit rs s) n (back b d m) → visit rs s ≡ record { found = b; reached = d; entered = n - m }
+      by (fit eb ed en) =
+          let q : (visit rs s) .entered ≡ n - m = omega arith in
+          λ i. record { found = sym eb i; reached = sym ed i; entered = q i }
+
+  -- with a larger allowance more is left, and nothing else is different
+  pub more-left : (l : ℕ) → m ≤ n → n ≤ l → visitB rs s l ≡ back b d (l - (n - m))
+  unfolding left-of
+  more-left l h k =
+      visit-left rs s l ∙ ap (λ x. left-of x l) back-seen
+      ∙ ap (λ c. cond c (back b d (l - (n - m))) spent) (le-leb (n - m) l (omega arith))
 
 unfoldable pub answer : List Record → ℕ → Out → Verdict
 answer rs n spent = undecided 0 n

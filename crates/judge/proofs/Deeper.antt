@@ -12,7 +12,8 @@ use borrow.Rule.Slice.PartMut.{putMid, midOf, same-len-mid}
 use Rattle.calculus.specs.Records.{Record, State, Fits}
 use Rattle.calculus.specs.Search.{next}
 use Rattle.calculus.specs.Found.{next-moves, fits-moves}
-use Rattle.calculus.specs.Spending.{spent, visitB}
+use Rattle.calculus.specs.Spending.{spent, visitB, left-of}
+use Rattle.calculus.specs.Budget.{more-left}
 use Rattle.flow.specs.Records.{record-of, records}
 use Rattle.flow.specs.Refusals.{count, root, no-record}
 use Rattle.tallies.specs.Capped.{cap}
@@ -20,11 +21,18 @@ use Rattle.tallies.specs.Places.{At}
 use Rattle.states.specs.Contracts.{Spot}
 use Rattle.states.specs.declared.Role.{Role}
 use Rattle.states.specs.declared.Role.the-variants.{Plain, Running}
+use Rattle.memory.specs.declared.Sight.{Sight}
+use Rattle.memory.specs.declared.Recalled.the-variants.{Known as Recall}
+use Rattle.memory.specs.Memory.{Fitting, recalled}
+use Rattle.memory.specs.MemoryLaws.{recalled-held}
 use Rattle.judge.specs.declared.Out.{Out}
-use Rattle.judge.specs.declared.Out.the-variants.{Spent}
-use Rattle.judge.specs.Visits.{state, role-next, out-of, onward, stretches, Known, VisitReady, Used, quest, Visited, Tried, Followed, Inner, RightCounts, successor-count, Applied}
+use Rattle.judge.specs.declared.Out.the-variants.{Spent, Back}
+use Rattle.judge.specs.declared.Trip.{Trip}
+use Rattle.judge.specs.Visits.{state, role-next, out-of, onward, stretches, Known, VisitReady, Used, Memory, key-of, saw-none, Has, Truthful, Learned, KeptOut, quest, Began, Visited, Tried, Followed, Inner, RightCounts, successor-count, Applied}
 use Rattle.judge.proofs.Numbers.{first-inner}
-use Rattle.judge.proofs.Stretches.{copy-same, copy-length, tail-is, back-is, front-length, stretches-next, stretches-some, used-same, used-deeper, kept-from, state-same, right-same, used-modes}
+use Rattle.judge.proofs.Memories.{key-small, learned-same, learned-trans, learned-rest, recalled-out, kept-learned}
+use Rattle.judge.proofs.Turns.{Turn}
+use Rattle.judge.proofs.Stretches.{copy-same, copy-length, tail-is, back-is, front-length, stretches-next, stretches-some, used-same, used-trans, used-deeper, kept-from, state-same, right-same, used-modes}
 
 -- Visits ------------------------------------------------------------------------------------------------------------------
 
@@ -66,10 +74,10 @@ visit-some : (s : State) (r : ℕ) (rs : List ℕ) (n : ℕ) → visitB (records
 unfolding visitB onward
 visit-some s r rs n = refl
 
-module _ (ns rs t : List ℕ) (role : Role) (left : ℕ) where
-  pub visited-spent : left ≡ 0 → Visited (quest ns rs t role left) t Spent
+module _ (ns rs t : List ℕ) (role : Role) (left : ℕ) (m : Memory) where
+  pub visited-spent : left ≡ 0 → Visited (quest ns rs t role left m) t m Spent
   unfolding out-of
-  visited-spent z = record { out = sym (ap (visitB (records rs) (state ns role t)) z ∙ visit-none (records rs) (state ns role t)); used = used-same (count ns) (length rs) t }
+  visited-spent z = record { out = sym (ap (visitB (records rs) (state ns role t)) z ∙ visit-none (records rs) (state ns role t)); used = used-same (count ns) (length rs) t; learned = learned-same ns rs m }
 
   module _ (some : left ≢ 0) where
     visit-on : (r : ℕ) (rs′ : List ℕ) → rs ≡ r ∷ rs′ → onward (state ns role t) r rs′ (left - 1) ≡ visitB (records rs) (state ns role t) left
@@ -77,11 +85,44 @@ module _ (ns rs t : List ℕ) (role : Role) (left : ℕ) where
         let q : suc (left - 1) ≡ left = omega (arith, some) in
         sym (visit-some (state ns role t) r rs′ (left - 1)) ∙ ap (λ l. visitB (records l) (state ns role t) (suc (left - 1))) (sym e) ∙ ap (visitB (records rs) (state ns role t)) q
 
-    pub visited-last : (o : Out) → length rs ≡ 1 → out-of o ≡ onward (state ns role t) (getD rs 0 0) [] (left - 1) → Visited (quest ns rs t role left) t o
-    visited-last o h e = record { out = e ∙ visit-on (getD rs 0 0) [] (only-one rs h); used = used-same (count ns) (length rs) t }
+    pub visited-last : (o : Out) → length rs ≡ 1 → out-of o ≡ onward (state ns role t) (getD rs 0 0) [] (left - 1) → Visited (quest ns rs t role left m) t m o
+    visited-last o h e = record { out = e ∙ visit-on (getD rs 0 0) [] (only-one rs h); used = used-same (count ns) (length rs) t; learned = learned-same ns rs m }
 
-    pub visited-tried : (o : Out) (t′ : List ℕ) → 1 ≤ length rs → Tried (quest ns rs t role (left - 1)) t′ o → Visited (quest ns rs t role left) t′ o
-    visited-tried o t′ h e = record { out = e .out ∙ visit-on (getD rs 0 0) (drop 1 rs) (first-rest rs h); used = e .used }
+    pub visited-tried : (o : Out) (t′ : List ℕ) (m′ : Memory) → 1 ≤ length rs → Tried (quest ns rs t role (left - 1) m) t′ m′ o → Visited (quest ns rs t role left m) t′ m′ o
+    visited-tried o t′ m′ h e = record { out = e .out ∙ visit-on (getD rs 0 0) (drop 1 rs) (first-rest rs h); used = e .used; learned = e .learned }
+
+-- What is remembered of the state ---------------------------------------------------------------------------------------------
+
+module _ {ns rs t : List ℕ} {role : Role} (ready : VisitReady ns rs t role) (m : Memory) {key : ℕ} (e : key ≡ key-of role (length rs)) where
+  pub memory-fits : (t′ : List ℕ) → length t′ ≡ length t → Truthful ns rs m → Fitting (m .modes) (m .marks) t′ (count ns) key
+  memory-fits t′ l f =
+      let o = stretches-some (count ns) (length rs) (ready-some ready) in
+      let r = ready .room in
+      let n = ready .sound .few in
+      record {
+        few = omega arith;
+        there = omega arith;
+        small = subst (λ k. k ≤ 4000) (sym e) (key-small role (length rs) (ready .known .few));
+        room = f .room;
+      }
+
+  -- it is recalled
+  pub visited-known : Truthful ns rs m → (left : ℕ) {x : Sight} (o : Out) → recalled (m .modes) (m .marks) t (count ns) key ≡ Recall x → out-of o ≡ left-of (saw-none x) left → Visited (quest ns rs t role left m) t m o
+  visited-known f left {x} o h k = record {
+    out = recalled-out f (ready-some ready) role t left x o (subst (λ z. Has ns rs m z t x) e (recalled-held (m .modes) (m .marks) t (count ns) key x h)) k;
+    used = used-same (count ns) (length rs) t;
+    learned = learned-same ns rs m;
+  }
+
+  -- it is kept
+  pub visited-kept : (left : ℕ) (t′ : List ℕ) (m′ m″ : Memory) (o : Out) → Visited (quest ns rs t role left m) t′ m′ o → KeptOut (count ns) key t′ left (out-of o) m′ m″ → Visited (quest ns rs t role left m) t′ m″ o
+  visited-kept left t′ m′ m″ o v k = record {
+    out = v .out;
+    used = v .used;
+    learned = learned-trans ns rs (v .learned)
+        (kept-learned ns rs (ready .sound) (ready .some) role t t′ left (used-modes ns (ready .sound) (ready .some) (length rs) t t′ (v .used)) (v .out)
+        (subst (λ z. KeptOut (count ns) z t′ left (out-of o) m′ m″) e k));
+  }
 
 pub last-fits : {ns rs t : List ℕ} {role : Role} → VisitReady ns rs t role → length rs ≡ 1 → Fits (state ns role t) (records (getD rs 0 0 ∷ []))
 last-fits {ns} {rs} {t} {role} ready h = subst (λ l. Fits (state ns role t) (records l)) (only-one rs h) (ready .fits)
@@ -92,19 +133,41 @@ module _ {ns rs t : List ℕ} {role : Role} (ready : VisitReady ns rs t role) (t
   pub same-state : state ns role t ≡ state ns role t′
   same-state = state-same ns (ready .sound) (ready .some) t t′ (used-modes ns (ready .sound) (ready .some) (length rs) t t′ used) role
 
+  pub began-again : (left left′ : ℕ) {t″ : List ℕ} {o : Out} → Began ns rs t′ role left′ t″ o → Began ns rs t role left′ t″ o
+  began-again left left′ b = record { out = b .out ∙ ap (λ s. visitB (records rs) s left′) (sym same-state); used = used-trans used (b .used) }
+
   pub ready-still : length t′ ≡ length t → VisitReady ns rs t′ role
   ready-still l =
       let q = ready .room in
       record { sound = ready .sound; some = ready .some; known = ready .known; fits = subst (λ s. Fits s (records rs)) same-state (ready .fits); room = omega arith }
 
-  pub right-still : (a : ℕ) (c : List ℕ) → RightCounts ns role a t c → RightCounts ns role a t′ c
-  right-still a c r = right-same ns (ready .sound) (ready .some) t t′ (used-modes ns (ready .sound) (ready .some) (length rs) t t′ used) role a c r
+  pub right-still : (a : ℕ) (c d : List ℕ) → RightCounts ns role a t c d → RightCounts ns role a t′ c d
+  right-still a c d r = right-same ns (ready .sound) (ready .some) t t′ (used-modes ns (ready .sound) (ready .some) (length rs) t t′ used) role a c d r
 
   pub count-still : (k a n : ℕ) → k < n → n ≡ successor-count ns role a t → k < successor-count ns role a t′
   count-still k a n h e = subst (λ s. k < cap (length (next s (record-of a)))) same-state (subst (λ m. k < m) e h)
 
   pub goes-still : (a k : ℕ) {into : State} → At (next (state ns role t′) (record-of a)) k into → At (next (state ns role t) (record-of a)) k into
   goes-still a k {into} g = subst (λ s. At (next s (record-of a)) k into) (sym same-state) g
+
+-- a search of fewer states was enough
+pub began-more : (ns rs t : List ℕ) (role : Role) (few left : ℕ) {t′ : List ℕ} {o : Out} {trip : Trip} → Began ns rs t role few t′ o → o ≡ Back trip → trip .left ≤ few → few ≤ left
+    → Began ns rs t role left t′ (Back (record { found = trip .found; far = trip .far; left = left - (few - trip .left) }))
+unfolding out-of
+began-more ns rs t role few left b e h k = record {
+  out = sym (more-left (records rs) (state ns role t) few (sym (b .out) ∙ ap out-of e) left h k);
+  used = b .used;
+}
+
+-- between two successors: the bytes lent are as many as before, the state's own stretch is kept, what was learned is right, and what comes
+-- of all successors is what comes of those still to be tried
+pub record Going (ns rs t : List ℕ) (role : Role) (left : ℕ) (m : Memory) (t′ : List ℕ) (m′ : Memory) (k far rest : ℕ) : Type 0 where
+  pub long : length t′ ≡ length t
+  pub wide : length (m′ .modes) ≡ length (m .modes)
+  pub deep : length (m′ .marks) ≡ length (m .marks)
+  pub used : Used (count ns) (length rs) t t′
+  pub learned : Learned ns rs m m′
+  pub turn : Turn (state ns role t) (getD rs 0 0) (drop 1 rs) left k far rest
 
 -- the records after the first, as a part of the slice
 pub rest-is : (rs : List ℕ) → take (length rs - 1) (drop 1 rs) ≡ drop 1 rs
@@ -155,9 +218,9 @@ module _ {ns rs d : List ℕ} {role : Role} (ready : VisitReady ns rs d role) (t
   part-length : length part ≡ length d - 2 * count ns
   part-length = ap length part-is ∙ length-drop (2 * count ns) x ∙ ap (λ n. n - 2 * count ns) (copy-length d x (2 * count ns) (count ns) e fits-copy)
 
-  pub apply-asked : (c : List ℕ) (k : ℕ) → RightCounts ns role (getD rs 0 0) d c → k < successor-count ns role (getD rs 0 0) d
-      → Spot ns part (root ns) × (((3 ≤ length ns) × Inner role (getD rs 0 0)) × (RightCounts ns role (getD rs 0 0) part c × (k < successor-count ns role (getD rs 0 0) part)))
-  apply-asked c k r h =
+  pub apply-asked : (c e : List ℕ) (k : ℕ) → RightCounts ns role (getD rs 0 0) d c e → k < successor-count ns role (getD rs 0 0) d
+      → Spot ns part (root ns) × (((3 ≤ length ns) × Inner role (getD rs 0 0)) × (RightCounts ns role (getD rs 0 0) part c e × (k < successor-count ns role (getD rs 0 0) part)))
+  apply-asked c e k r h =
       let s = ready .some in
       let l = part-length in
       let w = two-stretches ready two in
@@ -166,7 +229,7 @@ module _ {ns rs d : List ℕ} {role : Role} (ready : VisitReady ns rs d role) (t
         (
           (ready .some, first-inner ns d role rs (ready .known) two (ready .fits)),
           (
-            right-same ns (ready .sound) (ready .some) d part part-same role (getD rs 0 0) c r,
+            right-same ns (ready .sound) (ready .some) d part part-same role (getD rs 0 0) c e r,
             subst (λ s. k < cap (length (next s (record-of (getD rs 0 0))))) part-state h,
           ),
         ),
@@ -222,11 +285,11 @@ module _ {ns rs d : List ℕ} {role : Role} (ready : VisitReady ns rs d role) (t
       pub visit-asked : VisitReady ns rs′ part′ role′
       visit-asked = subst (λ l. VisitReady ns l part′ role′) (sym er) (subst (λ l. VisitReady ns (drop 1 rs) l role′) (sym part′-is) (subst (λ o. VisitReady ns (drop 1 rs) p o) (sym eo) deeper))
 
-      pub followed : (left : ℕ) (o : Out) (q : List ℕ) → Visited (quest ns rs′ part′ role′ left) q o
-          → Followed (quest ns rs d role left) (putMid (2 * count ns) (length y - 2 * count ns) y q) o k
-      followed left o q v =
-          let v′ : Visited (quest ns (drop 1 rs) p (role-next role (getD rs 0 0)) left) q o
-          = subst (λ l. Visited (quest ns l p (role-next role (getD rs 0 0)) left) q o) er (subst (λ l. Visited (quest ns rs′ l (role-next role (getD rs 0 0)) left) q o) part′-is (subst (λ z. Visited (quest ns rs′ part′ z left) q o) eo v)) in
+      pub followed : (left : ℕ) (o : Out) (q : List ℕ) (m m′ : Memory) → Visited (quest ns rs′ part′ role′ left m) q m′ o
+          → Followed (quest ns rs d role left m) (putMid (2 * count ns) (length y - 2 * count ns) y q) m′ o k
+      followed left o q m m′ v =
+          let v′ : Visited (quest ns (drop 1 rs) p (role-next role (getD rs 0 0)) left m) q m′ o
+          = subst (λ l. Visited (quest ns l p (role-next role (getD rs 0 0)) left m) q m′ o) er (subst (λ l. Visited (quest ns rs′ l (role-next role (getD rs 0 0)) left m) q m′ o) part′-is (subst (λ z. Visited (quest ns rs′ part′ z left m) q m′ o) eo v)) in
           let l = length-drop 1 rs in
           let j : suc (length (drop 1 rs)) ≡ length rs = omega arith in
           let z : List ℕ = putMid (2 * count ns) (length y - 2 * count ns) y q in
@@ -239,4 +302,5 @@ module _ {ns rs d : List ℕ} {role : Role} (ready : VisitReady ns rs d role) (t
                 (same ∙ ap length part-is)
                 (λ i h. kept-from ns (ready .sound) (ready .some) part p (app .kept) i h ∙ ap (λ l. getD l i 0) part-is)
                 y-is (v′ .used) (back-is (2 * count ns) y back-room q));
+            learned = learned-rest ns rs (omega arith) (v′ .learned);
           }

@@ -2,4 +2,5 @@ mod Turns
 mod Stretches
 mod Numbers
 mod OneRecord
+mod Memories
 mod Deeper

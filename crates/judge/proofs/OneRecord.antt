@@ -3,11 +3,12 @@
 use Prim.Native.Nat.{ℕ, suc, _-_, _≤_, _<_}
 use mathlib.Core.Path.{_≡_, refl, sym, ap, _∙_, subst, subst₂}
 use mathlib.Core.Bool.{Bool, true, false, cond}
-use mathlib.Core.Logic.{_≢_}
+use mathlib.Core.Logic.{_≢_, _⊎_, inl, inr}
 use mathlib.Core.List.{List, [], _∷_, map}
 use native.Mathlib.Omega.{arith}
+use lib.Dec.{T}
 use lib.ListN.{length, length-map}
-use borrow.Author.Tests.{lt-ltb, le-ltb}
+use borrow.Author.Tests.{lt-ltb, le-ltb, leb-true, leb-false}
 use Rattle.calculus.specs.Term.{Closing, done, withdrawn, failed, Std}
 use Rattle.calculus.specs.Records.{State, over, std, cmp, Fits}
 use Rattle.calculus.specs.Successors.{only, ends, comps}
@@ -16,7 +17,7 @@ use Rattle.calculus.specs.Spending.{spent, back, chain, triesB, visitB}
 use Rattle.flow.specs.Records.{done-number, failed-number, record-of, records}
 use Rattle.flow.specs.Refusals.{root}
 use Rattle.tallies.specs.Capped.{cap}
-use Rattle.tallies.specs.Counts.{moves, view, tally}
+use Rattle.tallies.specs.Counts.{moves, view, tally, word}
 use Rattle.tallies.specs.Formulas.{byW, closing, oneG}
 use Rattle.tallies.specs.PlacesLaws.{at-map}
 use Rattle.tallies.specs.Places.{At}
@@ -30,10 +31,11 @@ use Rattle.states.specs.declared.Sense.{Sense}
 use Rattle.states.specs.declared.Sense.the-variants.{Undoing}
 use Rattle.states.specs.declared.Role.{Role}
 use Rattle.states.specs.declared.Role.the-variants.{Plain, Running}
-use Rattle.states.specs.Roles.{Term, get, nexts, many, Sight, look, moves-of}
+use Rattle.states.specs.Roles.{Term, get, nexts, many, Sight, look, moves-of, ok}
 use Rattle.states.specs.NotedLaws.{counted-right}
-use Rattle.states.specs.Contracts.{Spot, scene, weight-of, ask, Counted, Ready, Stepped, Chosen}
-use Rattle.judge.specs.Visits.{state, role-next, closing-of, ends-by, onward, Inner, RightCounts, successor-count, SuccessorsCounted, Applied}
+use Rattle.seek.specs.Weighed.{Known as MayKnow, Weighed}
+use Rattle.states.specs.Contracts.{Spot, scene, stored-at, weight-of, ask, Counted, Ready, Stepped, Chosen}
+use Rattle.judge.specs.Visits.{state, role-next, closing-of, ends-by, onward, Inner, RightCounts, successor-count, SuccessorsCounted, ClosingsCounted, closes, Applied}
 use Rattle.judge.proofs.Numbers.{record-event, record-close, last-close, not-twice}
 
 -- Successors, by the role -------------------------------------------------------------------------------------------------
@@ -96,10 +98,10 @@ module _ (ns t : List ℕ) (r i : ℕ) (e : i ≡ root ns) {role x : Role} (g : 
         subst (λ z. SuccessorsCounted ns z r t c′ (moves-of x v)) (sym g)
         (record { many = moves-seen x r (at-root ns t) (q .seen) ∙ sym (count-event ns t r x event); right = counted-right q })
 
-    pub step-asked : Spot ns t (root ns) → {c : List ℕ} → RightCounts ns role r t c → {k : ℕ} → k < successor-count ns role r t → Ready (scene ns t r) x c i k
-    step-asked spot {c} right {k} h = subst (λ j. Ready (scene ns t r) x c j k) (sym e) (record {
+    pub step-asked : Spot ns t (root ns) → {c d : List ℕ} → RightCounts ns role r t c d → {k : ℕ} → k < successor-count ns role r t → Ready (scene ns t r) x c i k
+    step-asked spot {c} {d} right {k} h = subst (λ j. Ready (scene ns t r) x c j k) (sym e) (record {
       spot = spot;
-      right = subst (λ z. RightCounts ns z r t c) g right;
+      right = subst (λ z. T (ok z (stored-at (scene ns t r) c (root ns)))) g (right .steps event);
       room = subst (λ n. k < n) (ap (λ z. successor-count ns z r t) g ∙ count-event ns t r x event) h;
     })
 
@@ -117,20 +119,12 @@ module _ (ns t : List ℕ) (r i : ℕ) (e : i ≡ root ns) {role : Role} (g : ro
   high : r ≤ failed-number
   high = subst (λ z. Inner z r) g inner
 
-  pub counted-closing : {c c′ : List ℕ} {v : Word} → Counted (scene ns t r) Running i c c′ v → {y : Tally} → y ≡ byW v (closing w) → SuccessorsCounted ns role r t c′ (y .many)
-  unfolding tally
-  counted-closing {c} {c′} {v} k {y} ey =
-      let q : Counted (scene ns t r) Running (root ns) c c′ v = subst (λ j. Counted (scene ns t r) Running j c c′ v) e k in
-      subst (λ z. SuccessorsCounted ns z r t c′ (y .many)) (sym g) (record {
-        many = ap (λ (z : Tally). z .many) (tally-by r (at-root ns t .run) (closing-of r) (q .seen) (ey ∙ ap (byW v) cw)) ∙ sym (count-closing ns t r low high);
-        right = counted-right q;
-      })
-
-  pub closing-asked : w < 3 → Spot ns t (root ns) → {k : ℕ} → k < successor-count ns role r t → Spot ns t i × ((w < 3) × (k < weight-of (scene ns t r) i (closing w) oneG))
-  closing-asked l spot {k} h =
+  pub closing-asked : w < 3 → Spot ns t (root ns) → {c d : List ℕ} → RightCounts ns role r t c d → {k : ℕ} → k < successor-count ns role r t
+      → Spot ns t i × (MayKnow (scene ns t r) d i × ((w < 3) × (k < weight-of (scene ns t r) i (closing w) oneG)))
+  closing-asked l spot {c} {d} right {k} h =
       let n : k < cap (length (comps (at-root ns t .run) (closing-of r))) = subst (λ n. k < n) (ap (λ z. successor-count ns z r t) g ∙ count-closing ns t r low high) h in
-      subst (λ j. Spot ns t j × ((w < 3) × (k < weight-of (scene ns t r) j (closing w) oneG))) (sym e)
-      (spot, (l, subst (λ z. k < weight-of (scene ns t r) (root ns) z oneG) (sym cw) (seek-one-room r (comps (at-root ns t .run) (closing-of r)) n)))
+      subst (λ j. Spot ns t j × (MayKnow (scene ns t r) d j × ((w < 3) × (k < weight-of (scene ns t r) j (closing w) oneG)))) (sym e)
+      (spot, (right .closings low, (l, subst (λ z. k < weight-of (scene ns t r) (root ns) z oneG) (sym cw) (seek-one-room r (comps (at-root ns t .run) (closing-of r)) n))))
 
   pub closing-applied : {k : ℕ} {t′ : List ℕ} {p : Picked} → Chosen (scene ns t r) i (ask (closing w) oneG k) t′ p → Applied ns role r t k t′
   unfolding state role-next
@@ -141,6 +135,48 @@ module _ (ns t : List ℕ) (r i : ℕ) (e : i ≡ root ns) {role : Role} (g : ro
         goes = subst₂ (λ l x. At l k (state ns x t′)) (sym (next-closing ns t r low high)) (sym ends) (at-map std (seek-one r (q .sought .found)));
         kept = q .kept;
       })
+
+pub counted-closing : (ns t : List ℕ) (r i : ℕ) → i ≡ root ns → done-number ≤ r → r ≤ failed-number → (w : ℕ) → closing w ≡ closing-of r → {d : List ℕ} {v : Word} {y : Tally}
+    → v ≡ word r (part ns (modes t) i .run) → Weighed (scene ns t r) d i → y ≡ byW v (closing w) → ClosingsCounted ns r t d (y .many)
+unfolding tally
+counted-closing ns t r i e low high w cw {d} {v} {y} ev ok ey = record {
+  many =
+      ap (λ (z : Tally). z .many) (tally-by r (at-root ns t .run) (closing-of r) (ev ∙ ap (λ j. word r (part ns (modes t) j .run)) e) (ey ∙ ap (byW v) cw))
+      ∙ sym (count-closing ns t r low high);
+  right = subst (λ j. Weighed (scene ns t r) d j) e ok;
+}
+
+-- which of the two it is
+closes-running : (role : Role) (r : ℕ) → closes role r ≡ true → (role ≡ Running) × (done-number ≤ r)
+unfolding closes
+closes-running (Plain s) r e = absurd (let z : _≡_ {A = ℕ} 0 1 = cc e in omega arith)
+closes-running Running r e = (refl, leb-true done-number r e)
+
+not-closes : (role : Role) (r : ℕ) → closes role r ≡ false → Inner role r → r < done-number
+unfolding closes
+not-closes (Plain s) r e h = h
+not-closes Running r e h = leb-false done-number r e
+
+module _ (ns t : List ℕ) (role : Role) (r : ℕ) where
+  module _ (e : closes role r ≡ true) where
+    pub closing-low : done-number ≤ r
+    closing-low = closes-running role r e .1
+
+    pub closing-high : Inner role r → r ≤ failed-number
+    closing-high h = subst (λ z. Inner z r) (closes-running role r e .0) h
+
+    pub closing-tried : {c d : List ℕ} {n : ℕ} → ClosingsCounted ns r t d n → RightCounts ns role r t c d × (n ≡ successor-count ns role r t)
+    closing-tried {c} {d} {n} k = (
+      record { steps = λ h. absurd (let l = closing-low in omega arith); closings = λ h. inr (k .right) },
+      k .many ∙ ap (λ z. successor-count ns z r t) (sym (closes-running role r e .0)),
+    )
+
+  module _ (e : closes role r ≡ false) (h : Inner role r) where
+    pub event-low : r < done-number
+    event-low = not-closes role r e h
+
+    pub event-tried : {c d : List ℕ} {n : ℕ} → length d ≡ 0 → SuccessorsCounted ns role r t c n → RightCounts ns role r t c d × (n ≡ successor-count ns role r t)
+    event-tried z k = (record { steps = λ l. k .right; closings = λ l. inl z }, k .many)
 
 -- The last record -----------------------------------------------------------------------------------------------------------
 

@@ -43,7 +43,7 @@ use Rattle.judge.specs.declared.Answer.the-variants.{Refused}
 use Rattle.judge.specs.declared.Out.{Out}
 use Rattle.judge.specs.declared.Out.the-variants.{Spent, Back}
 use Rattle.judge.specs.Judged.{room-wanted, too-short, judge-check, answer-of, unless-refused, judged, cleared, work-after, Searched, Judged}
-use Rattle.judge.specs.Visits.{state, out-of, stretches, VisitReady, Used, quest, Visited}
+use Rattle.judge.specs.Visits.{state, out-of, stretches, VisitReady, Used, Began}
 use Rattle.judge.specs.Settled.{role-of, LeftWithin, answer-to}
 
 ---- All modes 0 are the drawn flow ----
@@ -270,6 +270,10 @@ unfolding LeftOver out-of
 out-within allowance Spent l = l
 out-within allowance (Back trip) l = l
 
+-- what is left of the allowance that a visit had
+pub visit-within : (rs : List Record) (s : State) (n : ℕ) (o : Out) → out-of o ≡ visitB rs s n → LeftWithin n o
+visit-within rs s n o e = out-within n o (subst (LeftOver n) (sym e) (visit-left rs s n))
+
 answered : (rs : List Record) (n : ℕ) (o : Found) → answer-to (length rs) n o ≡ answer-of (answer rs n o)
 unfolding answer-to answer-of answer
 answered rs n spent = refl
@@ -285,12 +289,12 @@ module _ (ns rs work : List ℕ) (allowance : ℕ) (fine : judge-check ns rs (le
     visit-ready = subst (VisitReady ns rs t) (sym d) (subst (λ (l : List ℕ). VisitReady ns rs l (role-of ns)) (sym e) (ready ns rs work fine))
 
     -- what the visit leaves there and brings back
-    module _ {t′ : List ℕ} {o : Out} (v : Visited (quest ns rs t role allowance) t′ o) where
+    module _ {t′ : List ℕ} {o : Out} (v : Began ns rs t role allowance t′ o) where
       out-is : out-of o ≡ visitB (records rs) (state ns (role-of ns) (cleared (count ns) work)) allowance
       out-is = v .out ∙ (λ z. visitB (records rs) (state ns (d z) (e z)) allowance)
 
       pub within : LeftWithin allowance o
-      within = out-within allowance o (subst (LeftOver allowance) (sym out-is) (visit-left (records rs) (state ns (role-of ns) (cleared (count ns) work)) allowance))
+      within = visit-within (records rs) (state ns (role-of ns) (cleared (count ns) work)) allowance o out-is
 
       verdict-is : answer-to (length rs) allowance (out-of o) ≡ answer-of (search.judge (flow-of ns) (records rs) allowance)
       verdict-is =

@@ -1,27 +1,31 @@
 -- What the functions of the counted search promise: the state that a stretch of the work bytes holds in a role, what a search
--- brings back, and for each function what it asks and what it leaves, as records that the contracts name. Definitions only; the
--- search itself and its count are defined in the crate calculus (Search, Budget). Assumes nothing.
-use Prim.Native.Nat.{ℕ, _*_, _<_, _≤_}
+-- brings back and what it remembers, and for each function what it asks and what it leaves, as records that the contracts name.
+-- Definitions only; the search itself and its count are defined in the crate calculus (Search, Spending). Assumes nothing.
+use Prim.Native.Nat.{ℕ, _+_, _*_, _-_, _<_, _≤_}
 use mathlib.Core.Path.{_≡_}
-use mathlib.Core.Bool.{Bool, false, cond}
+use mathlib.Core.Bool.{Bool, true, false, cond}
 use mathlib.Core.List.{List}
-use lib.Dec.{T, eqb, ltb}
+use mathlib.Core.Logic.{_⊎_}
+use lib.Dec.{T, eqb, ltb, leb}
 use lib.ListN.{length, getD, take, drop}
 use Rattle.calculus.specs.Term.{Closing, done, withdrawn, failed}
 use Rattle.calculus.specs.Records.{State, std, cmp, Fits}
-use Rattle.calculus.specs.Search.{next}
+use Rattle.calculus.specs.Search.{next, Seen, visit}
 use Rattle.calculus.specs.Spending.{Out as Found, spent, back, triesB, visitB}
 use Rattle.flow.specs.Records.{done-number, withdrawn-number, failed-number, record-of, records}
 use Rattle.flow.specs.Refusals.{count, root, no-record}
 use Rattle.tallies.specs.Capped.{cap}
 use Rattle.tallies.specs.Places.{At}
 use Rattle.tallies.specs.declared.View.{View}
-use Rattle.states.specs.declared.Sense.the-variants.{Undoing}
+use Rattle.states.specs.declared.Sense.the-variants.{Drawn, Undoing}
 use Rattle.states.specs.declared.Role.{Role}
 use Rattle.states.specs.declared.Role.the-variants.{Plain, Running}
 use Rattle.states.specs.State.{part, modes}
 use Rattle.states.specs.Roles.{ok}
 use Rattle.states.specs.Contracts.{Sound, Kept, scene, stored-at}
+use Rattle.seek.specs.Weighed.{Known as MayKnow, Weighed}
+use Rattle.memory.specs.declared.Sight.{Sight}
+use Rattle.memory.specs.Memory.{slots, Held, Same}
 use Rattle.judge.specs.declared.Out.{Out}
 use Rattle.judge.specs.declared.Out.the-variants.{Spent, Back}
 
@@ -80,35 +84,110 @@ pub record Used (n m : ℕ) (t t′ : List ℕ) : Type 0 where
   pub own : take (2 * n) t′ ≡ take (2 * n) t
   pub rest : drop (stretches n m) t′ ≡ drop (stretches n m) t
 
--- where a search stands: the table, the records to come, the stretch of the state and what lies behind it, the root's role, and what is
--- left of the allowance
+-- What is remembered ------------------------------------------------------------------------------------------------------
+
+-- the slices of a memory
+pub record Memory : Type 0 where
+  pub modes : List ℕ
+  pub marks : List ℕ
+
+abbrev pub memory : List ℕ → List ℕ → Memory
+memory modes marks = record { modes = modes; marks = marks }
+
+unfoldable pub rank-of : Role → ℕ
+rank-of (Plain Drawn) = 0
+rank-of (Plain Undoing) = 1
+rank-of Running = 2
+
+-- what a state is remembered by, beside its modes: the root's role, and how many records are left
+abbrev pub key-of : Role → ℕ → ℕ
+key-of role records = 4 * records + rank-of role
+
+-- what is remembered of a state was seen without finding an end
+abbrev pub saw-none : Sight → Seen
+saw-none x = record { found = false; reached = x .reached; entered = x .entered }
+
+-- the last of the records, so many
+abbrev pub last : ℕ → List ℕ → List ℕ
+last d rs = drop (length rs - d) rs
+
+module _ (ns rs : List ℕ) where
+  abbrev pub Has : Memory → ℕ → List ℕ → Sight → Type 0
+  Has m key t x = Held (m .modes) (m .marks) (count ns) key t x
+
+  -- what a search sees from the state that t holds, through the last of the records
+  abbrev pub Saw : Role → ℕ → List ℕ → Sight → Type 0
+  Saw role d t x = visit (records (last d rs)) (state ns role t) ≡ saw-none x
+
+  -- a lookup is right: what the memory has of a state is what its search sees
+  pub record Truthful (m : Memory) : Type 0 where
+    pub room : 64 * slots (m .marks) ≤ length (m .modes)
+    pub right : (role : Role) (d : ℕ) → 1 ≤ d → d ≤ length rs → (t : List ℕ) (x : Sight) → Has m (key-of role d) t x → Saw role d t x
+
+  -- a state that was searched
+  pub record Searched-once (key : ℕ) (t : List ℕ) (x : Sight) : Type 0 where
+    pub role : Role
+    pub depth : ℕ
+    pub is : key ≡ key-of role depth
+    pub within : depth ≤ length rs
+    pub saw : Saw role depth t x
+
+  -- what the memory has after a search it had before, or it was searched
+  abbrev pub Learned : Memory → Memory → Type 0
+  Learned m m′ = (key : ℕ) (t : List ℕ) (x : Sight) → Has m′ key t x → Has m key t x ⊎ Searched-once key t x
+
+-- of `keep`: it adds nothing but the state of n modes, with what came of it, and that only if no end was found
+pub record Added (n key : ℕ) (t : List ℕ) (left : ℕ) (o : Found) (x : Sight) (key′ : ℕ) (t′ : List ℕ) : Type 0 where
+  pub same : Same n key′ t′ key t
+  pub rest : ℕ
+  pub less : rest ≤ left
+  pub none : o ≡ back false (x .reached) rest
+  pub entered : x .entered ≡ left - rest
+
+pub record KeptOut (n key : ℕ) (t : List ℕ) (left : ℕ) (o : Found) (m m′ : Memory) : Type 0 where
+  pub adds : (key′ : ℕ) (t′ : List ℕ) (x : Sight) → Held (m′ .modes) (m′ .marks) n key′ t′ x
+      → Held (m .modes) (m .marks) n key′ t′ x ⊎ Added n key t left o x key′ t′
+
+-- where a search stands: the table, the records to come, the stretch of the state and what lies behind it, the root's role, what is
+-- left of the allowance, and what is remembered
 pub record Quest : Type 0 where
   pub ns : List ℕ
   pub rs : List ℕ
   pub t : List ℕ
   pub role : Role
   pub left : ℕ
+  pub m : Memory
 
-abbrev pub quest : List ℕ → List ℕ → List ℕ → Role → ℕ → Quest
-quest ns rs t role left = record { ns = ns; rs = rs; t = t; role = role; left = left }
+abbrev pub quest : List ℕ → List ℕ → List ℕ → Role → ℕ → Memory → Quest
+quest ns rs t role left m = record { ns = ns; rs = rs; t = t; role = role; left = left; m = m }
 
 abbrev pub state-at : Quest → State
 state-at q = state (q .ns) (q .role) (q .t)
 
--- what comes of it: the work bytes t′, and the answer o
-module _ (q : Quest) (t′ : List ℕ) (o : Out) where
+-- of a search from a state, whatever is remembered
+pub record Began (ns rs t : List ℕ) (role : Role) (left : ℕ) (t′ : List ℕ) (o : Out) : Type 0 where
+  pub out : out-of o ≡ visitB (records rs) (state ns role t) left
+  pub used : Used (count ns) (length rs) t t′
+
+-- what comes of it: the work bytes t′, the memory m′, and the answer o
+module _ (q : Quest) (t′ : List ℕ) (m′ : Memory) (o : Out) where
   abbrev pub QuestUsed : Type 0
   QuestUsed = Used (count (q .ns)) (length (q .rs)) (q .t) t′
+
+  abbrev pub QuestLearned : Type 0
+  QuestLearned = Learned (q .ns) (q .rs) (q .m) m′
 
   -- into the state and on
   pub record Visited : Type 0 where
     pub out : out-of o ≡ visitB (records (q .rs)) (state-at q) (q .left)
     pub used : QuestUsed
+    pub learned : QuestLearned
 
   -- on from the state
   pub record Tried : Type 0 where
     pub out : out-of o ≡ onward (state-at q) (getD (q .rs) 0 0) (drop 1 (q .rs)) (q .left)
     pub used : QuestUsed
+    pub learned : QuestLearned
 
   -- into the k-th successor and on
   pub record Followed (k : ℕ) : Type 0 where
@@ -116,6 +195,7 @@ module _ (q : Quest) (t′ : List ℕ) (o : Out) where
     pub goes : At (next (state-at q) (record-of (getD (q .rs) 0 0))) k into
     pub out : out-of o ≡ visitB (records (drop 1 (q .rs))) into (q .left)
     pub used : QuestUsed
+    pub learned : QuestLearned
 
 -- One record ------------------------------------------------------------------------------------------------------------
 
@@ -124,9 +204,16 @@ abbrev pub Inner : Role → ℕ → Type 0
 Inner (Plain s) r = r < done-number
 Inner Running r = r ≤ failed-number
 
--- the counts of the root's role are right
-abbrev pub RightCounts : List ℕ → Role → ℕ → List ℕ → List ℕ → Type 0
-RightCounts ns role a t c = T (ok role (stored-at (scene ns t a) c (root ns)))
+-- whether a part that runs closes, as the code tells
+unfoldable pub closes : Role → ℕ → Bool
+closes (Plain s) r = false
+closes Running r = leb done-number r
+
+-- the counts that the successors by this record are found by: those of steps, or those of a running part's compensations, where they
+-- are known
+pub record RightCounts (ns : List ℕ) (role : Role) (a : ℕ) (t c d : List ℕ) : Type 0 where
+  pub steps : a < done-number → T (ok role (stored-at (scene ns t a) c (root ns)))
+  pub closings : done-number ≤ a → MayKnow (scene ns t a) d (root ns)
 
 -- how many successors, capped
 abbrev pub successor-count : List ℕ → Role → ℕ → List ℕ → ℕ
@@ -135,9 +222,14 @@ successor-count ns role r t = cap (length (next (state ns role t) (record-of r))
 module _ (ns : List ℕ) (role : Role) (r : ℕ) (t : List ℕ) where
   pub record SuccessorsCounted (c′ : List ℕ) (n : ℕ) : Type 0 where
     pub many : n ≡ successor-count ns role r t
-    pub right : RightCounts ns role r t c′
+    pub right : T (ok role (stored-at (scene ns t r) c′ (root ns)))
 
   -- the stretch has become the k-th successor's
   pub record Applied (k : ℕ) (t′ : List ℕ) : Type 0 where
     pub goes : At (next (state ns role t) (record-of r)) k (state ns (role-next role r) t′)
     pub kept : Kept ns (root ns) (modes t) (modes t′)
+
+-- the compensations of a part that runs, by a closing
+pub record ClosingsCounted (ns : List ℕ) (r : ℕ) (t d′ : List ℕ) (n : ℕ) : Type 0 where
+  pub many : n ≡ successor-count ns Running r t
+  pub right : Weighed (scene ns t r) d′ (root ns)

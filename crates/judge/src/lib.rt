@@ -1,26 +1,32 @@
 // The counted search, and the judge over it.
 use flow::Check;
 use flow::Refusal;
+use memory::Recalled;
+use memory::Sight;
 use states::Role;
 use states::Sense;
 use tallies::View;
 use tallies::Weight;
 ghost use mathlib.Core.Path.{_≡_};
 ghost use mathlib.Core.List.{[], _∷_};
-ghost use Prim.Native.Nat.{_+_, _*_, _<_, _≤_, max};
+ghost use Prim.Native.Nat.{_+_, _*_, _-_, _<_, _≤_, max};
 ghost use lib.ListN.{length, getD};
 ghost use lib.Seq.{paste};
+ghost use mathlib.Core.Bool.{true};
 ghost use Rattle.calculus.specs.Records.{Fits, over};
 ghost use Rattle.calculus.specs.Search.{next};
+ghost use Rattle.calculus.specs.Spending.{left-of};
 ghost use Rattle.calculus.specs.Successors.{only};
-ghost use Rattle.flow.specs.Records.{record-of, records};
+ghost use Rattle.flow.specs.Records.{done-number, failed-number, record-of, records};
 ghost use Rattle.flow.specs.Refusals.{root};
 ghost use Rattle.tallies.specs.Capped.{most};
 ghost use Rattle.tallies.specs.Formulas.{closing};
 ghost use Rattle.states.specs.Contracts.{Spot};
+ghost use Rattle.memory.specs.Memory.{Fitting};
+ghost use Rattle.judge.specs.declared.Out.the-variants.{Back};
 ghost use Rattle.judge.specs.Judged.{room-wanted, judge-check, cleared, Searched, Judged};
 ghost use Rattle.judge.specs.Settled.{role-of, LeftWithin, answer-to};
-ghost use Rattle.judge.specs.Visits.{state, role-next, out-of, closing-of, ends-by, onward, VisitReady, quest, Visited, Tried, Followed, Inner, RightCounts, successor-count, SuccessorsCounted, Applied};
+ghost use Rattle.judge.specs.Visits.{state, role-next, out-of, closing-of, ends-by, onward, VisitReady, memory, key-of, saw-none, Truthful, KeptOut, quest, Began, Visited, Tried, Followed, Inner, closes, RightCounts, successor-count, SuccessorsCounted, ClosingsCounted, Applied};
 
 // How far the records were followed, and how many states were entered.
 pub struct Reach {
@@ -77,10 +83,10 @@ fn root_of(ns: &[u16]) -> usize
     ns.len() / 3 - 1
 }
 
-// How many successors a state has by a record that is not the last.
+// How many successors a state has by an event.
 fn successors(ns: &[u16], t: &[u8], number: u16, c: &mut [u32; 64], role: Role) -> u32
     requires { ⌜ Spot (now ns) (now t) (root (now ns)) ⌝ }
-    requires { ⌜ (3 ≤ length (now ns)) × Inner role number ⌝ }
+    requires { ⌜ (3 ≤ length (now ns)) × (number < done-number) ⌝ }
     ensures { λ r. ⌜ SuccessorsCounted (now (ns .entry)) role number (now (t .entry)) (now (c .exit)) r ⌝ }
 {
     let i = root_of(ns);
@@ -91,21 +97,27 @@ fn successors(ns: &[u16], t: &[u8], number: u16, c: &mut [u32; 64], role: Role) 
         }
         Role::Running => {
             let w = counting::count_run(ns, t, number, c, i);
-            if number < flow::DONE {
-                w.moves
-            } else {
-                let y = tallies::tally_by(w, rank_of(number));
-                y.many
-            }
+            w.moves
         }
     }
 }
 
+// How many a part that runs has by a closing. What is known of its parts is kept in d, for the compensations to be chosen by.
+fn closings(ns: &[u16], t: &[u8], number: u16, d: &mut [u32; 576]) -> u32
+    requires { ⌜ Spot (now ns) (now t) (root (now ns)) ⌝ }
+    requires { ⌜ (3 ≤ length (now ns)) × ((done-number ≤ number) × (number ≤ failed-number)) ⌝ }
+    ensures { λ r. ⌜ ClosingsCounted (now (ns .entry)) number (now (t .entry)) (now (d .exit)) r ⌝ }
+{
+    let w = seek::weigh(ns, t, number, d, root_of(ns));
+    let y = tallies::tally_by(w, rank_of(number));
+    y.many
+}
+
 // The modes become those of the k-th successor.
-fn apply(ns: &[u16], t: &mut [u8], number: u16, c: &[u32; 64], role: Role, k: u32)
+fn apply(ns: &[u16], t: &mut [u8], number: u16, c: &[u32; 64], d: &[u32], role: Role, k: u32)
     requires { ⌜ Spot (now ns) (now t) (root (now ns)) ⌝ }
     requires { ⌜ (3 ≤ length (now ns)) × Inner role number ⌝ }
-    requires { ⌜ RightCounts (now ns) role number (now t) (now c) ⌝ }
+    requires { ⌜ RightCounts (now ns) role number (now t) (now c) (now d) ⌝ }
     requires { ⌜ k < successor-count (now ns) role number (now t) ⌝ }
     ensures { λ r. ⌜ Applied (now (ns .entry)) role number (now (t .entry)) k (now (t .exit)) ⌝ }
 {
@@ -116,10 +128,11 @@ fn apply(ns: &[u16], t: &mut [u8], number: u16, c: &[u32; 64], role: Role, k: u3
             if number < flow::DONE {
                 steps::step_run(ns, t, number, c, i, k);
             } else {
-                seek::seek(
+                seek::choose(
                     ns,
                     t,
                     number,
+                    d,
                     i,
                     rank_of(number),
                     Weight {
@@ -191,10 +204,119 @@ fn finish(ns: &[u16], t: &[u8], number: u16, role: Role, left: u32) -> Out
     }
 }
 
-// Into this state, if the allowance is not used up, and on from it.
-fn visit(ns: &[u16], rs: &[u16], work: &mut [u8], role: Role, left: u32) -> Out
+// What a state is remembered by, beside its modes: how many records are left, and the role.
+fn key_of(records: usize, role: Role) -> u32
+    requires { ⌜ records ≤ 256 ⌝ }
+    ensures { λ r. ⌜ r ≡ key-of role records ⌝ }
+{
+    let depth = 4 * records as u32;
+    match role {
+        Role::Plain(sense) => match sense {
+            Sense::Drawn => depth,
+            Sense::Undoing => depth + 1,
+        },
+        Role::Running => depth + 2,
+    }
+}
+
+// What comes of a state that is remembered: all that its search entered is spent at once.
+fn known(seen: Sight, left: u32) -> Out
+    ensures { λ r. ⌜ out-of r ≡ left-of (saw-none seen) left ⌝ }
+{
+    if left < seen.entered {
+        return Out::Spent;
+    }
+    Out::Back(Trip {
+        found: false,
+        far: seen.reached,
+        left: left - seen.entered,
+    })
+}
+
+// What a search without an end came to, with so much left before it, is remembered.
+fn keep_trip(
+    trip: Trip,
+    left: u32,
+    modes: &mut [u8],
+    marks: &mut [u32],
+    slot: usize,
+    t: &[u8],
+    n: usize,
+    key: u32,
+)
+    requires { ⌜ Fitting (now modes) (now marks) (now t) n key ⌝ }
+    requires { ⌜ trip .left ≤ left ⌝ }
+    ensures { λ r. ⌜ KeptOut n key (now (t .entry)) left (out-of (Back trip)) (memory (now (modes .entry)) (now (marks .entry))) (memory (now (modes .exit)) (now (marks .exit))) ⌝ }
+{
+    if !trip.found {
+        let seen = Sight {
+            entered: left - trip.left,
+            reached: trip.far,
+        };
+        memory::remember(modes, marks, slot, t, n, key, seen);
+    }
+}
+
+// What came of a state is remembered, if it came to something.
+fn keep(
+    out: Out,
+    left: u32,
+    modes: &mut [u8],
+    marks: &mut [u32],
+    slot: usize,
+    t: &[u8],
+    n: usize,
+    key: u32,
+)
+    requires { ⌜ Fitting (now modes) (now marks) (now t) n key ⌝ }
+    requires { ⌜ LeftWithin left out ⌝ }
+    ensures { λ r. ⌜ KeptOut n key (now (t .entry)) left (out-of out) (memory (now (modes .entry)) (now (marks .entry))) (memory (now (modes .exit)) (now (marks .exit))) ⌝ }
+{
+    match out {
+        Out::Spent => {}
+        Out::Back(trip) => keep_trip(trip, left, modes, marks, slot, t, n, key),
+    }
+}
+
+// Into this state, unless it is remembered, and on from it.
+fn visit(
+    ns: &[u16],
+    rs: &[u16],
+    work: &mut [u8],
+    role: Role,
+    left: u32,
+    modes: &mut [u8],
+    marks: &mut [u32],
+) -> Out
     requires { ⌜ VisitReady (now ns) (now rs) (now work) role ⌝ }
-    ensures { λ r. ⌜ Visited (quest (now (ns .entry)) (now (rs .entry)) (now (work .entry)) role left) (now (work .exit)) r ⌝ }
+    requires { ⌜ Truthful (now ns) (now rs) (memory (now modes) (now marks)) ⌝ }
+    ensures { λ r. ⌜ Visited (quest (now (ns .entry)) (now (rs .entry)) (now (work .entry)) role left (memory (now (modes .entry)) (now (marks .entry)))) (now (work .exit)) (memory (now (modes .exit)) (now (marks .exit))) r ⌝ }
+{
+    let n = ns.len() / 3;
+    let key = key_of(rs.len(), role);
+    match memory::recall(modes, marks, work, n, key) {
+        Recalled::Known(seen) => known(seen, left),
+        Recalled::Unknown(slot) => {
+            let out = enter(ns, rs, work, role, left, modes, marks);
+            keep(out, left, modes, marks, slot, work, n, key);
+            out
+        }
+    }
+}
+
+// Into this state, if the allowance is not used up.
+fn enter(
+    ns: &[u16],
+    rs: &[u16],
+    work: &mut [u8],
+    role: Role,
+    left: u32,
+    modes: &mut [u8],
+    marks: &mut [u32],
+) -> Out
+    requires { ⌜ VisitReady (now ns) (now rs) (now work) role ⌝ }
+    requires { ⌜ Truthful (now ns) (now rs) (memory (now modes) (now marks)) ⌝ }
+    ensures { λ r. ⌜ Visited (quest (now (ns .entry)) (now (rs .entry)) (now (work .entry)) role left (memory (now (modes .entry)) (now (marks .entry)))) (now (work .exit)) (memory (now (modes .exit)) (now (marks .exit))) r ⌝ }
 {
     if left == 0 {
         return Out::Spent;
@@ -202,7 +324,7 @@ fn visit(ns: &[u16], rs: &[u16], work: &mut [u8], role: Role, left: u32) -> Out
     if rs.len() == 1 {
         finish(ns, work, rs[0], role, left - 1)
     } else {
-        visit_each(ns, rs, work, role, left - 1)
+        visit_each(ns, rs, work, role, left - 1, modes, marks)
     }
 }
 
@@ -214,19 +336,87 @@ fn further(far: u32, below: u32) -> u32
     if far < below + 1 { below + 1 } else { far }
 }
 
-// The successors one after the other, until one finds the end.
-fn visit_each(ns: &[u16], rs: &[u16], work: &mut [u8], role: Role, left: u32) -> Out
-    requires { ⌜ VisitReady (now ns) (now rs) (now work) role ⌝ }
-    requires { ⌜ (2 ≤ length (now rs)) × (left < most) ⌝ }
-    ensures { λ r. ⌜ Tried (quest (now (ns .entry)) (now (rs .entry)) (now (work .entry)) role left) (now (work .exit)) r ⌝ }
+// Whether a part that runs closes.
+fn closes(role: Role, number: u16) -> bool
+    ensures { λ r. ⌜ r ≡ closes role number ⌝ }
 {
+    match role {
+        Role::Plain(_) => false,
+        Role::Running => number >= flow::DONE,
+    }
+}
+
+// The successors are counted, and tried.
+fn visit_each(
+    ns: &[u16],
+    rs: &[u16],
+    work: &mut [u8],
+    role: Role,
+    left: u32,
+    modes: &mut [u8],
+    marks: &mut [u32],
+) -> Out
+    requires { ⌜ VisitReady (now ns) (now rs) (now work) role ⌝ }
+    requires { ⌜ Truthful (now ns) (now rs) (memory (now modes) (now marks)) ⌝ }
+    requires { ⌜ (2 ≤ length (now rs)) × (left < most) ⌝ }
+    ensures { λ r. ⌜ Tried (quest (now (ns .entry)) (now (rs .entry)) (now (work .entry)) role left (memory (now (modes .entry)) (now (marks .entry)))) (now (work .exit)) (memory (now (modes .exit)) (now (marks .exit))) r ⌝ }
+{
+    if closes(role, rs[0]) {
+        return visit_closing(ns, rs, work, role, left, modes, marks);
+    }
     let mut c = [0u32; 64];
     let many = successors(ns, work, rs[0], &mut c, role);
+    let none = [0u32; 1];
+    try_each(ns, rs, work, role, left, modes, marks, &c, &none[..0], many)
+}
+
+// Those by a closing of a part that runs: its compensations.
+fn visit_closing(
+    ns: &[u16],
+    rs: &[u16],
+    work: &mut [u8],
+    role: Role,
+    left: u32,
+    modes: &mut [u8],
+    marks: &mut [u32],
+) -> Out
+    requires { ⌜ VisitReady (now ns) (now rs) (now work) role ⌝ }
+    requires { ⌜ Truthful (now ns) (now rs) (memory (now modes) (now marks)) ⌝ }
+    requires { ⌜ (2 ≤ length (now rs)) × (left < most) ⌝ }
+    requires { ⌜ closes role (getD (now rs) 0 0) ≡ true ⌝ }
+    ensures { λ r. ⌜ Tried (quest (now (ns .entry)) (now (rs .entry)) (now (work .entry)) role left (memory (now (modes .entry)) (now (marks .entry)))) (now (work .exit)) (memory (now (modes .exit)) (now (marks .exit))) r ⌝ }
+{
+    let c = [0u32; 64];
+    let mut d = [0u32; 576];
+    let many = closings(ns, work, rs[0], &mut d);
+    try_each(ns, rs, work, role, left, modes, marks, &c, &d, many)
+}
+
+// The successors one after the other, until one finds the end.
+fn try_each(
+    ns: &[u16],
+    rs: &[u16],
+    work: &mut [u8],
+    role: Role,
+    left: u32,
+    modes: &mut [u8],
+    marks: &mut [u32],
+    c: &[u32; 64],
+    d: &[u32],
+    many: u32,
+) -> Out
+    requires { ⌜ VisitReady (now ns) (now rs) (now work) role ⌝ }
+    requires { ⌜ Truthful (now ns) (now rs) (memory (now modes) (now marks)) ⌝ }
+    requires { ⌜ (2 ≤ length (now rs)) × (left < most) ⌝ }
+    requires { ⌜ RightCounts (now ns) role (getD (now rs) 0 0) (now work) (now c) (now d) ⌝ }
+    requires { ⌜ many ≡ successor-count (now ns) role (getD (now rs) 0 0) (now work) ⌝ }
+    ensures { λ r. ⌜ Tried (quest (now (ns .entry)) (now (rs .entry)) (now (work .entry)) role left (memory (now (modes .entry)) (now (marks .entry)))) (now (work .exit)) (memory (now (modes .exit)) (now (marks .exit))) r ⌝ }
+{
     let mut k = 0;
     let mut far = 0;
     let mut rest = left;
     while k < many {
-        match follow(ns, rs, &c, work, role, k, rest) {
+        match follow(ns, rs, c, d, work, role, k, rest, modes, marks) {
             Out::Spent => {
                 return Out::Spent;
             }
@@ -269,23 +459,27 @@ fn follow(
     ns: &[u16],
     rs: &[u16],
     c: &[u32; 64],
+    d: &[u32],
     work: &mut [u8],
     role: Role,
     k: u32,
     left: u32,
+    modes: &mut [u8],
+    marks: &mut [u32],
 ) -> Out
     requires { ⌜ VisitReady (now ns) (now rs) (now work) role ⌝ }
+    requires { ⌜ Truthful (now ns) (now rs) (memory (now modes) (now marks)) ⌝ }
     requires { ⌜ 2 ≤ length (now rs) ⌝ }
-    requires { ⌜ RightCounts (now ns) role (getD (now rs) 0 0) (now work) (now c) ⌝ }
+    requires { ⌜ RightCounts (now ns) role (getD (now rs) 0 0) (now work) (now c) (now d) ⌝ }
     requires { ⌜ k < successor-count (now ns) role (getD (now rs) 0 0) (now work) ⌝ }
-    ensures { λ r. ⌜ Followed (quest (now (ns .entry)) (now (rs .entry)) (now (work .entry)) role left) (now (work .exit)) r k ⌝ }
+    ensures { λ r. ⌜ Followed (quest (now (ns .entry)) (now (rs .entry)) (now (work .entry)) role left (memory (now (modes .entry)) (now (marks .entry)))) (now (work .exit)) (memory (now (modes .exit)) (now (marks .exit))) r k ⌝ }
 {
     let n = ns.len() / 3;
     copy_down(work, n);
     let w = 2 * n;
-    apply(ns, &mut work[w..], rs[0], c, role, k);
+    apply(ns, &mut work[w..], rs[0], c, d, role, k);
     let after = role_after(role, rs[0]);
-    visit(ns, &rs[1..], &mut work[w..], after, left)
+    visit(ns, &rs[1..], &mut work[w..], after, left, modes, marks)
 }
 
 // Zeroes the first bytes, up to `end`.
@@ -370,6 +564,61 @@ fn check_all(nodes: &[u16], records: &[u16], room: usize) -> Check
     Check::Fine
 }
 
+// A search of so many states at most goes without a memory: to clear one costs about as much.
+const FEW_STATES: u32 = 32;
+
+// How many states the memory has room for, of 64 modes and three marks each: 152 KiB.
+const MODES: usize = 131072;
+
+const MARKS: usize = 6144;
+
+// Up to so many states, and nothing is remembered.
+fn first_search(nodes: &[u16], records: &[u16], work: &mut [u8], role: Role, allowance: u32) -> Out
+    requires { ⌜ VisitReady (now nodes) (now records) (now work) role ⌝ }
+    ensures { λ r. ⌜ Began (now (nodes .entry)) (now (records .entry)) (now (work .entry)) role allowance (now (work .exit)) r ⌝ }
+{
+    let mut modes = [0u8; 1];
+    let mut marks = [0u32; 1];
+    visit(nodes, records, work, role, allowance, &mut modes[..0], &mut marks[..0])
+}
+
+// With a memory.
+fn long_search(nodes: &[u16], records: &[u16], work: &mut [u8], role: Role, allowance: u32) -> Out
+    requires { ⌜ VisitReady (now nodes) (now records) (now work) role ⌝ }
+    ensures { λ r. ⌜ Began (now (nodes .entry)) (now (records .entry)) (now (work .entry)) role allowance (now (work .exit)) r ⌝ }
+{
+    let mut modes = [0u8; MODES];
+    let mut marks = [0u32; MARKS];
+    visit(nodes, records, work, role, allowance, &mut modes, &mut marks)
+}
+
+// What came of a search of fewer states, with the whole allowance.
+fn with_more(trip: Trip, few: u32, allowance: u32) -> Out
+    requires { ⌜ (trip .left ≤ few) × (few ≤ allowance) ⌝ }
+    ensures { λ r. ⌜ r ≡ Back (record { found = trip .found; far = trip .far; left = allowance - (few - trip .left) }) ⌝ }
+{
+    let spent = few - trip.left;
+    Out::Back(Trip {
+        found: trip.found,
+        far: trip.far,
+        left: allowance - spent,
+    })
+}
+
+// First without a memory; if that is not enough, once more with it.
+fn search_twice(nodes: &[u16], records: &[u16], work: &mut [u8], role: Role, allowance: u32) -> Out
+    requires { ⌜ VisitReady (now nodes) (now records) (now work) role ⌝ }
+    ensures { λ r. ⌜ Began (now (nodes .entry)) (now (records .entry)) (now (work .entry)) role allowance (now (work .exit)) r ⌝ }
+{
+    if allowance <= FEW_STATES {
+        return first_search(nodes, records, work, role, allowance);
+    }
+    match first_search(nodes, records, work, role, FEW_STATES) {
+        Out::Spent => long_search(nodes, records, work, role, allowance),
+        Out::Back(trip) => with_more(trip, FEW_STATES, allowance),
+    }
+}
+
 // The search from the drawn flow, in work bytes that are zero up to the room wanted when it is over.
 fn search(nodes: &[u16], records: &[u16], work: &mut [u8], allowance: u32) -> Answer
     requires { ⌜ judge-check (now nodes) (now records) (length (now work)) ≡ Check.Fine ⌝ }
@@ -379,7 +628,7 @@ fn search(nodes: &[u16], records: &[u16], work: &mut [u8], allowance: u32) -> An
     let room = room_wanted(nodes, records);
     clear(work, n);
     let role = role_of(nodes);
-    let out = visit(nodes, records, work, role, allowance);
+    let out = search_twice(nodes, records, work, role, allowance);
     clear(work, room);
     answer_of(out, records.len(), allowance)
 }

@@ -30,8 +30,8 @@ role-of-requires c κs =
     let work = s .args .work .now in
     table-some ns rs 0 (table-fine ns rs work (s .pre))
 
-visit-requires : tie.Need-visit-requires
-visit-requires c κs =
+search-twice-requires : tie.Need-search-twice-requires
+search-twice-requires c κs =
     let s = c .before .before .before .before .before .before .before .before .before .before in
     let ns = s .args .nodes .now in
     let rs = s .args .records .now in
@@ -44,7 +44,7 @@ clear-requires-2 c κs =
     let ns = s .args .nodes .now in
     let rs = s .args .records .now in
     let work = s .args .work .now in
-    omega (arith, roomy ns rs work (s .pre), nodes-within ns rs work (s .pre), c .before .before .before .before .before .before .before .before .before .before .room-wanted .ensures, c .before .before .before .visit .kept .1 .1 .0, c .before .before .before .before .before .before .before .before .clear .kept .0)
+    omega (arith, roomy ns rs work (s .pre), nodes-within ns rs work (s .pre), c .before .before .before .before .before .before .before .before .before .before .room-wanted .ensures, c .before .before .before .search-twice .kept .1 .1 .0, c .before .before .before .before .before .before .before .before .clear .kept .0)
 
 answer-of-requires : tie.Need-answer-of-requires
 answer-of-requires c κs =
@@ -52,7 +52,7 @@ answer-of-requires c κs =
     let ns = s .args .nodes .now in
     let rs = s .args .records .now in
     let work = s .args .work .now in
-    (within ns rs work (s .args .allowance) (s .pre) (c .before .before .before .before .before .before .before .before .before .before .before .clear .ensures) (c .before .before .before .before .before .before .before .before .role-of .ensures) (c .before .before .before .before .before .before .visit .ensures), few-records ns rs work (s .pre))
+    (within ns rs work (s .args .allowance) (s .pre) (c .before .before .before .before .before .before .before .before .before .before .before .clear .ensures) (c .before .before .before .before .before .before .before .before .role-of .ensures) (c .before .before .before .before .before .before .search-twice .ensures), few-records ns rs work (s .pre))
 
 same-length : tie.Need-same-length
 same-length c = search needs
@@ -63,7 +63,7 @@ returns c =
     let ns = s .args .nodes .now in
     let rs = s .args .records .now in
     let work = s .args .work .now in
-    searched ns rs work (s .args .allowance) (s .pre) (c .before .before .before .before .before .before .before .before .before .before .before .before .clear .ensures) (c .before .before .before .before .before .before .before .before .before .role-of .ensures) (c .before .before .before .before .before .before .before .visit .ensures) (c .before .before .before .before .before .before .before .before .before .before .before .before .before .before .room-wanted .ensures) (c .before .before .before .clear2 .ensures) (c .answer-of .ensures)
+    searched ns rs work (s .args .allowance) (s .pre) (c .before .before .before .before .before .before .before .before .before .before .before .before .clear .ensures) (c .before .before .before .before .before .before .before .before .before .role-of .ensures) (c .before .before .before .before .before .before .before .search-twice .ensures) (c .before .before .before .before .before .before .before .before .before .before .before .before .before .before .room-wanted .ensures) (c .before .before .before .clear2 .ensures) (c .answer-of .ensures)
 
 pub search-spec : {M : Type 1} → statement M
 search-spec =
@@ -72,7 +72,7 @@ search-spec =
     room-wanted-requires
     clear-requires
     role-of-requires
-    visit-requires
+    search-twice-requires
     clear-requires-2
     answer-of-requires
     same-length

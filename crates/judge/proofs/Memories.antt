@@ -1,0 +1,203 @@
+-- What is remembered: that it is right for the records after the first too, and stays right by what a search adds; that an empty
+-- memory has nothing to be right about; and what a state that is recalled is worth. Assumes nothing.
+use Prim.Native.Nat.{ℕ, zero, suc, _+_, _-_, _*_, _/_, _≤_, _<_}
+use mathlib.Core.Path.{_≡_, refl, sym, ap, _∙_, subst}
+use mathlib.Core.Bool.{false, cond}
+use mathlib.Core.Logic.{_⊎_, inl, inr}
+use mathlib.Core.List.{List}
+use native.Mathlib.Omega.{arith}
+use lib.ListN.{length, drop, getD, replicate, length-drop, length-replicate}
+use lib.Seq.{drop-drop}
+use borrow.Author.Tests.{lt-leb, le-leb}
+use Rattle.calculus.specs.Search.{Seen, visit}
+use Rattle.calculus.specs.Spending.{Out as Found, spent, back, visitB, left-of}
+use Rattle.calculus.specs.Budget.{visit-left, back-seen}
+use Rattle.flow.specs.Records.{records}
+use Rattle.flow.specs.Refusals.{count}
+use Rattle.states.specs.declared.Sense.the-variants.{Drawn, Undoing}
+use Rattle.states.specs.declared.Role.{Role}
+use Rattle.states.specs.declared.Role.the-variants.{Plain, Running}
+use Rattle.states.specs.Contracts.{Sound}
+use Rattle.memory.specs.declared.Sight.{Sight}
+use Rattle.memory.specs.Memory.{slots, Fitting, Remembered, Held, Same}
+use Rattle.memory.specs.MemoryLaws.{remembered-held, zeros-held}
+use Rattle.judge.specs.declared.Trip.{Trip}
+use Rattle.judge.specs.declared.Out.{Out}
+use Rattle.judge.specs.declared.Out.the-variants.{Spent, Back}
+use Rattle.judge.specs.Visits.{state, out-of, Memory, memory, rank-of, key-of, saw-none, last, Has, Saw, Truthful, Searched-once, Learned, Added, KeptOut}
+use Rattle.judge.proofs.Stretches.{state-same}
+
+-- Keys --------------------------------------------------------------------------------------------------------------------
+
+small : (role : Role) → rank-of role < 4
+unfolding rank-of
+small (Plain Drawn) = omega arith
+small (Plain Undoing) = omega arith
+small Running = omega arith
+
+same-rank : (role role′ : Role) → rank-of role ≡ rank-of role′ → role ≡ role′
+unfolding rank-of
+same-rank (Plain Drawn) (Plain Drawn) e = refl
+same-rank (Plain Drawn) (Plain Undoing) e = absurd (omega arith)
+same-rank (Plain Drawn) Running e = absurd (omega arith)
+same-rank (Plain Undoing) (Plain Drawn) e = absurd (omega arith)
+same-rank (Plain Undoing) (Plain Undoing) e = refl
+same-rank (Plain Undoing) Running e = absurd (omega arith)
+same-rank Running (Plain Drawn) e = absurd (omega arith)
+same-rank Running (Plain Undoing) e = absurd (omega arith)
+same-rank Running Running e = refl
+
+module _ (role role′ : Role) (d d′ : ℕ) (e : key-of role d ≡ key-of role′ d′) where
+  key-depth : d ≡ d′
+  key-depth = omega (arith, small role, small role′)
+
+  key-role : role ≡ role′
+  key-role = same-rank role role′ (omega (arith, small role, small role′))
+
+pub key-small : (role : Role) (d : ℕ) → d ≤ 256 → key-of role d ≤ 4000
+key-small role d h = omega (arith, small role)
+
+-- The last records --------------------------------------------------------------------------------------------------------
+
+last-all : (rs : List ℕ) → last (length rs) rs ≡ rs
+last-all rs = let z : length rs - length rs ≡ 0 = omega arith in ap (λ n. drop n rs) z
+
+last-rest : (d : ℕ) (rs : List ℕ) → 1 ≤ length rs → d ≤ length (drop 1 rs) → last d (drop 1 rs) ≡ last d rs
+last-rest d rs some h =
+    let l = length-drop 1 rs in
+    let e : 1 + (length (drop 1 rs) - d) ≡ length rs - d = omega arith in
+    drop-drop (length (drop 1 rs) - d) 1 rs ∙ ap (λ n. drop n rs) e
+
+-- What is learned ---------------------------------------------------------------------------------------------------------
+
+module _ (ns rs : List ℕ) where
+  pub learned-same : (m : Memory) → Learned ns rs m m
+  learned-same m key t x h = inl h
+
+  pub learned-trans : {m m′ m″ : Memory} → Learned ns rs m m′ → Learned ns rs m′ m″ → Learned ns rs m m″
+  learned-trans {m} {m′} {m″} f g key t x h = by (g key t x h)
+    where
+      by : Has ns rs m′ key t x ⊎ Searched-once ns rs key t x → Has ns rs m key t x ⊎ Searched-once ns rs key t x
+      by (inl k) = f key t x k
+      by (inr s) = inr s
+
+  -- what was right stays right
+  pub truthful-still : {m m′ : Memory} → Truthful ns rs m → Learned ns rs m m′ → length (m′ .modes) ≡ length (m .modes) → length (m′ .marks) ≡ length (m .marks) → Truthful ns rs m′
+  truthful-still {m} {m′} f g em ek =
+      let r = f .room in
+      record {
+        room = subst (λ n. 64 * (n / 3) ≤ length (m′ .modes)) (sym ek) (omega arith);
+        right = λ role d some few t x h. by role d some few t x (g (key-of role d) t x h);
+      }
+    where
+      by : (role : Role) (d : ℕ) → 1 ≤ d → d ≤ length rs → (t : List ℕ) (x : Sight) → Has ns rs m (key-of role d) t x ⊎ Searched-once ns rs (key-of role d) t x → Saw ns rs role d t x
+      by role d some few t x (inl k) = f .right role d some few t x k
+      by role d some few t x (inr s) =
+          subst (λ z. Saw ns rs z d t x) (sym (key-role role (s .role) d (s .depth) (s .is)))
+          (subst (λ n. Saw ns rs (s .role) n t x) (sym (key-depth role (s .role) d (s .depth) (s .is))) (s .saw))
+
+  -- the records after the first
+  module _ (some : 1 ≤ length rs) where
+    pub truthful-rest : {m : Memory} → Truthful ns rs m → Truthful ns (drop 1 rs) m
+    truthful-rest {m} f = record {
+      room = f .room;
+      right = λ role d one few t x h.
+          subst (λ l. visit (records l) (state ns role t) ≡ saw-none x) (sym (last-rest d rs some few)) (f .right role d one (let l = length-drop 1 rs in omega arith) t x h);
+    }
+
+    pub learned-rest : {m m′ : Memory} → Learned ns (drop 1 rs) m m′ → Learned ns rs m m′
+    learned-rest {m} {m′} f key t x h = by (f key t x h)
+      where
+        by : Has ns (drop 1 rs) m key t x ⊎ Searched-once ns (drop 1 rs) key t x → Has ns rs m key t x ⊎ Searched-once ns rs key t x
+        by (inl k) = inl k
+        by (inr s) =
+            let l = length-drop 1 rs in
+            let w = s .within in
+            inr (record {
+              role = s .role;
+              depth = s .depth;
+              is = s .is;
+              within = omega arith;
+              saw = subst (λ l. visit (records l) (state ns (s .role) t) ≡ saw-none x) (last-rest (s .depth) rs some (s .within)) (s .saw);
+            })
+
+  -- nothing is remembered
+  pub truthful-none : (m : Memory) → slots (m .marks) ≡ 0 → Truthful ns rs m
+  truthful-none m e = record {
+    room = omega arith;
+    right = λ role d some few t x h. let q = h .there in absurd (omega arith);
+  }
+
+  pub truthful-zeros : (m : Memory) → 64 * slots (m .marks) ≤ length (m .modes) → ((j : ℕ) → getD (m .marks) j 0 ≡ 0) → Truthful ns rs m
+  truthful-zeros m room z = record {
+    room = room;
+    right = λ role d some few t x h. let q = zeros-held z h in absurd (omega (arith, small role));
+  }
+
+  -- zeros, as many modes and marks as these
+  pub truthful-fresh : (a b : ℕ) → 64 * (b / 3) ≤ a → Truthful ns rs (memory (replicate a 0) (replicate b 0))
+  truthful-fresh a b h = truthful-zeros (memory (replicate a 0) (replicate b 0))
+      (rw (length-replicate, length-replicate) h) (zero-at b)
+    where
+      zero-at : (n j : ℕ) → _≡_ {A = ℕ} (getD (replicate n 0) j 0) 0
+      zero-at zero j = refl
+      zero-at (suc n) zero = refl
+      zero-at (suc n) (suc j) = zero-at n j
+
+-- A state that is recalled, and one that is kept ----------------------------------------------------------------------------
+
+module _ {ns rs : List ℕ} {m : Memory} (f : Truthful ns rs m) (some : 1 ≤ length rs) (role : Role) (t : List ℕ) (left : ℕ) where
+  pub recalled-out : (x : Sight) (o : Out) → Has ns rs m (key-of role (length rs)) t x → out-of o ≡ left-of (saw-none x) left → out-of o ≡ visitB (records rs) (state ns role t) left
+  recalled-out x o h e =
+      let s : visit (records rs) (state ns role t) ≡ saw-none x = subst (λ l. visit (records l) (state ns role t) ≡ saw-none x) (last-all rs) (f .right role (length rs) some (omega arith) t x h) in
+      e ∙ ap (λ z. left-of z left) (sym s) ∙ sym (visit-left (records rs) (state ns role t) left)
+
+-- the code's two ways
+module _ (x : Sight) (left : ℕ) where
+  pub known-spent : left < x .entered → out-of Spent ≡ left-of (saw-none x) left
+  unfolding out-of left-of
+  known-spent h = sym (ap (λ c. cond c (back false (x .reached) (left - x .entered)) spent) (lt-leb (x .entered) left h))
+
+  pub known-back : x .entered ≤ left → out-of (Back (record { found = false; far = x .reached; left = left - x .entered })) ≡ left-of (saw-none x) left
+  unfolding out-of left-of
+  known-back h = sym (ap (λ c. cond c (back false (x .reached) (left - x .entered)) spent) (le-leb (x .entered) left h))
+
+pub added : {ms ks : List ℕ} {t : List ℕ} {n key slot left : ℕ} {trip : Trip} {x₀ : Sight} {ms′ ks′ : List ℕ}
+    → Fitting ms ks t n key → trip .left ≤ left → trip .found ≡ false → x₀ .entered ≡ left - trip .left → x₀ .reached ≡ trip .far
+    → Remembered ms ks slot t n key x₀ ms′ ks′ → KeptOut n key t left (out-of (Back trip)) (memory ms ks) (memory ms′ ks′)
+unfolding out-of
+added {ms} {ks} {t} {n} {key} {slot} {left} {trip} {x₀} {ms′} {ks′} fit less none ee er r = record { adds = λ key′ t′ x h. by key′ t′ x (remembered-held fit r h) }
+  where
+    by : (key′ : ℕ) (t′ : List ℕ) (x : Sight) → Held ms ks n key′ t′ x ⊎ (Same n key′ t′ key t × (x ≡ x₀)) → Held ms ks n key′ t′ x ⊎ Added n key t left (back (trip .found) (trip .far) (trip .left)) x key′ t′
+    by key′ t′ x (inl k) = inl k
+    by key′ t′ x (inr p) = inr (record {
+      same = p .0;
+      rest = trip .left;
+      less = less;
+      none = (λ i. back (none i) (trip .far) (trip .left)) ∙ ap (λ d. back false d (trip .left)) (sym er ∙ sym (ap (λ (y : Sight). y .reached) (p .1)));
+      entered = ap (λ (y : Sight). y .entered) (p .1) ∙ ee;
+    })
+
+pub not-added : (n key : ℕ) (t : List ℕ) (left : ℕ) (o : Found) (m : Memory) → KeptOut n key t left o m m
+not-added n key t left o m = record { adds = λ key′ t′ x h. inl h }
+
+module _ (ns rs : List ℕ) (sound : Sound ns) (enough : 3 ≤ length ns) (role : Role) (t t′ : List ℕ) (left : ℕ)
+    (same : (j : ℕ) → j < count ns → getD t j 0 ≡ getD t′ j 0) where
+  -- what came of the state that t held, put in by the modes of t′
+  pub kept-learned : {o : Found} {m m′ : Memory} → o ≡ visitB (records rs) (state ns role t) left → KeptOut (count ns) (key-of role (length rs)) t′ left o m m′ → Learned ns rs m m′
+  kept-learned {o} {m} {m′} e f key u x h = by (f .adds key u x h)
+    where
+      by : Has ns rs m key u x ⊎ Added (count ns) (key-of role (length rs)) t′ left o x key u → Has ns rs m key u x ⊎ Searched-once ns rs key u x
+      by (inl k) = inl k
+      by (inr a) =
+          let s : state ns role t ≡ state ns role u = state-same ns sound enough t u (λ j l. same j l ∙ sym (a .same .modes j l)) role in
+          let v = back-seen (records rs) (state ns role t) left (sym e ∙ a .none) in
+          let q : left - a .rest ≡ x .entered = sym (a .entered) in
+          inr (record {
+            role = role;
+            depth = length rs;
+            is = a .same .keys;
+            within = omega arith;
+            saw = subst (λ l. visit (records l) (state ns role u) ≡ saw-none x) (sym (last-all rs))
+                (subst (λ z. visit (records rs) z ≡ saw-none x) s (v ∙ (λ i. record { found = false; reached = x .reached; entered = q i })));
+          })

@@ -1,0 +1,16 @@
+use Rattle.judge.proofs.Memories.{known-spent, known-back}
+use Rattle.judge.proofs.known.Statement.{statement}
+use Rattle.judge.proofs.known.Tie as tie
+use Rattle.judge.proofs.known.Reads as reads
+use Rattle.judge.proofs.known.Lts as lts
+
+-- src/lib.rt:227:9
+returns : tie.Need-returns
+returns c = known-spent (c .before .before .args .seen) (c .before .before .args .left) (c .if1 .taken)
+
+-- src/lib.rt:223:1
+returns-2 : tie.Need-returns-2
+returns-2 c = known-back (c .before .before .before .args .seen) (c .before .before .before .args .left) (c .before .if1 .left)
+
+pub known-spec : {M : Type 1} → statement M
+known-spec = tie.close (tie.spec returns returns-2)
