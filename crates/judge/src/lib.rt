@@ -579,7 +579,15 @@ fn first_search(nodes: &[u16], records: &[u16], work: &mut [u8], role: Role, all
 {
     let mut modes = [0u8; 1];
     let mut marks = [0u32; 1];
-    visit(nodes, records, work, role, allowance, &mut modes[..0], &mut marks[..0])
+    visit(
+        nodes,
+        records,
+        work,
+        role,
+        allowance,
+        &mut modes[..0],
+        &mut marks[..0],
+    )
 }
 
 // With a memory.
@@ -589,7 +597,15 @@ fn long_search(nodes: &[u16], records: &[u16], work: &mut [u8], role: Role, allo
 {
     let mut modes = [0u8; MODES];
     let mut marks = [0u32; MARKS];
-    visit(nodes, records, work, role, allowance, &mut modes, &mut marks)
+    visit(
+        nodes,
+        records,
+        work,
+        role,
+        allowance,
+        &mut modes,
+        &mut marks,
+    )
 }
 
 // What came of a search of fewer states, with the whole allowance.
