@@ -17,6 +17,7 @@ pub mod flowfile;
 pub mod guided;
 pub mod judge;
 pub mod laws;
+pub mod measured;
 pub mod random;
 pub mod reader;
 pub mod refusals;
