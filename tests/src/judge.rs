@@ -81,11 +81,27 @@ fn judge_by(
     }
 }
 
-/// How many of the states that the search of a flow enters differ: as terms, or by the records before them.
-pub fn different_states(nodes: &[u16], records: &[u16], allowance: u32) -> usize {
+/// How many states a search enters, and how many of them differ: as terms, or by how many records led to them.
+#[derive(Clone, Copy, PartialEq, Eq, Debug)]
+pub struct Effort {
+    pub entered: u32,
+    pub different: usize,
+}
+
+/// The effort of judging a flow that is not refused; None if more states would be entered, or more different ones, than are given.
+pub fn effort(nodes: &[u16], records: &[u16], most_entered: u32, most_different: usize) -> Option<Effort> {
+    let mut search = Search::remembering(records, most_entered);
+    search.most_different = most_different;
+    search.answer(&root(nodes)).map(|_| search.effort())
+}
+
+/// The effort of judging with an allowance, used up or not.
+pub fn effort_allowed(nodes: &[u16], records: &[u16], allowance: u32) -> Effort {
     let mut search = Search::remembering(records, allowance);
-    search.answer(&root(nodes));
-    search.gone_through
+    match search.answer(&root(nodes)) {
+        Some(_) => search.effort(),
+        None => Effort { entered: allowance, ..search.effort() },
+    }
 }
 
 /// Calls the last argument with the successors of a state by a record, in order.
@@ -105,20 +121,35 @@ struct Search<'a> {
     /// For each place the states that were gone through there. None: each is gone through as often as it is entered.
     memory: Option<Vec<HashMap<State, Sight>>>,
     count: u32,
-    gone_through: usize,
+    different: usize,
+    most_different: usize,
     furthest: usize,
     accepted: bool,
 }
 
 impl Search<'_> {
     fn new(records: &[u16], allowed: u32, successors: Successors) -> Search<'_> {
-        let (count, gone_through, furthest) = (0, 0, 0);
-        Search { records, allowed, successors, memory: None, count, gone_through, furthest, accepted: false }
+        Search {
+            records,
+            allowed,
+            successors,
+            memory: None,
+            count: 0,
+            different: 0,
+            most_different: usize::MAX,
+            furthest: 0,
+            accepted: false,
+        }
     }
 
     fn remembering(records: &[u16], allowed: u32) -> Search<'_> {
         let memory = Some(vec![HashMap::new(); records.len() + 1]);
         Search { memory, ..Search::new(records, allowed, guided::successors) }
+    }
+
+    /// With a memory only: without one, equal states are not told from different ones.
+    fn effort(&self) -> Effort {
+        Effort { entered: self.count, different: self.different }
     }
 
     /// "The search goes to the first successor first and stops at the first state with nothing left and no
@@ -144,12 +175,12 @@ impl Search<'_> {
             self.furthest = self.furthest.max(seen.furthest);
             return Continue(());
         }
-        if self.count == self.allowed {
+        if self.count == self.allowed || self.different == self.most_different {
             return Break(());
         }
         let (count, furthest) = (self.count, self.furthest);
         self.count += 1;
-        self.gone_through += 1;
+        self.different += 1;
         self.furthest = place;
         self.follow(state, place)?;
         let seen = Sight { entered: self.count - count, furthest: self.furthest };

@@ -2,11 +2,11 @@
 
 use oracle::cases::{Run, Stream, Totals, STORED_CASES, STORED_SEED};
 use oracle::compare::compare;
-use oracle::judge::{different_states, judge, judge_without_memory, with_deep_stack, Answer};
+use oracle::judge::{effort_allowed, judge_without_memory, with_deep_stack};
 use oracle::laws::laws;
 use oracle::refusals::work_wanted;
-use oracle::{measured, samples};
 use oracle::selfcheck::*;
+use oracle::{measured, samples};
 use std::process::ExitCode;
 
 const USAGE: &str = "usage:
@@ -62,12 +62,9 @@ fn bench(file: &str, allowance: u32) -> Result<String, String> {
     let flow = oracle::reader::read(&bytes).map_err(|r| format!("{file}: refused {}\n", r.number))?;
     let (nodes, records) = (&flow.nodes[..], &flow.records[..]);
     let room = work_wanted(nodes, records);
-    let count = match judge(nodes, records, room, allowance) {
-        Answer::Accepted { count, .. } | Answer::Rejected { count, .. } => count,
-        Answer::Undecided { allowance } => allowance,
-        Answer::Refused(refusal) => return Err(format!("{file}: refused {}\n", refusal.number)),
-    };
-    let said = format!("{file}: {count} states, {} differ", different_states(nodes, records, allowance));
+    let effort = effort_allowed(nodes, records, allowance);
+    let (count, differ) = (effort.entered, effort.different);
+    let said = format!("{file}: {count} states, {differ} differ");
     if count > MOST_TIMED {
         return Ok(format!("{said}, too many to be timed\n"));
     }
@@ -102,6 +99,7 @@ fn selfcheck(flows: u64, seed: u64) -> Result<String, String> {
     Ok([
         show("search and trace sets", random_flows_against_traces(flows, seed)?),
         show("guided successors and plain lists", guided_against_lists(flows, seed)?),
+        show("with and without a memory", remembering_against_plain(flows, seed)?),
         show("single exchanges by each law", single_exchanges(&laws, each, seed)?),
         show("chains of exchanges", chains_of_exchanges(&laws, flows, seed)?),
     ]

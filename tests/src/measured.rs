@@ -14,18 +14,24 @@ pub fn all() -> Vec<(&'static str, Drawing, Vec<u16>)> {
         ("twelve", tower(12, &event(A), parallel), [vec![A; 12], vec![FAILED]].concat()),
         ("fourteen", tower(14, &event(A), parallel), [vec![A; 14], vec![FAILED]].concat()),
         ("lines", lines().0, lines().1),
-        ("pairs", pairs(), vec![A, A, A, WITHDRAWN, B, FAILED]),
-        ("throww", parallel_of(throww(), 30, &yieldd()), vec![FAILED, WITHDRAWN]),
+        ("pairs", withdrawing(3, 12), vec![A, A, A, WITHDRAWN, B, FAILED]),
+        ("throww", beside(throww(), 30, &yieldd()), vec![FAILED, WITHDRAWN]),
     ]
 }
 
 /// `first`, and so many copies of a part beside it.
-fn parallel_of(first: Drawing, copies: usize, part: &Drawing) -> Drawing {
+fn beside(first: Drawing, copies: usize, part: &Drawing) -> Drawing {
     (0..copies).fold(first, |all, _| parallel(all, part.clone()))
 }
 
+/// Pairs side by side of which some have a step and the others withdraw or not: as many compensations as there are choices among
+/// these, and the same ones after each order of the steps. With ten or more there are thousands.
+pub fn withdrawing(stepping: usize, withdrawing: usize) -> Drawing {
+    beside(tower(stepping, &pair(event(A), event(B)), parallel), withdrawing, &pair(yields(), event(B)))
+}
+
 /// No two states are equal: each of seven steps can be undone in two ways, and all is undone in the first ways but for the last record.
-fn seven() -> (Drawing, Vec<u16>) {
+pub fn seven() -> (Drawing, Vec<u16>) {
     let step = |e: u16| choice(pair(event(e), event(7 + e)), pair(event(e), event(14 + e)));
     let steps = (2..=7).fold(step(1), |all, e| seq(all, step(e)));
     let records = (1..=7).chain((9..=14).rev()).chain([1, DONE]).collect();
@@ -33,16 +39,11 @@ fn seven() -> (Drawing, Vec<u16>) {
 }
 
 /// Three equal lines of three steps, gone through and undone in rounds; the last record is a slip.
-fn lines() -> (Drawing, Vec<u16>) {
+pub fn lines() -> (Drawing, Vec<u16>) {
     let step = |e: u16| pair(event(e), event(3 + e));
     let line = seq(seq(step(1), step(2)), step(3));
     let rounds = [1, 2, 3, 6, 5].iter().flat_map(|e| [*e; 3]);
     (block(seq(tower(3, &line, parallel), throww())), rounds.chain([4, 4, 1, DONE]).collect())
-}
-
-/// Fifteen pairs, three of them with a step: withdrawn in 4,095 ways after each order of the steps, more than a search remembers.
-fn pairs() -> Drawing {
-    parallel_of(tower(3, &pair(event(A), event(B)), parallel), 12, &pair(yields(), event(B)))
 }
 
 fn file(flow: &Drawing, records: &[u16]) -> Vec<u8> {
