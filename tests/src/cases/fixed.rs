@@ -194,6 +194,13 @@ fn equal_parts() -> Vec<Case> {
             all.push(judge(flow, records, allowance));
         }
     }
+    for later in [1, 2, 4, 8, 16] {
+        // The same term comes after so many records more, which leaves fewer for what follows.
+        let first = choice(event(A), tower(1 + later, &event(A), seq));
+        let (flow, records) = (seq(first, tower(4, &one_or_two, seq)), a_times(later + 6, FAILED));
+        let count = count(&flow, &records);
+        all.extend([count - 1, count].map(|allowance| judge(&flow, &records, allowance)));
+    }
     let (flow, records) = lines();
     for at in 8..records.len() - 1 {
         let mut records = records.clone();
