@@ -1,35 +1,50 @@
 #!/usr/bin/env python3
-"""States per second on the stored flows: the proved judge, the independent implementation, and the transition rules in Prolog.
+"""States per second on the stored flows: the judge, the independent implementation, and the transition rules in Prolog.
 
-Every figure is of one run on the same files. The judge's is the processor time of `replay` on cases repeated in one process, less
-that of a process that judges nothing. Prints a table and keeps it in RESULTS.md beside this file, above that file's first section; not
-so on another processor than the one that Rattle's programs are compiled for, where the judge runs under an emulator and its time
-says nothing.
+Every figure is of one run on the same files. Prints a table and keeps it in RESULTS.md beside this file, above that file's first
+section. The judge is measured in one of two ways, and the table says which:
+- on x86-64, for which Rattle's programs are compiled: the program `replay`, which is given a case again and again;
+- elsewhere, where they would be emulated: the judge's code compiled for this machine as plain Rust (native.py).
 usage: measure.py INDEPENDENT [OTHER]
-  INDEPENDENT  the independent implementation, which has a subcommand `bench FILE`
-  OTHER        one more program with `bench FILE ..`, printing lines that end in '.. M states/s' (optional)
-usage: measure.py --against PROGRAM
-  PROGRAM      `replay` of an earlier build: the two are timed by turns, and only that is printed
+  INDEPENDENT  the independent implementation, which has a subcommand `bench FILE ALLOWANCE`
+  OTHER        one more program with `bench FILE`, printing lines that end in '.. M states/s' (optional)
+usage: measure.py --against EARLIER
+  EARLIER      an earlier build, measured by turns with this one, and only that is printed. On x86-64 a checkout that was built, or its
+               target/bin/replay; elsewhere a checkout or a git revision
 """
-import pathlib, platform, re, resource, statistics, struct, subprocess, sys, tempfile
+import pathlib, platform, re, resource, struct, subprocess, sys, tempfile
+
+sys.dont_write_bytecode = True
+import native
 
 HERE = pathlib.Path(__file__).resolve().parent
-FLOWS = ["paraa", "choice", "yield", "undo"]
+HOME = HERE.parent
+EMULATED = platform.machine() != "x86_64"
+MOST = 4_294_967_295
+FLOWS = {name: MOST for name in ["paraa", "choice", "yield", "undo", "lines", "seven", "pairs", "throww", "twelve", "fourteen"]}
+FLOWS["throww"] = 100_000  # of some thousand million
 CLOSINGS = {61441: "done", 61442: "withdrawn", 61443: "failed"}
-ALLOWANCE = 20_000_000
-ROUNDS = 15
-NOTE = """
+ROUNDS = 5
+LIMIT = 60  # seconds for one call; what takes longer is left out
+WORTH_TRYING = 20_000_000  # states, for a program that goes through equal ones again
+LEAST = 0.25  # seconds of a run that is timed: a case is judged as often as that takes
+FEW = 32  # states of a small case
+NATIVELY = f"its code compiled for this processor ({platform.machine()}) as plain Rust (`native.py`), where programs would be emulated"
+WAY = NATIVELY if EMULATED else "the proved program `replay`"
+NOTE = f"""
 - flow: the file in `bench/flows`. nodes: how many it has. states: how many the search enters, the count of the program's line; all
-  programs enter the same ones.
-- judge: the proved judge, by the processor time of a process (`replay`) that reads the case again and again and writes lines, less
-  that of a process that judges nothing.
-- independent: the implementation in `tests/`, plain Rust, timed inside itself (`oracle bench FILE`).
+  programs count the same. differ: how many of them differ, in the term or in how many records led to it.
+- judge: the judge's states per second, by the processor time of a process that judges the case again and again, less that of a process
+  that is given as many calls without nodes. a call: the time of one.
+- independent: the implementation in `tests/`, plain Rust, going through equal states again, timed inside itself (`oracle bench FILE`).
 - Prolog: the transition rules as published, in SWI-Prolog (`rules.pl`), one run, timed inside itself.
 - other, where it is there: one more program that was named to `bench/run`, timed inside itself.
+- stored: all cases of `crates/replay/stdin`, and a call is all of them. small: those of them that enter {FEW} states or fewer.
+- `throww` is allowed {FLOWS["throww"]:,} states, all others {MOST:,}. A dash: over {LIMIT} seconds, or not tried: what goes through equal
+  states again is not asked for more than {WORTH_TRYING:,}, and Prolog for none that stays undecided.
 
-`bench/run --against PROGRAM` sets this build beside an earlier build's `target/bin/replay`, both by turns in one run on one machine: the
-best states per second of each, the median over the rounds of the ratio of this build to the earlier one (above 1: faster), and between
-what half of the rounds' ratios lie. Where that is wide, something else was running.
+`bench/run --against EARLIER` sets this build beside an earlier one, by turns in one run: the best states per second of each in {ROUNDS} rounds,
+their ratio (above 1: faster), and between what the ratios of single rounds lie. Where that is wide, something else was running.
 """
 
 
@@ -62,50 +77,112 @@ def case(nodes, records, allowance):
     return b"J" + struct.pack("<IIHH", allowance, room, len(nodes), len(records)) + struct.pack(f"<{len(nodes) + len(records)}H", *nodes, *records)
 
 
+def split(stdin):
+    """The cases of an input of `replay`, up to the first that is none."""
+    cases, at = [], 0
+    while stdin[at : at + 1] in (b"F", b"J"):
+        if stdin[at : at + 1] == b"F":
+            end = at + 3 + struct.unpack_from("<H", stdin, at + 1)[0]
+        else:
+            end = at + 13 + 2 * sum(struct.unpack_from("<HH", stdin, at + 9))
+        if end > len(stdin): break
+        cases.append(stdin[at:end])
+        at = end
+    return cases
+
+
+class Input:
+    """Cases, the lines that are to come if they are known, and how many states they enter."""
+
+    def __init__(self, cases, lines=None):
+        self.cases, self.lines = cases, lines
+
+    def states(self):
+        """None if no judge was done with it."""
+        return self.lines and sum(int(line.split()[3]) for line in self.lines)
+
+    def idle(self):
+        """As many calls that have no nodes."""
+        return Input([case([], [], 0)] * len(self.cases), ["refused 1 0 0 clean"] * len(self.cases))
+
+
+class Judge:
+    """A program that judges cases, and how it is told to do so again and again."""
+
+    def __init__(self, words, natively):
+        self.words, self.natively = words, natively
+
+    def run(self, given, times, limit=None):
+        """The processor time of all cases so many times; other work on the machine hardly changes it, unlike the clock's. Keeps the lines
+        if none are known, else they have to be the same."""
+        words = self.words + [str(times)] if self.natively else self.words
+        stdin = b"".join(given.cases) * (1 if self.natively else times)
+        before = spent()
+        out = subprocess.run(words, input=stdin, stdout=subprocess.PIPE, check=True, timeout=limit).stdout.decode().splitlines()
+        seconds = spent() - before
+        given.lines = given.lines or out
+        assert out == (given.lines if self.natively else given.lines * times), (words, given.lines[:1], out[:1])
+        return seconds
+
+    def times(self, given):
+        """How often to judge so that it can be timed; None if once takes too long."""
+        times = 1
+        while True:
+            try:
+                seconds = self.run(given, times, LIMIT)
+            except subprocess.TimeoutExpired:
+                return None
+            if seconds > LEAST / 5: return max(times, round(times * LEAST / seconds))
+            times *= 5
+
+
 def spent():
-    """The processor time of all processes that were waited for: unlike the clock's, other work on the machine hardly changes it."""
     used = resource.getrusage(resource.RUSAGE_CHILDREN)
     return used.ru_utime + used.ru_stime
 
 
-def timed(programs, stdin, rounds):
-    """Each program's times on this input, one for each round, and its output. They take turns, now this one first and now that."""
-    times, outs = [[] for _ in programs], [""] * len(programs)
-    for r in range(rounds):
-        for i in list(range(len(programs)))[:: 1 if r % 2 == 0 else -1]:
-            before = spent()
-            outs[i] = subprocess.run(programs[i], input=stdin, stdout=subprocess.PIPE, check=True).stdout.decode()
-            times[i].append(spent() - before)
-    return times, outs
-
-
-def judges(programs, nodes, records, rounds=5):
-    """The count of a case, and each program's states per second, one figure for each round; all have to give that count."""
-    one = case(nodes, records, ALLOWANCE)
-    starts, _ = timed(programs, b"", rounds)
-    count = int(timed(programs[:1], one, 1)[1][0].split()[3])
-    cases = max(1, 1_000_000 // count)
-    times, outs = timed(programs, one * cases, rounds)
-    for out in outs:
-        lines = out.splitlines()
-        assert len(lines) == cases and all(l.endswith("clean") and int(l.split()[3]) == count for l in lines)
-    return count, [[count * cases / (t - min(start)) for t in own] for own, start in zip(times, starts)]
+def calls(judges, given):
+    """The seconds of a call by each judge, one figure for each round; None for one that takes too long. They take turns, now this one
+    first and now that."""
+    times = [judge.times(given) for judge in judges]
+    seconds, idle = [[] for _ in judges], given.idle()
+    for r in range(ROUNDS):
+        for i in list(range(len(judges)))[:: 1 if r % 2 == 0 else -1]:
+            if times[i]:
+                around = judges[i].run(idle, times[i])
+                seconds[i].append(max(judges[i].run(given, times[i]) - around, 1e-9) / times[i])
+    return [own or None for own in seconds]
 
 
 def prolog(nodes, records):
+    """The count by the rules, and states per second; None if that takes too long."""
     n = len(nodes) // 3
     root = ("std" if nodes[3 * (n - 1)] <= 9 else "cmp") + f"({term(nodes, n - 1)})"
     rs = ",".join(f"close({CLOSINGS[r]})" if r in CLOSINGS else f"event({r})" for r in records)
     with tempfile.NamedTemporaryFile("w", suffix=".pl") as f:
         f.write(f":- consult('{HERE / 'rules.pl'}').\n:- initialization((run({root},[{rs}]), halt)).\n")
         f.flush()
-        out = subprocess.run(["swipl", "-O", "-q", f.name], stdout=subprocess.PIPE, check=True).stdout.decode().split()
+        try:
+            out = subprocess.run(["swipl", "-O", "-q", f.name], stdout=subprocess.PIPE, check=True, timeout=LIMIT).stdout.decode().split()
+        except subprocess.TimeoutExpired:
+            return None
     return int(out[1]), int(out[1]) / max(float(out[2]), 1e-9)
 
 
-def bench(program, path):
-    out = subprocess.run([program, "bench", str(path)], stdout=subprocess.PIPE, check=True).stdout.decode()
-    return float(re.search(r"([\d.]+)M states/s", out).group(1)) * 1e6
+def bench(words):
+    """What a program with `bench` says: its count, how many states differ, and its states per second; None for what it does not say."""
+    out = subprocess.run(words, stdout=subprocess.PIPE, check=True).stdout.decode()
+    said = [re.search(pattern, out) for pattern in (r"(\d+) states", r"(\d+) differ", r"([\d.]+) ?M states/s")]
+    count, differ, speed = [found and float(found.group(1)) for found in said]
+    return count and int(count), differ and int(differ), speed and 1e6 * speed
+
+
+def millions(speed):
+    return f"{speed / 1e6:,.2f}" if speed else "-"
+
+
+def lasting(seconds):
+    return f"{1e3 * seconds:,.3g} ms" if seconds < 1 else f"{seconds:,.2f} s"
 
 
 def table(head, rows):
@@ -113,50 +190,96 @@ def table(head, rows):
 
 
 def flows():
-    for name in FLOWS:
+    for name, allowance in FLOWS.items():
         path = HERE / "flows" / f"{name}.flow"
-        yield name, path, *parts(path)
+        nodes, records = parts(path)
+        yield name, path, nodes, records, allowance
 
 
-def against(replay, earlier):
-    """This build and an earlier one, which runs on the same C library. A ratio is of two runs side by side, so that work beside
-    them, which slows both, is left out; the middle one of all rounds counts."""
+def stored():
+    """The stored cases of `replay`: all, and those that enter few states."""
+    folder = HOME / "crates" / "replay"
+    cases, lines = split((folder / "stdin").read_bytes()), (folder / "stdout").read_text().splitlines()
+    assert len(cases) + 1 == len(lines)  # the last is no case
+    both = list(zip(cases, lines))
+    few = [(c, l) for c, l in both if not l.startswith("refused") and int(l.split()[3]) <= FEW]
+    for name, some in [("stored", both), ("small", few)]:
+        yield f"{name}: {len(some):,} cases", Input([c for c, _ in some], [l for _, l in some])
+
+
+def this_build(folder):
+    if EMULATED: return compiled(HOME, folder / "this")
+    return Judge(subprocess.run([HOME / "scripts" / "run", "--words", "replay"], stdout=subprocess.PIPE, check=True).stdout.decode().splitlines(), False)
+
+
+def compiled(checkout, program):
+    native.build(checkout, program)
+    return Judge([str(program)], True)
+
+
+def earlier_build(this, argument, folder):
+    """An earlier build, which runs on the same C library as this one."""
+    path = pathlib.Path(argument)
+    if not EMULATED:
+        program = path / "target" / "bin" / "replay" if path.is_dir() else path
+        if not program.is_file(): sys.exit(f"{argument}: no checkout that was built, and no program")
+        return Judge(this.words[:-1] + [str(program)], False)
+    if not path.is_dir():
+        tree = subprocess.run(["git", "-C", HOME, "archive", argument, "crates.txt", "crates"], stdout=subprocess.PIPE)
+        if tree.returncode: sys.exit(f"{argument}: no checkout, and no revision")
+        path = folder / "checkout"
+        path.mkdir()
+        subprocess.run(["tar", "-x", "-C", path], input=tree.stdout, check=True)
+    return compiled(path, folder / "earlier")
+
+
+def against(argument, folder):
+    this = this_build(folder)
+    judges = [this, earlier_build(this, argument, folder)]
     rows = []
-    for name, _, nodes, records in flows():
-        count, (now, then) = judges([replay, replay[:-1] + [earlier]], nodes, records, ROUNDS)
-        ratios = [a / b for a, b in zip(now, then)]
-        low, middle, high = statistics.quantiles(ratios, n=4)
-        rows.append([name, f"{count:,}", f"{max(now) / 1e6:.2f}", f"{max(then) / 1e6:.2f}", f"{middle:.3f}", f"{low:.3f} to {high:.3f}"])
-    print(f"Millions of states per second, best of {ROUNDS} rounds, and the median ratio of a round; earlier: {earlier}\n")
-    print(table(["flow", "states", "this build", "earlier", "ratio", "half of the rounds"], rows))
+    inputs = [(name, Input([case(nodes, records, allowance)])) for name, _, nodes, records, allowance in flows()]
+    for name, given in inputs + list(stored()):
+        now, then = calls(judges, given)
+        row = [name, f"{given.states():,}" if now or then else "-"] + [millions(own and given.states() / min(own)) for own in (now, then)]
+        row += [lasting(min(own)) if own else f"over {LIMIT} s" for own in (now, then)]
+        if now and then:
+            ratios = [b / a for a, b in zip(now, then)]
+            row += [f"{min(then) / min(now):,.2f}", f"{min(ratios):,.2f} to {max(ratios):,.2f}"]
+        rows.append(row + ["-"] * (8 - len(row)))
+    print(f"Millions of states per second, best of {ROUNDS} rounds by turns; the judge by {WAY}. Earlier: {argument}\n")
+    print(table(["flow", "states", "this build", "earlier", "a call", "earlier", "ratio", "rounds"], rows))
 
 
-def kept(replay, independent, other):
-    head = ["flow", "nodes", "states", "judge", "independent", "Prolog"] + (["other"] if other else [])
-    rows = []
-    for name, path, nodes, records in flows():
-        count, [speeds] = judges([replay], nodes, records)
-        said, slow = prolog(nodes, records)
-        assert said == count, (name, said, count)
-        row = [name, str(len(nodes) // 3), f"{count:,}", f"{max(speeds) / 1e6:.2f}", f"{bench(independent, path) / 1e6:.2f}", f"{slow / 1e6:.2f}"]
-        rows.append(row + ([f"{bench(other, path) / 1e6:.2f}"] if other else []))
-    build = subprocess.run(["git", "-C", str(HERE), "describe", "--always", "--dirty"], stdout=subprocess.PIPE, check=True).stdout.decode().strip()
-    text = f"# States per second, in millions\n\nOne run at commit {build}, all programs on the same files (`bench/flows`), best of five.\n\n{table(head, rows)}\n{NOTE}"
+def kept(independent, other, folder):
+    head = ["flow", "nodes", "states", "differ", "judge", "a call", "independent", "Prolog"] + (["other"] if other else [])
+    judge, rows = this_build(folder), []
+    for name, path, nodes, records, allowance in flows():
+        given = Input([case(nodes, records, allowance)])
+        [seconds] = calls([judge], given)
+        count, differ, speed = bench([independent, "bench", path, str(allowance)])
+        assert given.states() in (None, count), (name, given.lines, count)
+        slow = prolog(nodes, records) if count < min(allowance, WORTH_TRYING) else None
+        assert not slow or slow[0] == count, (name, slow, count)
+        row = [name, str(len(nodes) // 3), f"{count:,}", f"{differ:,}", millions(seconds and count / min(seconds))]
+        row += [lasting(min(seconds)) if seconds else f"over {LIMIT} s", millions(speed), millions(slow and slow[1])]
+        rows.append(row + ([millions(bench([other, "bench", path])[2])] if other else []))
+    for name, given in stored():
+        [seconds] = calls([judge], given)
+        rows.append([name, "-", f"{given.states():,}", "-", millions(given.states() / min(seconds)), lasting(min(seconds))] + ["-"] * (len(head) - 6))
+    build = subprocess.run(["git", "-C", HERE, "describe", "--always", "--dirty"], stdout=subprocess.PIPE, check=True).stdout.decode().strip()
+    text = f"# States per second, in millions\n\nOne run at commit {build}, all programs on the same files (`bench/flows`), best of {ROUNDS}.\nThe judge is measured by {WAY}.\n\n{table(head, rows)}\n{NOTE}"
     print(text)
-    if platform.machine() == "x86_64":
-        results = HERE / "RESULTS.md"
-        _, mark, below = results.read_text().partition("\n## ")  # written by hand, and kept
-        results.write_text(text + mark + below)
-    else:
-        print("The judge ran under an emulator: its column says nothing of its speed, and the table is not kept.")
+    results = HERE / "RESULTS.md"
+    _, mark, below = results.read_text().partition("\n## ")  # written by hand, and kept
+    results.write_text(text + mark + below)
 
 
 def main():
-    replay = subprocess.run([HERE.parent / "scripts" / "run", "--words", "replay"], stdout=subprocess.PIPE, check=True).stdout.decode().splitlines()
-    if sys.argv[1] == "--against":
-        against(replay, sys.argv[2])
-    else:
-        kept(replay, sys.argv[1], sys.argv[2] if len(sys.argv) > 2 else None)
+    with tempfile.TemporaryDirectory() as folder:
+        if sys.argv[1] == "--against":
+            against(sys.argv[2], pathlib.Path(folder))
+        else:
+            kept(sys.argv[1], sys.argv[2] if len(sys.argv) > 2 else None, pathlib.Path(folder))
 
 
 main()

@@ -2,7 +2,7 @@
 //! and the first line that differs ends it.
 
 use crate::cases::malformed::{good_case, malformed, Malformed};
-use crate::cases::{Made, Stream, Totals};
+use crate::cases::{fixed, Made, Stream, Totals};
 use std::io::{BufRead, BufReader, Write};
 use std::process::{Child, Command, Stdio};
 use std::sync::mpsc::{channel, Receiver};
@@ -12,14 +12,18 @@ use std::time::Duration;
 /// A line that takes longer counts as missing.
 const PATIENCE: Duration = Duration::from_secs(120);
 
-/// Compares so many cases and then everything that is no case; `replay` is the command that runs it. The text says
+/// Compares so many cases, then the long ones and everything that is no case; `replay` is the command that runs it. The text says
 /// what was seen, or the first difference.
 pub fn compare(cases: u64, seed: u64, replay: &[&str]) -> Result<String, String> {
-    let totals = compare_cases(cases, seed, replay)?;
+    let totals = compare_cases(move || Stream::new(seed).take(cases as usize), replay)
+        .map_err(|difference| format!("seed {seed}, {difference}"))?;
+    let made = |case| Made::within(u32::MAX, "long", case);
+    let long = compare_cases(move || fixed::long().into_iter().filter_map(made), replay)?;
     let bad = malformed();
     compare_empty(replay)?;
     bad.iter().try_for_each(|case| compare_malformed(replay, case))?;
-    Ok(format!("{}{} malformed cases\nno difference, seed {seed}\n", totals.show(), bad.len()))
+    let beside = format!("{} long cases, {} malformed ones", long.cases, bad.len());
+    Ok(format!("{}{beside}\nno difference, seed {seed}\n", totals.show()))
 }
 
 fn start(replay: &[&str]) -> Result<Child, String> {
@@ -43,14 +47,17 @@ fn lines_of(child: &mut Child) -> Receiver<String> {
     receiver
 }
 
-fn compare_cases(cases: u64, seed: u64, replay: &[&str]) -> Result<Totals, String> {
+fn compare_cases<I: Iterator<Item = Made>>(
+    cases: impl FnOnce() -> I + Send + 'static,
+    replay: &[&str],
+) -> Result<Totals, String> {
     let mut child = start(replay)?;
     let lines = lines_of(&mut child);
     let mut input = child.stdin.take().expect("a pipe");
     let (sender, made) = channel::<Made>();
     // Makes the cases and hands them to the child; a child that has ended is noticed by its missing line.
     let maker = move || {
-        for made in Stream::new(seed).take(cases as usize) {
+        for made in cases() {
             let _ = input.write_all(&made.case.bytes());
             if sender.send(made).is_err() {
                 break;
@@ -65,7 +72,7 @@ fn compare_cases(cases: u64, seed: u64, replay: &[&str]) -> Result<Totals, Strin
         let expected = made.case.line(made.answer);
         let got = lines.recv_timeout(PATIENCE).unwrap_or("(no line)".into());
         if got != expected {
-            let case = format!("case {} of seed {seed}, {}", totals.cases, made.family);
+            let case = format!("case {}, {}", totals.cases, made.family);
             difference = Some(format!("{case}\nexpected: {expected}\n     got: {got}\n{}", made.case.show()));
             break;
         }

@@ -6,7 +6,8 @@
 //! - `rules`: the rules as plain lists, sentence by sentence; `guided`: the same successors one at a time.
 //! - `judge`: the counted search and the answer; `reader`: the flow file and the program's line.
 //! - `traces`: the published trace semantics as explicit sets; `laws`: the laws of demand 3.
-//! - `selfcheck`: `judge` against `traces`, `guided` against `rules`, the laws against `judge`.
+//! - `selfcheck`: `judge` against `traces`, `guided` against `rules`, with and without a memory, the laws against `judge`.
+//! - `cases`: cases for `replay`; `compare`: its lines against ours; `samples`, `measured`: flow files to try and to measure.
 //! - `drawing`, `random`, `flowfile`, `rng`: flows, records and files, by hand and at random.
 
 pub mod by_hand;
@@ -17,6 +18,7 @@ pub mod flowfile;
 pub mod guided;
 pub mod judge;
 pub mod laws;
+pub mod measured;
 pub mod random;
 pub mod reader;
 pub mod refusals;

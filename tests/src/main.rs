@@ -2,10 +2,11 @@
 
 use oracle::cases::{Run, Stream, Totals, STORED_CASES, STORED_SEED};
 use oracle::compare::compare;
-use oracle::judge::{with_deep_stack, Answer};
+use oracle::judge::{effort_allowed, judge_without_memory, with_deep_stack};
 use oracle::laws::laws;
-use oracle::samples;
+use oracle::refusals::work_wanted;
 use oracle::selfcheck::*;
+use oracle::{measured, samples};
 use std::process::ExitCode;
 
 const USAGE: &str = "usage:
@@ -15,7 +16,8 @@ const USAGE: &str = "usage:
   oracle selfcheck N SEED                    the oracle against trace sets and laws, N flows each
   oracle samples DIR                         write the sample files and expected.txt
   oracle line FILE                           the line that the program prints for a flow file
-  oracle bench FILE                          states entered in a second on a flow file
+  oracle flows DIR                           write the flow files that are only there to be measured
+  oracle bench FILE [ALLOWANCE]              states that a search enters, how many differ, and how many it enters in a second
 ";
 
 fn main() -> ExitCode {
@@ -46,28 +48,33 @@ fn run(arguments: &[String]) -> Result<String, String> {
             let bytes = std::fs::read(file).map_err(|e| format!("{file}: {e}\n"))?;
             Ok(format!("{}\n", oracle::reader::program(&bytes)))
         }
-        ["bench", file] => bench(file),
+        ["flows", folder] => measured::write(folder).map_err(|e| format!("{folder}: {e}\n")),
+        ["bench", file] => bench(file, u32::MAX),
+        ["bench", file, allowance] => bench(file, number(allowance)?.min(u32::MAX as u64) as u32),
         _ => Err(USAGE.into()),
     }
 }
 
-/// The best of five searches of one flow file, with twenty million states allowed.
-fn bench(file: &str) -> Result<String, String> {
+/// The best of five searches of one flow file, each of which goes through equal states again; not timed if there are too many.
+fn bench(file: &str, allowance: u32) -> Result<String, String> {
+    const MOST_TIMED: u32 = 20_000_000;
     let bytes = std::fs::read(file).map_err(|e| format!("{file}: {e}\n"))?;
     let flow = oracle::reader::read(&bytes).map_err(|r| format!("{file}: refused {}\n", r.number))?;
-    let room = 2 * (flow.nodes.len() / 3) * (flow.records.len() + 1);
-    let (mut best, mut count) = (f64::MAX, 0);
+    let (nodes, records) = (&flow.nodes[..], &flow.records[..]);
+    let room = work_wanted(nodes, records);
+    let effort = effort_allowed(nodes, records, allowance);
+    let (count, differ) = (effort.entered, effort.different);
+    let said = format!("{file}: {count} states, {differ} differ");
+    if count > MOST_TIMED {
+        return Ok(format!("{said}, too many to be timed\n"));
+    }
+    let mut best = f64::MAX;
     for _ in 0..5 {
         let start = std::time::Instant::now();
-        let answer = oracle::judge::judge(&flow.nodes, &flow.records, room, 20_000_000);
+        std::hint::black_box(judge_without_memory(nodes, records, room, allowance));
         best = best.min(start.elapsed().as_secs_f64());
-        count = match answer {
-            Answer::Accepted { count, .. } | Answer::Rejected { count, .. } => count,
-            Answer::Undecided { allowance } => allowance,
-            Answer::Refused(_) => 0,
-        };
     }
-    Ok(format!("{file}: {count} states, {:.3}M states/s\n", count as f64 / best / 1e6))
+    Ok(format!("{said}, {:.3}M states/s\n", count as f64 / best / 1e6))
 }
 
 fn number(word: &str) -> Result<u64, String> {
@@ -92,6 +99,7 @@ fn selfcheck(flows: u64, seed: u64) -> Result<String, String> {
     Ok([
         show("search and trace sets", random_flows_against_traces(flows, seed)?),
         show("guided successors and plain lists", guided_against_lists(flows, seed)?),
+        show("with and without a memory", remembering_against_plain(flows, seed)?),
         show("single exchanges by each law", single_exchanges(&laws, each, seed)?),
         show("chains of exchanges", chains_of_exchanges(&laws, flows, seed)?),
     ]

@@ -1,9 +1,10 @@
 //! Checks of this implementation against itself: the search against explicit trace sets, the guided
-//! successors against the plain lists, and the laws of demand 3. Each answers how many cases it saw, or a
+//! successors against the plain lists, the search that remembers against one that does not, and the laws of demand 3. Each answers how many cases it saw, or a
 //! text that says what went wrong. The tests call them with small numbers, the command `selfcheck` with any.
 
+use crate::cases::{repeating, Case};
 use crate::drawing::{self, Drawing};
-use crate::judge::{judge, judge_by_lists, judge_within, Answer};
+use crate::judge::{effort, judge, judge_by_lists, judge_within, judge_without_memory, Answer, Effort};
 use crate::laws::{Fresh, Law};
 use crate::random::{self, TASTES};
 use crate::refusals::{work_wanted, MOST_NODES};
@@ -195,6 +196,36 @@ pub fn guided_against_lists(flows: u64, seed: u64) -> Result<Seen, String> {
             let short = judge(&nodes, &records, work_len, count - 1);
             if short != (Answer::Undecided { allowance: count - 1 }) {
                 return wrong("allowed one less", short);
+            }
+        }
+    }
+    Ok(seen)
+}
+
+/// The search that remembers answers as one that goes through equal states again, whatever it is allowed.
+pub fn remembering_against_plain(flows: u64, seed: u64) -> Result<Seen, String> {
+    let mut rng = Rng::new(seed);
+    let mut seen = Seen::default();
+    while seen.flows < flows {
+        seen.flows += 1;
+        for case in repeating::cases(&mut rng) {
+            let Case::Judge { nodes, records, allowance, .. } = case else { continue };
+            let Some(Effort { entered, .. }) = effort(&nodes, &records, 20_000, usize::MAX) else {
+                seen.left_out += 1;
+                continue;
+            };
+            let work_len = work_wanted(&nodes, &records);
+            let fewer = rng.below(entered as usize) as u32;
+            for allowance in [entered - 1, entered, allowance, fewer] {
+                let answer = judge(&nodes, &records, work_len, allowance);
+                let plain = judge_without_memory(&nodes, &records, work_len, allowance);
+                if answer != plain {
+                    let flow = drawing::of_table(&nodes).show();
+                    return Err(format!(
+                        "{flow}, records {records:?}, allowance {allowance}: {answer}, not {plain}"
+                    ));
+                }
+                seen.count(answer);
             }
         }
     }

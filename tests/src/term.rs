@@ -83,7 +83,7 @@ pub fn sort_of(kind: u16) -> Sort {
     }
 }
 
-#[derive(PartialEq, Eq, Debug)]
+#[derive(PartialEq, Eq, Hash, Debug)]
 pub enum Standard {
     Event(u16),
     Skip,
@@ -97,7 +97,7 @@ pub enum Standard {
 }
 
 /// `Held(QQ, R)` stands in states only: QQ runs and R is held until QQ ends (002's auxiliary form).
-#[derive(PartialEq, Eq, Debug)]
+#[derive(PartialEq, Eq, Hash, Debug)]
 pub enum Compensable {
     Pair(Std, Std),
     Seq(Comp, Comp),
@@ -129,7 +129,7 @@ pub fn held(qq: Comp, r: Std) -> Comp {
 }
 
 /// "A state (a term, or nothing left)."
-#[derive(Clone, PartialEq, Eq, Debug)]
+#[derive(Clone, PartialEq, Eq, Hash, Debug)]
 pub enum State {
     Standard(Std),
     Compensable(Comp),

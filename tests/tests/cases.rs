@@ -3,7 +3,7 @@
 use oracle::by_hand;
 use oracle::cases::malformed::malformed;
 use oracle::cases::{Case, Made, Run, Stream, Totals, MOST_NUMBERS, MOST_WORK, STORED_CASES, STORED_SEED};
-use oracle::judge::{with_deep_stack, Answer};
+use oracle::judge::{effort_allowed, with_deep_stack, Answer};
 use oracle::reader::read;
 use oracle::refusals::work_wanted;
 use oracle::term::{sort_of, Sort};
@@ -70,6 +70,19 @@ fn is_decided_by_one_more(case: &Case) -> bool {
     }
     let answer = with_deep_stack(move || case.answer(u32::MAX));
     !matches!(answer, Some(Answer::Undecided { .. }))
+}
+
+/// Searches that enter many states of which few differ, and searches with more different states than a judge may remember.
+#[test]
+fn equal_states_come_often() {
+    let (mut equal, mut many) = (0, 0);
+    for made in cases().iter().filter(|made| made.family.ends_with("equal parts")) {
+        let Case::Judge { allowance, nodes, records, .. } = &made.case else { continue };
+        let effort = effort_allowed(nodes, records, *allowance);
+        equal += (effort.entered as usize > 10 * effort.different) as u32;
+        many += (effort.different > 2_048) as u32;
+    }
+    assert!(equal >= 200 && many >= 10, "{equal} {many}");
 }
 
 /// One work byte less than wanted, just as many, one more.

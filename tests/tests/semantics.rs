@@ -1,5 +1,6 @@
 //! The search against the published trace semantics, and the laws of demand 3.
 
+use oracle::judge::with_deep_stack;
 use oracle::laws::{errors_that_look_right, laws};
 use oracle::selfcheck::*;
 
@@ -19,6 +20,12 @@ fn random_flows_mean_their_traces() {
 fn guided_successors_are_those_of_the_lists() {
     let seen = guided_against_lists(10_000, 2).unwrap();
     assert!(seen.accepted > 10_000 && seen.rejected > 10_000, "{seen:?}");
+}
+
+#[test]
+fn remembering_changes_no_answer() {
+    let seen = with_deep_stack(|| remembering_against_plain(1_000, 6)).unwrap();
+    assert!(seen.rejected > 1_000 && seen.accepted > 100, "{seen:?}");
 }
 
 #[test]

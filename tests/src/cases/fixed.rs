@@ -5,6 +5,8 @@ use super::{Case, MOST_WORK};
 use crate::by_hand::{self, A, B, C, MILLION};
 use crate::drawing::*;
 use crate::flowfile::{self, entry, Entry, FlowFile};
+use crate::judge::effort_allowed;
+use crate::measured::{lines, seven, withdrawing};
 use crate::refusals::work_wanted;
 use crate::term::{is_event, DONE, FAILED, WITHDRAWN};
 
@@ -17,6 +19,7 @@ pub fn cases() -> Vec<(&'static str, Case)> {
     add("fixed: every record list", every_record_list());
     add("fixed: boundaries", boundaries());
     add("fixed: wide", wide());
+    add("fixed: equal parts", equal_parts());
     add("fixed: worked file", worked_file());
     add("fixed: names", similar_names());
     add("fixed: names", missing_names());
@@ -127,17 +130,17 @@ fn boundaries() -> Vec<Case> {
 /// Searches of about a million states, and blocks with thousands of millions of compensations.
 fn wide() -> Vec<Case> {
     let a_times = |n: usize, closing: u16| [vec![A; n], vec![closing]].concat();
-    let orders = |n: usize| tower(n, &event(A), parallel);
-    let late = choice(seq(orders(8), throw()), tower(8, &event(A), seq));
+    let (nine, ten, seven) = (orders(9), orders(10), orders(7));
+    let late = choice(seq(orders(8).0, throw()), tower(8, &event(A), seq));
     let silent = block(parallel(throww(), tower(30, &yieldd(), parallel)));
     let leaves = |e: u16| pair(skip(), event(e));
     let undone = block(seq(tower(7, &choice(leaves(B), leaves(C)), parallel), throww()));
     vec![
-        file(four_names(), &orders(9), &a_times(9, FAILED)),
-        file(four_names(), &orders(10), &a_times(10, FAILED)),
+        file(four_names(), &nine.0, &nine.1),
+        file(four_names(), &ten.0, &ten.1),
         file(four_names(), &late, &a_times(8, DONE)),
-        judge(&orders(7), &a_times(7, FAILED), 13_699),
-        judge(&orders(7), &a_times(7, FAILED), 13_700),
+        judge(&seven.0, &seven.1, 13_699),
+        judge(&seven.0, &seven.1, 13_700),
         judge(&tower(16, &choice(event(A), event(A)), seq), &a_times(16, FAILED), MILLION),
         judge(&tower(31, &yieldd(), parallel), &[WITHDRAWN, FAILED], 50_000),
         judge(&tower(16, &choice(skipp(), skipp()), seq), &[DONE, FAILED], u32::MAX),
@@ -147,6 +150,83 @@ fn wide() -> Vec<Case> {
         judge(&undone, &[C, B, C, B, C, B, C, DONE], MILLION),
         judge(&undone, &[B, B, B, A, DONE], MILLION),
     ]
+}
+
+/// So many equal events side by side, and as many records that close wrongly.
+fn orders(n: usize) -> (Drawing, Vec<u16>) {
+    (tower(n, &event(A), parallel), [vec![A; n], vec![FAILED]].concat())
+}
+
+fn count(flow: &Drawing, records: &[u16]) -> u32 {
+    effort_allowed(&flow.table(), records, u32::MAX).entered
+}
+
+/// Searches in which the same states come again, with allowances on both sides of what is needed and of powers of two; and record lists that
+/// differ in one slip, one after the other.
+fn equal_parts() -> Vec<Case> {
+    let a_times = |n: usize, closing: u16| [vec![A; n], vec![closing]].concat();
+    let side_by_side = |n: usize| tower(n, &event(A), parallel);
+    let a_b = pair(event(A), event(B));
+    let one_or_two = choice(event(A), seq(event(A), event(A)));
+    let again = handler(seq(side_by_side(5), throw()), side_by_side(5));
+    let late = choice(seq(side_by_side(7), throw()), side_by_side(7));
+    let undone = block(seq(tower(4, &a_b, parallel), throww()));
+    let two_kinds = parallel(tower(6, &event(A), parallel), tower(6, &event(B), parallel));
+    let twice = parallel(tower(3, &choice(a_b.clone(), a_b.clone()), parallel), yieldd());
+    let flows = [
+        orders(8),
+        seven(),
+        lines(),
+        (again, a_times(10, FAILED)),
+        (late, a_times(7, DONE)),
+        (tower(12, &choice(event(A), event(A)), seq), a_times(12, FAILED)),
+        (tower(9, &one_or_two, seq), a_times(13, FAILED)),
+        (undone, [vec![A; 4], vec![B; 3], vec![C, DONE]].concat()),
+        (pair(side_by_side(5), side_by_side(5)), [a_times(5, DONE), a_times(5, FAILED)].concat()),
+        (twice, [a_times(3, WITHDRAWN), vec![B, B, B, FAILED]].concat()),
+        (two_kinds, [[A, B].repeat(6), vec![FAILED]].concat()),
+        (withdrawing(2, 10), [a_times(2, WITHDRAWN), vec![B, FAILED]].concat()),
+    ];
+    let mut all = vec![];
+    for (flow, records) in &flows {
+        let count = count(flow, records);
+        for allowance in [31, 32, 33, 64, 65, count / 2, count - 1, count, count + 1] {
+            all.push(judge(flow, records, allowance));
+        }
+    }
+    for later in [1, 2, 4, 8, 16] {
+        // The same term comes after so many records more, which leaves fewer for what follows.
+        let first = choice(event(A), tower(1 + later, &event(A), seq));
+        let (flow, records) = (seq(first, tower(4, &one_or_two, seq)), a_times(later + 6, FAILED));
+        let count = count(&flow, &records);
+        all.extend([count - 1, count].map(|allowance| judge(&flow, &records, allowance)));
+    }
+    let (flow, records) = lines();
+    for at in 8..records.len() - 1 {
+        let mut records = records.clone();
+        records[at] = C;
+        all.push(judge(&flow, &records, MILLION));
+    }
+    let (flow, records) = orders(10);
+    all.extend([9_864_100, 9_864_101].map(|allowance| judge(&flow, &records, allowance)));
+    all
+}
+
+/// Searches of thousands of millions of states of which some thousand differ: in no stream, because a judge that goes through equal states
+/// again would take hours.
+pub fn long() -> Vec<Case> {
+    let line = seq(seq(event(A), event(B)), event(C));
+    let rounds = [vec![A; 6], vec![B; 6], vec![C; 6], vec![FAILED]].concat();
+    let mut all = vec![];
+    for (flow, records) in [orders(12), (tower(6, &line, parallel), rounds)] {
+        let count = count(&flow, &records);
+        all.extend([1 << 31, count - 1, count, u32::MAX].map(|allowance| judge(&flow, &records, allowance)));
+    }
+    for n in [13, 14, 16] {
+        let (flow, records) = orders(n);
+        all.extend([u32::MAX - 1, u32::MAX].map(|allowance| judge(&flow, &records, allowance)));
+    }
+    all
 }
 
 /// The worked file, every cut of it, and every byte of it exchanged.

@@ -85,7 +85,7 @@ pub fn around_the_count(rng: &mut Rng, patience: u32, nodes: Vec<u16>, records: 
 }
 
 /// Mostly the length wanted, one less or one more; also none, half or all that `replay` has.
-fn near(rng: &mut Rng, wanted: usize) -> usize {
+pub fn near(rng: &mut Rng, wanted: usize) -> usize {
     let length = match rng.below(40) {
         0 | 1 => wanted - 1,
         2 => wanted / 2,

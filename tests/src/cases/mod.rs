@@ -3,7 +3,7 @@
 //! - `fixed`: the same two thousand in every stream: hand cases, limits, every kind of node, every cut of the
 //!   worked file.
 //! - `judging`: flows and records for the judge; `undoing`: small flows that are all about compensations;
-//!   `wide`: families with many runs or many compensations.
+//!   `wide`: families with many runs or many compensations; `repeating`: flows of equal parts.
 //! - `spoiling`: one damage for each refusal number; `filing`: flow files, whole, cut and damaged.
 //! - `malformed`: what is no case at all.
 
@@ -11,6 +11,7 @@ pub mod filing;
 pub mod fixed;
 pub mod judging;
 pub mod malformed;
+pub mod repeating;
 pub mod spoiling;
 pub mod undoing;
 pub mod wide;
@@ -22,7 +23,7 @@ use crate::reader::program_within;
 use crate::refusals::node_table;
 use crate::rng::Rng;
 use crate::term::{DONE, FAILED, WITHDRAWN};
-use std::collections::BTreeMap;
+use std::collections::{BTreeMap, VecDeque};
 use std::fmt::Write;
 
 /// The most that `replay` takes.
@@ -42,6 +43,14 @@ pub struct Made {
     pub family: &'static str,
     pub case: Case,
     pub answer: Answer,
+}
+
+impl Made {
+    /// None where more states than `patience` would have to be entered to know the answer.
+    pub fn within(patience: u32, family: &'static str, case: Case) -> Option<Made> {
+        let answer = case.answer(patience)?;
+        Some(Made { family, case, answer })
+    }
 }
 
 impl Case {
@@ -168,31 +177,39 @@ fn show_file(file: &[u8]) -> String {
 pub struct Stream {
     rng: Rng,
     fixed: std::vec::IntoIter<(&'static str, Case)>,
+    /// Random cases that are to follow one another.
+    waiting: VecDeque<Made>,
 }
 
 impl Stream {
     pub fn new(seed: u64) -> Stream {
-        Stream { rng: Rng::new(seed), fixed: fixed::cases().into_iter() }
+        Stream { rng: Rng::new(seed), fixed: fixed::cases().into_iter(), waiting: VecDeque::new() }
     }
 
-    /// A random case of a random family.
-    fn random(&mut self) -> (&'static str, Case) {
+    /// A random case of a random family, or some that belong together; none if it asks for too many states.
+    fn random(&mut self) -> VecDeque<Made> {
         let rng = &mut self.rng;
-        match rng.below(100) {
-            0..=24 => ("judge", judging::case(rng)),
-            25..=44 => ("judge, undoing", undoing::case(rng)),
-            45..=54 => ("judge, wide flow", wide::case(rng)),
+        let (family, case) = match rng.below(100) {
+            0..=21 => ("judge", judging::case(rng)),
+            22..=39 => ("judge, undoing", undoing::case(rng)),
+            40..=46 => ("judge, wide flow", wide::case(rng)),
+            47..=54 => {
+                let made = |case| Made::within(u32::MAX, "judge, equal parts", case);
+                return repeating::cases(rng).into_iter().filter_map(made).collect();
+            }
             55..=68 => ("judge, damaged", spoiling::judge_case(rng)),
             69..=71 => ("judge, at the limits", judging::case_at_limits(rng)),
             72..=79 => ("file", filing::case(rng)),
             80..=86 => ("file, cut", filing::cut_case(rng)),
             87..=98 => ("file, damaged", filing::damaged_case(rng)),
             _ => ("file, at the limits", filing::case_at_limits(rng)),
-        }
+        };
+        Made::within(PATIENCE, family, case).into_iter().collect()
     }
 }
 
-/// A random case that asks for more states than this is left out; the fixed ones may ask for any number.
+/// A random case that asks for more states than this is left out, unless its family sees to that itself; the fixed ones may ask for any
+/// number.
 const PATIENCE: u32 = 100_000;
 
 impl Iterator for Stream {
@@ -200,15 +217,12 @@ impl Iterator for Stream {
 
     fn next(&mut self) -> Option<Made> {
         if let Some((family, case)) = self.fixed.next() {
-            let answer = case.answer(u32::MAX)?;
-            return Some(Made { family, case, answer });
+            return Made::within(u32::MAX, family, case);
         }
-        loop {
-            let (family, case) = self.random();
-            if let Some(answer) = case.answer(PATIENCE) {
-                return Some(Made { family, case, answer });
-            }
+        while self.waiting.is_empty() {
+            self.waiting = self.random();
         }
+        self.waiting.pop_front()
     }
 }
 

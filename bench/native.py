@@ -1,0 +1,58 @@
+#!/usr/bin/env python3
+"""Compiles the judge and the reader as plain Rust for this machine, over `native.rs`.
+
+Rattle's programs are compiled for x86-64 and are emulated elsewhere, where their time says nothing. Their code is nearly Rust: what is
+taken out here is contracts and ghost imports, and what is added is that values are copied. So the code that is measured is the code
+that is proved, but for its compiler: nothing is proved of what comes out, and nothing but measuring is done with it.
+usage: native.py CHECKOUT PROGRAM
+  CHECKOUT  a folder with crates.txt and crates/, this one's or that of an earlier commit
+  PROGRAM   the file to write
+"""
+import pathlib, re, subprocess, sys, tempfile
+
+HERE = pathlib.Path(__file__).resolve().parent
+
+
+def crates(checkout):
+    """The libraries that build on nothing of the kit, lowest first: the judge, the reader and all below them."""
+    taken = []
+    for line in (checkout / "crates.txt").read_text().splitlines():
+        name, colon, below = line.partition(":")
+        library = checkout / "crates" / name / "src" / "lib.rt"
+        if colon and library.is_file() and all(lower in taken for lower in below.split()):
+            taken.append(name)
+    return taken
+
+
+def plain(text):
+    """Without ghost imports, `requires` and `ensures`."""
+    kept, open_braces = [], 0
+    for line in text.splitlines():
+        if open_braces or re.match(r"\s*(requires|ensures) .*{", line):
+            open_braces += line.count("{") - line.count("}")
+        elif not re.match(r"\s*ghost use\b", line):
+            kept.append(line)
+    return "\n".join(kept) + "\n"
+
+
+def module(text, names):
+    """As a module of one Rust crate, in which the other crates are modules too."""
+    text = re.sub(rf"(?<![\w:])({'|'.join(names)})::(?=\w)", r"crate::\1::", plain(text))
+    return re.sub(r"^((?:pub )?(?:struct|enum) )", r"#[derive(Clone, Copy)]\n\1", text, flags=re.M)
+
+
+def build(checkout, program):
+    names = crates(checkout)
+    with tempfile.TemporaryDirectory() as folder:
+        folder = pathlib.Path(folder)
+        for name in names:
+            text = (checkout / "crates" / name / "src" / "lib.rt").read_text()
+            (folder / f"{name}.rs").write_text(module(text, names))
+        (folder / "main.rs").write_text((HERE / "native.rs").read_text() + "".join(f"mod {name};\n" for name in names))
+        subprocess.run(["rustc", "-C", "opt-level=3", "--edition", "2021", "-A", "warnings", folder / "main.rs", "-o", program], check=True)
+
+
+if __name__ == "__main__":
+    if len(sys.argv) != 3:
+        sys.exit(__doc__[__doc__.index("usage") :].rstrip())
+    build(pathlib.Path(sys.argv[1]).resolve(), pathlib.Path(sys.argv[2]).resolve())
