@@ -4,6 +4,8 @@ pub mod State
 pub mod Stored
 pub mod LiveParts
 pub mod Roles
+pub mod Scenes
+pub mod Hands
 pub mod Contracts
 -- Theorems.
 pub mod Rests
@@ -12,3 +14,4 @@ pub mod NotedLaws
 pub mod ChildLaws
 pub mod DrawnLaws
 pub mod RedrawLaws
+pub mod HandsLaws

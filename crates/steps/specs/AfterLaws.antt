@@ -16,7 +16,7 @@ use Rattle.states.specs.declared.Standing.the-variants as standing
 use Rattle.states.specs.declared.Course.{Course}
 use Rattle.states.specs.declared.Course.the-variants as course
 use Rattle.states.specs.Standings.{as-drawn, event-taken, moved-on, first-taken, second-taken, compensating, left-second, holding, left-first, only, drawn-two, stand-drawn, undoing-two, stand-undoing, stand, course-two, course-of}
-use Rattle.steps.specs.Turns.{gone}
+use Rattle.states.specs.Hands.{gone}
 
 module _ (s : Sense) (n : Node) where
   abbrev pub After : Standing → Type 0

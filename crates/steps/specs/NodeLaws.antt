@@ -19,7 +19,8 @@ use Rattle.states.specs.StateLaws.{std-part, run-part, std-stored, run-stored}
 use Rattle.states.specs.Roles.{get, nexts, many, ok}
 use Rattle.states.specs.Contracts.{Scene, scene, part-at, stored-at, noted-at, Kept, Sets, Ready}
 use Rattle.states.specs.ChildLaws.{lower-spot, same-room, kept-set, kept-part, kid-lower, kept-kid, own-kept, same-part, same-stored, mode-after, kept-up, beside-part, beside-stored}
-use Rattle.steps.specs.Turns.{Move, move, Turned, Reached, Stance, stance-of, stance-term, stance-right}
+use Rattle.states.specs.Hands.{Move, move, Stance, stance-of, hands-by, hands}
+use Rattle.steps.specs.Turns.{Turned, Reached, stance-term, stance-right}
 
 -- A node by its role ---------------------------------------------------------------------------------------------------------
 
@@ -62,14 +63,15 @@ module _ {s : Scene} {r : Role} {c : List ℕ} {i k : ℕ} (h : Ready s r c i k)
         → T (ok q (stored (s .ns) (s .a) (modes t′) (counts c′) g)) → l < many q (s .a) (part (s .ns) (modes t′) g)
         → ((at : ℕ → Part) → ((j : ℕ) → ((n : ℕ) → Under (shape (s .ns)) g n → Under (shape (s .ns)) j n → ⊥) → at j ≡ part (s .ns) (modes t′) j)
         → At (nexts q (get q (part (s .ns) (modes t′) g)) (s .a)) l (get q (at g)) → At (nexts r (stance-term r x (part-at s)) (s .a)) k (stance-term r x′ at))
-        → Turned s c′ (move r i k) t′ (move q g l)
-    handed e′ w long good room goes = record {
+        → hands-by s i k r x t′ (move q g l) → Turned s c′ (move r i k) t′ (move q g l)
+    handed {l = l} e′ w long good room goes way = record {
       lower = kid-lower (s .ns) tree-of kid;
       ready = record { spot = lower-spot (same-room (h .spot) long) (kid-lower (s .ns) tree-of kid); right = good; room = room };
       back = λ t″ z. record {
         goes = step-goes t″ (ap (stance-of r (node (s .ns) i)) (own-kept (s .ns) tree-of kid (z .kept)) ∙ e′)
             (goes (part (s .ns) (modes t″)) (λ j free. kept-part (s .ns) tree-of g free (z .kept)) (z .goes));
         kept = λ j n. kept-kid (s .ns) tree-of kid (z .kept) j n ∙ w j n;
+        makes = hands (subst (λ y. hands-by s i k r y t′ (move q g l)) (sym e) way) (z .makes);
       };
     }
 
@@ -78,26 +80,26 @@ module _ {s : Scene} {r : Role} {c : List ℕ} {i k : ℕ} (h : Ready s r c i k)
         → T (ok q (stored-at s c g)) → l < many q (s .a) (part-at s g)
         → ((at : ℕ → Part) → ((j : ℕ) → Kid (shape (s .ns)) i j → ((n : ℕ) → Under (shape (s .ns)) g n → Under (shape (s .ns)) j n → ⊥) → at j ≡ part-at s j)
         → At (nexts q (get q (part-at s g)) (s .a)) l (get q (at g)) → At (nexts r (stance-term r x (part-at s)) (s .a)) k (stance-term r x′ at))
-        → Turned s c (move r i k) t′ (move q g l)
-    handed-by {m} {x′} {l} w e′ good room goes =
+        → hands-by s i k r x t′ (move q g l) → Turned s c (move r i k) t′ (move q g l)
+    handed-by {m} {x′} {l} w e′ good room goes way =
         let same : part (s .ns) (modes t′) g ≡ part-at s g = same-part (s .ns) tree-of kid w in
         handed (ap (stance-of r (node (s .ns) i)) (w .here) ∙ e′) (kept-set (s .ns) w) (w .long)
         (subst (λ z. T (ok q z)) (sym (same-stored (s .ns) tree-of kid w (s .a) c)) good)
         (subst (λ z. l < many q (s .a) z) (sym same) room)
-        (λ at beside u. goes at (λ j other free. beside j free ∙ same-part (s .ns) tree-of other w) (subst (λ z. At (nexts q (get q z) (s .a)) l (get q (at g))) same u))
+        (λ at beside u. goes at (λ j other free. beside j free ∙ same-part (s .ns) tree-of other w) (subst (λ z. At (nexts q (get q z) (s .a)) l (get q (at g))) same u)) way
 
     -- it is set, and something under another child d changes
     module _ {d : ℕ} (other : Kid (shape (s .ns)) i d) (free : (n : ℕ) → Under (shape (s .ns)) d n → Under (shape (s .ns)) g n → ⊥) where
       pub handed-past : {m : ℕ} {t₁ : List ℕ} {x′ : Stance r} {l : ℕ} → Sets (s .t) i m t₁ → Kept (s .ns) d (modes t₁) (modes t′) → length t′ ≡ length t₁ → stance-of r (node (s .ns) i) m ≡ x′
           → T (ok q (stored-at s c g)) → l < many q (s .a) (part-at s g)
           → ((at : ℕ → Part) → at d ≡ part (s .ns) (modes t′) d → At (nexts q (get q (part-at s g)) (s .a)) l (get q (at g)) → At (nexts r (stance-term r x (part-at s)) (s .a)) k (stance-term r x′ at))
-          → Turned s c (move r i k) t′ (move q g l)
-      handed-past {l = l} w keep long e′ good room goes =
+          → hands-by s i k r x t′ (move q g l) → Turned s c (move r i k) t′ (move q g l)
+      handed-past {l = l} w keep long e′ good room goes way =
           let same : part (s .ns) (modes t′) g ≡ part-at s g = beside-part (s .ns) tree-of other w t′ keep kid free in
           handed (ap (stance-of r (node (s .ns) i)) (mode-after (s .ns) tree-of other w t′ keep) ∙ e′) (kept-up (s .ns) tree-of other w t′ keep) (long ∙ w .long)
           (subst (λ z. T (ok q z)) (sym (beside-stored (s .ns) tree-of other w t′ keep kid free (s .a) c)) good)
           (subst (λ z. l < many q (s .a) z) (sym same) room)
-          (λ at beside u. goes at (beside d (λ n v z. free n z v)) (subst (λ z. At (nexts q (get q z) (s .a)) l (get q (at g))) same u))
+          (λ at beside u. goes at (beside d (λ n v z. free n z v)) (subst (λ z. At (nexts q (get q z) (s .a)) l (get q (at g))) same u)) way
 
 -- A step comes down ----------------------------------------------------------------------------------------------------------
 

@@ -1,7 +1,7 @@
 -- How the step of a node is handed down, by what is left of the node: to the first or the second of two live parts, to the one part
 -- that is left, into a block or out of it. What has no live part makes its step itself, or has none. Assumes nothing.
 use Prim.Native.Nat.{ℕ, _<_, _≤_, _-_}
-use mathlib.Core.Path.{_≡_, refl, sym, _∙_, ap, subst}
+use mathlib.Core.Path.{_≡_, refl, sym, _∙_, ap, subst, subst₂}
 use mathlib.Core.Bool.{true, false, true≢false, _&&_}
 use mathlib.Core.List.{List}
 use native.Mathlib.Omega.{arith}
@@ -45,7 +45,8 @@ use Rattle.states.specs.Roles.{get, nexts, many, ok}
 use Rattle.states.specs.Contracts.{Spot, Kept, Sets, Redrawn, Scene, scene, part-at, stored-at, noted-at, weight-of, ask, Chosen, Counted, Ready, Stepped}
 use Rattle.states.specs.ChildLaws.{set-sets, sets-none, lower-spot, same-room, kept-set, kid-lower, same-part, spot-down, mode-after, kept-up}
 use Rattle.steps.specs.declared.Turn.{Turn}
-use Rattle.steps.specs.Turns.{move, Turned, gone, stand-in, course-in, first-mode, second-mode, halves, Forked, in-first, in-second, Passed, Stance, stance-of, stance-term}
+use Rattle.states.specs.Hands.{Move, move, Stance, stance-of, stand-in, course-in, gone, first-mode, second-mode, Passed, to-first, to-second, Marked, goes-on, hands-by, takes}
+use Rattle.steps.specs.Turns.{Turned, halves, Forked, in-first, in-second, stance-term}
 use Rattle.steps.specs.AfterLaws.{After, CAfter, stand-after, course-after}
 use Rattle.steps.specs.NodeLaws.{tree-of, step-room, parts-right, step-goes, handed, handed-by, handed-past}
 
@@ -71,6 +72,16 @@ module _ {s : Scene} {r : Role} {c : List ℕ} {i k : ℕ} (h : Ready s r c i k)
   pub first-count : counts c (p .first) ≡ many r (s .a) (part-at s (p .first))
   first-count = own-count (s .ns) (s .a) (modes (s .t)) (counts c) (p .first) r first-noted
 
+  -- a place is before the first's steps, or after them
+  truly-below : k < counts c (p .first) → k < many r (s .a) (part-at s (p .first))
+  truly-below l = subst (λ z. k < z) first-count l
+
+  truly-past : counts c (p .first) ≤ k → many r (s .a) (part-at s (p .first)) ≤ k
+  truly-past g = subst (λ z. z ≤ k) first-count g
+
+  true-place : {q : Role} → move q (p .second) (k - counts c (p .first)) ≡ move q (p .second) (k - many r (s .a) (part-at s (p .first)))
+  true-place {q} = ap (λ z. move q (p .second) (k - z)) first-count
+
   first-right : T (ok r (stored-at s c (p .first)))
   first-right = noted-stored (s .ns) (s .a) (modes (s .t)) (counts c) (p .first) r first-noted
 
@@ -78,24 +89,24 @@ module _ {s : Scene} {r : Role} {c : List ℕ} {i k : ℕ} (h : Ready s r c i k)
   second-right = noted-stored (s .ns) (s .a) (modes (s .t)) (counts c) (p .second) r second-noted
 
   module _ {m : ℕ} {t′ : List ℕ} (w : Sets (s .t) i m t′) {x′ : Stance r} (e′ : stance-of r (node (s .ns) i) m ≡ x′) where
-    to-first : k < counts c (p .first)
+    at-first : k < counts c (p .first)
         → ((at : ℕ → Part) → at (p .second) ≡ part-at s (p .second) → At (nexts r (get r (part-at s (p .first))) (s .a)) k (get r (at (p .first)))
         → At (nexts r (stance-term r x (part-at s)) (s .a)) k (stance-term r x′ at))
-        → Turned s c (move r i k) t′ (move r (p .first) k)
-    to-first l goes = handed-by h e r (tw .one) w e′ first-right (subst (λ z. k < z) first-count l) (λ at same u. goes at (same (p .second) (tw .other) (tw .free)) u)
+        → hands-by s i k r x t′ (move r (p .first) k) → Turned s c (move r i k) t′ (move r (p .first) k)
+    at-first l goes way = handed-by h e r (tw .one) w e′ first-right (subst (λ z. k < z) first-count l) (λ at same u. goes at (same (p .second) (tw .other) (tw .free)) u) way
 
-    to-second : k - counts c (p .first) < many r (s .a) (part-at s (p .second))
+    at-second : k - counts c (p .first) < many r (s .a) (part-at s (p .second))
         → ((at : ℕ → Part) → at (p .first) ≡ part-at s (p .first) → At (nexts r (get r (part-at s (p .second))) (s .a)) (k - counts c (p .first)) (get r (at (p .second)))
         → At (nexts r (stance-term r x (part-at s)) (s .a)) k (stance-term r x′ at))
-        → Turned s c (move r i k) t′ (move r (p .second) (k - counts c (p .first)))
-    to-second room goes = handed-by h e r (tw .other) w e′ second-right room (λ at same u. goes at (same (p .first) (tw .one) (λ j y z. tw .free j z y)) u)
+        → hands-by s i k r x t′ (move r (p .second) (k - counts c (p .first))) → Turned s c (move r i k) t′ (move r (p .second) (k - counts c (p .first)))
+    at-second room goes way = handed-by h e r (tw .other) w e′ second-right room (λ at same u. goes at (same (p .first) (tw .one) (λ j y z. tw .free j z y)) u) way
 
     -- something under the first changes, which is left out
     past-first : {t₂ : List ℕ} → Kept (s .ns) (p .first) (modes t′) (modes t₂) → length t₂ ≡ length t′ → k - counts c (p .first) < many r (s .a) (part-at s (p .second))
         → ((at : ℕ → Part) → At (nexts r (get r (part-at s (p .second))) (s .a)) (k - counts c (p .first)) (get r (at (p .second)))
         → At (nexts r (stance-term r x (part-at s)) (s .a)) k (stance-term r x′ at))
-        → Turned s c (move r i k) t₂ (move r (p .second) (k - counts c (p .first)))
-    past-first keep long room goes = handed-past h e r (tw .other) (tw .one) (tw .free) w keep long e′ second-right room (λ at d u. goes at u)
+        → hands-by s i k r x t₂ (move r (p .second) (k - counts c (p .first))) → Turned s c (move r i k) t₂ (move r (p .second) (k - counts c (p .first)))
+    past-first keep long room goes way = handed-past h e r (tw .other) (tw .one) (tw .free) w keep long e′ second-right room (λ at d u. goes at u) way
 
 -- what is left of two parts after a step of the first, and after one of the second
 abbrev first-standing : Operator → Two → Sense → Standing
@@ -178,17 +189,19 @@ module _ {s : Scene} {v : Sense} {c : List ℕ} {i k : ℕ} (h : Ready s (Plain 
   unfolding std-of std-right
   both-first-turned {o = o} e (in-first l w) b =
       let tw = both-twins e in
-      to-first h e tw (parts-right h e) w (first-stands v (node (s .ns) i) (modes (s .t) i) o e) l (λ at d u. both-first (s .a) v p (part-at s) at k o d u)
+      at-first h e tw (parts-right h e) w (first-stands v (node (s .ns) i) (modes (s .t) i) o e) l (λ at d u. both-first (s .a) v p (part-at s) at k o d u)
+      (to-first (truly-below h e tw (parts-right h e) l) (record { sets = w; is = refl }))
   both-first-turned e (in-second g w) b = absurd (true≢false b)
 
   module _ {o : Operator} (e : stand-in s v i ≡ standing.Both o p) (g : counts c (p .first) ≤ k) {t′ : List ℕ} (w : Sets (s .t) i (second-mode o (gone v) (modes (s .t) i)) t′) where
-    beside-turned : Turned s c (move (Plain v) i k) t′ (move (Plain v) (p .second) (k - counts c (p .first)))
+    beside-turned : Passed (s .ns) o (p .first) t′ t′ → Turned s c (move (Plain v) i k) t′ (move (Plain v) (p .second) (k - counts c (p .first)))
     unfolding std-of std-right
-    beside-turned =
+    beside-turned z =
         let tw = both-twins e in
         let n = first-count h e tw (parts-right h e) in
-        to-second h e tw (parts-right h e) w (second-stands v (node (s .ns) i) (modes (s .t) i) o e) (both-room (s .a) v p (part-at s) (part-at s) k n g o (step-room h e))
+        at-second h e tw (parts-right h e) w (second-stands v (node (s .ns) i) (modes (s .t) i) o e) (both-room (s .a) v p (part-at s) (part-at s) k n g o (step-room h e))
         (λ at d u. both-second (s .a) v p (part-at s) at k n g o (step-room h e) d u)
+        (to-second (truly-past h e tw (parts-right h e) g) (record { between = t′; sets = w; passed = z; is = true-place h e tw (parts-right h e) }))
 
   -- the second makes it, and the first of a sequence is passed
   pub both-second-turned : {t₁ t′ : List ℕ} {y : Turn} {o : Operator} → stand-in s v i ≡ standing.Both o p → Forked c (s .t) k (halves i o p (gone v)) t₁ y → y .second ≡ true → Passed (s .ns) o (p .first) t₁ t′
@@ -200,14 +213,16 @@ module _ {s : Scene} {v : Sense} {c : List ℕ} {i k : ℕ} (h : Ready s (Plain 
       past-first h e (both-twins e) (parts-right h e) w (second-stands v (node (s .ns) i) (modes (s .t) i) Sequence e) (z .kept) (z .long)
       (both-room (s .a) v p (part-at s) (part-at s) k n g Sequence (step-room h e))
       (λ at u. at-seq-second (s .a) (part-at s (p .first) .std v) (part-at s (p .second) .std v) n (step-room h e) g u)
-  both-second-turned {y = y} {o = Choice} e (in-second g w) b z = subst (λ t. Turned s c (move (Plain v) i k) t (move (Plain v) (y .node) (y .at))) (sym z) (beside-turned e g w)
-  both-second-turned {y = y} {o = Parallel} e (in-second g w) b z = subst (λ t. Turned s c (move (Plain v) i k) t (move (Plain v) (y .node) (y .at))) (sym z) (beside-turned e g w)
+      (to-second (truly-past h e (both-twins e) (parts-right h e) g) (record { between = _; sets = w; passed = z; is = true-place h e (both-twins e) (parts-right h e) }))
+  both-second-turned {y = y} {o = Choice} e (in-second g w) b z = subst (λ t. Turned s c (move (Plain v) i k) t (move (Plain v) (y .node) (y .at))) (sym z) (beside-turned e g w refl)
+  both-second-turned {y = y} {o = Parallel} e (in-second g w) b z = subst (λ t. Turned s c (move (Plain v) i k) t (move (Plain v) (y .node) (y .at))) (sym z) (beside-turned e g w refl)
 
   -- a handler goes on as a sequence does
   pub handler-first-turned : {t′ : List ℕ} {y : Turn} → stand-in s v i ≡ standing.Handler p → Forked c (s .t) k (halves i Sequence p moved-on) t′ y → y .second ≡ false
       → Turned s c (move (Plain v) i k) t′ (move (Plain v) (y .node) (y .at))
   unfolding std-of std-right first-mode
-  handler-first-turned e (in-first l w) b = to-first h e (handler-twins e) (parts-right h e) w e l (λ at d u. hnd-first (s .a) v p (part-at s) at k d u)
+  handler-first-turned e (in-first l w) b = at-first h e (handler-twins e) (parts-right h e) w e l (λ at d u. hnd-first (s .a) v p (part-at s) at k d u)
+      (to-first (truly-below h e (handler-twins e) (parts-right h e) l) (record { sets = w; is = refl }))
   handler-first-turned e (in-second g w) b = absurd (true≢false b)
 
   pub handler-second-turned : {t₁ t′ : List ℕ} {y : Turn} → stand-in s v i ≡ standing.Handler p → Forked c (s .t) k (halves i Sequence p moved-on) t₁ y → y .second ≡ true → Redrawn (s .ns) (p .first) t₁ t′
@@ -219,6 +234,7 @@ module _ {s : Scene} {v : Sense} {c : List ℕ} {i k : ℕ} (h : Ready s (Plain 
       past-first h e (handler-twins e) (parts-right h e) w (subst (After v (node (s .ns) i)) e (stand-after v (node (s .ns) i) (modes (s .t) i))) (z .kept) (z .long)
       (hnd-room (s .a) (part-at s (p .first) .std v) (part-at s (p .second) .std v) n (step-room h e) g)
       (λ at u. at-hnd-second (s .a) (part-at s (p .first) .std v) (part-at s (p .second) .std v) n (step-room h e) g u)
+      (to-second (truly-past h e (handler-twins e) (parts-right h e) g) (record { between = _; sets = w; passed = z; is = true-place h e (handler-twins e) (parts-right h e) }))
 
 -- Compensable parts ----------------------------------------------------------------------------------------------------------
 
@@ -293,7 +309,8 @@ module _ {s : Scene} {c : List ℕ} {i k : ℕ} (h : Ready s Running c i k) {p :
   pub into-first : {t′ : List ℕ} {y : Turn} {o : Operator} → course-in s i ≡ course.Both o p → Forked c (s .t) k (halves i o p holding) t′ y → y .second ≡ false
       → Turned s c (move Running i k) t′ (move Running (y .node) (y .at))
   unfolding run-of
-  into-first {o = o} e (in-first l w) b = to-first h e (run-twins e) (both-right e) w (first-runs (node (s .ns) i) (modes (s .t) i) o e) l (λ at d u. run-first (s .a) p (part-at s) at k o d u)
+  into-first {o = o} e (in-first l w) b = at-first h e (run-twins e) (both-right e) w (first-runs (node (s .ns) i) (modes (s .t) i) o e) l (λ at d u. run-first (s .a) p (part-at s) at k o d u)
+      (to-first (truly-below h e (run-twins e) (both-right e) l) (record { sets = w; is = refl }))
   into-first e (in-second g w) b = absurd (true≢false b)
 
   pub apart-turned : {t′ : List ℕ} {y : Turn} {o : Operator} → Apart o → course-in s i ≡ course.Both o p → Forked c (s .t) k (halves i o p holding) t′ y
@@ -302,8 +319,14 @@ module _ {s : Scene} {c : List ℕ} {i k : ℕ} (h : Ready s Running c i k) {p :
   apart-turned z e (in-first l w) = into-first e (in-first l w) refl
   apart-turned {o = o} z e (in-second g w) =
       let n = first-count h e (run-twins e) (both-right e) in
-      to-second h e (run-twins e) (both-right e) w (second-runs (node (s .ns) i) (modes (s .t) i) o e) (run-room (s .a) p (part-at s) (part-at s) k n g o z (step-room h e))
+      at-second h e (run-twins e) (both-right e) w (second-runs (node (s .ns) i) (modes (s .t) i) o e) (run-room (s .a) p (part-at s) (part-at s) k n g o z (step-room h e))
       (λ at d u. run-second (s .a) p (part-at s) at k n g o z (step-room h e) d u)
+      (to-second (truly-past h e (run-twins e) (both-right e) g) (apart-goes o z (record { sets = w; is = true-place h e (run-twins e) (both-right e) })))
+    where
+      apart-goes : (o : Operator) → Apart o → {t′ : List ℕ} {y : Move} → Marked s i (second-mode o holding (modes (s .t) i)) (move Running (p .second) (k - many Running (s .a) (part-at s (p .first)))) t′ y → goes-on s i k o p t′ y
+      apart-goes Sequence z m = absurd z
+      apart-goes Choice z m = m
+      apart-goes Parallel z m = m
 
   -- PP;QQ goes on: one of PP's compensations is held, and QQ makes a step
   module _ (e : course-in s i ≡ course.Both Sequence p) (g : counts c (p .first) ≤ k) {t₁ : List ℕ} (w : Sets (s .t) i holding t₁) where
@@ -334,6 +357,9 @@ module _ {s : Scene} {c : List ℕ} {i k : ℕ} (h : Ready s Running c i k) {p :
       on-found : Finds (weight (s .a) per-step) (comps pp done) (k - counts c (p .first)) (part (s .ns) (modes t₂) (p .first) .std Undoing) (y .rest)
       on-found = subst (λ z. Finds (weight (s .a) per-step) (comps (z .run) done) (k - counts c (p .first)) (part (s .ns) (modes t₂) (p .first) .std Undoing) (y .rest)) on-same (ch .sought .found)
 
+      on-chosen : Chosen (scene (s .ns) t₁ (s .a)) (p .first) (ask done (holdG (many Running (s .a) (part-at s (p .second)))) (k - many Running (s .a) (part-at s (p .first)))) t₂ y
+      on-chosen = subst₂ (λ a b. Chosen (scene (s .ns) t₁ (s .a)) (p .first) (ask done (holdG a) (k - b)) t₂ y) second-count (first-count h e (run-twins e) (both-right e)) ch
+
       on-turned : length t₂ ≡ length t₁ → Turned s c (move Running i k) t₂ (move Running (p .second) (y .rest))
       unfolding run-of
       on-turned long =
@@ -342,6 +368,7 @@ module _ {s : Scene} {c : List ℕ} {i k : ℕ} (h : Ready s Running c i k) {p :
           handed-past h e Running (tw .other) (tw .one) (tw .free) w (ch .kept) long (subst (CAfter (node (s .ns) i)) e (course-after (node (s .ns) i) (modes (s .t) i)))
           (second-right h e tw (both-right e)) (cseq-rest (s .a) pp qq n on-left g second-count on-found)
           (λ at d u. subst (λ z. At (csteps (cseq pp qq) (s .a)) k (held (at (p .second) .run) (z .std Undoing))) (sym d) (at-cseq-second (s .a) pp qq n on-left g second-count on-found u))
+          (to-second (truly-past h e tw (both-right e) g) (record { between = t₁; picked = y; sets = w; chosen = on-chosen; long = long; is = refl }))
 
   module _ (e : course-in s i ≡ course.Both Sequence p) where
     pub held-spot : {t₁ : List ℕ} {y : Turn} → Forked c (s .t) k (halves i Sequence p holding) t₁ y → y .second ≡ true → Spot (s .ns) t₁ (p .first)
@@ -369,7 +396,7 @@ module _ {s : Scene} {c : List ℕ} {i k : ℕ} (h : Ready s Running c i k) {p :
       let q = part-at s (p .second) .std Drawn in
       handed-by h e (Plain Drawn) (tw .one) (sets-none refl) e (parts-right h e) (pair-room (s .a) (part-at s (p .first) .std Drawn) q (step-room h e))
       (λ at same u. subst (λ z. At (csteps (pair (part-at s (p .first) .std Drawn) q) (s .a)) k (pair (at (p .first) .std Drawn) (z .std Drawn))) (sym (same (p .second) (tw .other) (tw .free)))
-      (at-pair (s .a) (part-at s (p .first) .std Drawn) q u))
+      (at-pair (s .a) (part-at s (p .first) .std Drawn) q u)) (record { sets = sets-none refl; is = refl })
 
   pub held-turned : course-in s i ≡ course.Held p → Turned s c (move Running i k) (s .t) (move Running (p .second) k)
   unfolding run-of run-right
@@ -378,7 +405,7 @@ module _ {s : Scene} {c : List ℕ} {i k : ℕ} (h : Ready s Running c i k) {p :
       let r = part-at s (p .first) .std Undoing in
       handed-by h e Running (tw .other) (sets-none refl) e (parts-right h e) (held-room (s .a) (part-at s (p .second) .run) r (step-room h e))
       (λ at same u. subst (λ z. At (csteps (held (part-at s (p .second) .run) r) (s .a)) k (held (at (p .second) .run) (z .std Undoing))) (sym (same (p .first) (tw .one) (λ j v z. tw .free j z v)))
-      (at-held (s .a) (part-at s (p .second) .run) r u))
+      (at-held (s .a) (part-at s (p .second) .run) r u)) (record { sets = sets-none refl; is = refl })
 
 -- One live part --------------------------------------------------------------------------------------------------------------
 
@@ -388,13 +415,13 @@ module _ {s : Scene} {c : List ℕ} {i k : ℕ} where
   unfolding std-of std-right
   only-turned {v} h {x} e =
       let kid = subst (Rests (s .ns) i) e (stand-rests (s .ns) i (tree-of h e) v (modes (s .t) i)) in
-      handed-by h e (Plain (x .sense)) kid (sets-none refl) e (parts-right h e) (step-room h e) (λ at same u. u)
+      handed-by h e (Plain (x .sense)) kid (sets-none refl) e (parts-right h e) (step-room h e) (λ at same u. u) (record { sets = sets-none refl; is = refl })
 
   pub as-turned : Ready s Running c i k → {d : ℕ} → course-in s i ≡ course.As d → Turned s c (move Running i k) (s .t) (move Running d k)
   unfolding run-of run-right
   as-turned h e =
       let kid = subst (CRests (s .ns) i) e (course-rests (s .ns) i (tree-of h e) (modes (s .t) i)) in
-      handed-by h e Running kid (sets-none refl) e (parts-right h e) (step-room h e) (λ at same u. u)
+      handed-by h e Running kid (sets-none refl) e (parts-right h e) (step-room h e) (λ at same u. u) (record { sets = sets-none refl; is = refl })
 
 -- Blocks ---------------------------------------------------------------------------------------------------------------------
 
@@ -433,6 +460,7 @@ module _ {s : Scene} {v : Sense} {c : List ℕ} {i k : ℕ} (h : Ready s (Plain 
   pub inside-turned : k < counts c d → Turned s c (move (Plain v) i k) (s .t) (move Running d k)
   unfolding std-of
   inside-turned l = handed-by h e Running block-kid (sets-none refl) e block-right (subst (λ z. k < z) block-count l) (λ at same u. at-blk-first (s .a) (part-at s d .run) u)
+      (to-first (subst (λ z. k < z) block-count l) (record { sets = sets-none refl; is = refl }))
 
   -- it fails inside, and a compensation is chosen
   module _ (g : counts c d ≤ k) {t₁ : List ℕ} (w : Sets (s .t) i compensating t₁) where
@@ -453,6 +481,9 @@ module _ {s : Scene} {v : Sense} {c : List ℕ} {i k : ℕ} (h : Ready s (Plain 
       out-found : Finds (weight (s .a) movesG) (comps (part-at s d .run) failed) (k - counts c d) (part (s .ns) (modes t₂) d .std Undoing) (y .rest)
       out-found = subst (λ z. Finds (weight (s .a) movesG) (comps (z .run) failed) (k - counts c d) (part (s .ns) (modes t₂) d .std Undoing) (y .rest)) out-same (ch .sought .found)
 
+      out-chosen : Chosen (scene (s .ns) t₁ (s .a)) d (ask failed movesG (k - many Running (s .a) (part-at s d))) t₂ y
+      out-chosen = subst (λ z. Chosen (scene (s .ns) t₁ (s .a)) d (ask failed movesG (k - z)) t₂ y) block-count ch
+
       pub chosen-spot : Spot (s .ns) t₂ d
       chosen-spot = same-room out-spot long
 
@@ -464,6 +495,7 @@ module _ {s : Scene} {v : Sense} {c : List ℕ} {i k : ℕ} (h : Ready s (Plain 
           (kept-up (s .ns) (tree-of h e) block-kid w t₂ (ch .kept)) (long ∙ w .long) (counted-right m)
           (blk-rest (s .a) (part-at s d .run) block-count out-left g out-found)
           (λ at beside u. at-blk-second (s .a) (part-at s d .run) block-count out-left g out-found u)
+          (to-second (subst (λ z. z ≤ k) block-count g) (record { between = t₁; picked = y; sets = w; chosen = out-chosen; long = long; is = refl }))
 
 -- Events, and parts without steps --------------------------------------------------------------------------------------------
 
@@ -487,6 +519,7 @@ module _ {s : Scene} {c : List ℕ} {i k : ℕ} where
       record {
         goes = step-goes h e t′ (ap (stand v (node (s .ns) i)) (w .here) ∙ subst (After v (node (s .ns) i)) e (stand-after v (node (s .ns) i) (modes (s .t) i))) (at-ev (leaf x) (s .a) (step-room h e));
         kept = kept-set (s .ns) w;
+        makes = takes refl e w;
       }
 
   pub no-step : {v : Sense} → Ready s (Plain v) c i k → {b : Simple} → stand-in s v i ≡ standing.Basic b → ⊥

@@ -19,7 +19,8 @@ ghost use Rattle.states.specs.declared.Sense.the-variants.{Drawn, Undoing};
 ghost use Rattle.states.specs.declared.Role.the-variants.{Plain, Running};
 ghost use Rattle.states.specs.State.{modes, counts};
 ghost use Rattle.states.specs.Contracts.{Spot, Sets, scene, weight-of, ask, Chosen, Ready, Stepped};
-ghost use Rattle.steps.specs.Turns.{move, Turned, stand-in, course-in, gone, first-mode, second-mode, halves, Forked, Passed};
+ghost use Rattle.states.specs.Hands.{move, stand-in, course-in, gone, first-mode, second-mode, Passed};
+ghost use Rattle.steps.specs.Turns.{Turned, halves, Forked};
 
 // Where a step goes on: a live part, the place among its steps, and whether it is the second of two.
 struct Turn {

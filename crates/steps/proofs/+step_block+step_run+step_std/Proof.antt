@@ -7,7 +7,8 @@ use mathlib.Core.Path.{refl, sym, _∙_}
 use Prim.Native.Nat.{ℕ, _<_, _+_, _*_}
 use Rattle.states.specs.declared.Role.the-variants.{Plain}
 use Rattle.states.specs.Contracts.{scene}
-use Rattle.steps.specs.Turns.{move, Reached}
+use Rattle.states.specs.Hands.{move}
+use Rattle.steps.specs.Turns.{Reached}
 use Rattle.steps.specs.NodeLaws.{reached-self, reached-on}
 use borrow.Author.Needs.{needs}
 use borrow.Fn.Kinds.{In}

@@ -1,7 +1,7 @@
 -- `steps::enter_first` meets its contract: only a choice has its mode set. Assumes nothing.
 use mathlib.Core.Path.{refl}
 use Rattle.states.specs.ChildLaws.{set-sets, sets-none}
-use Rattle.steps.specs.Turns.{first-mode}
+use Rattle.states.specs.Hands.{first-mode}
 use borrow.Author.Needs.{needs}
 use Rattle.steps.proofs.enter_first.Statement.{statement}
 use Rattle.steps.proofs.enter_first.Tie as tie

@@ -1,7 +1,7 @@
 -- `steps::enter_second` meets its contract: a parallel keeps its mode. Assumes nothing.
 use mathlib.Core.Path.{refl}
 use Rattle.states.specs.ChildLaws.{set-sets, sets-none}
-use Rattle.steps.specs.Turns.{second-mode}
+use Rattle.states.specs.Hands.{second-mode}
 use borrow.Author.Needs.{needs}
 use Rattle.steps.proofs.enter_second.Statement.{statement}
 use Rattle.steps.proofs.enter_second.Tie as tie
