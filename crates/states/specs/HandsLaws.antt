@@ -12,6 +12,7 @@ use Rattle.flow.specs.declared.Operator.{Operator}
 use Rattle.flow.specs.declared.Operator.the-variants.{Sequence, Choice, Parallel}
 use Rattle.flow.specs.Kinds.{node, shape}
 use Rattle.flow.specs.Trees.{Tree}
+use Rattle.tallies.specs.Places.{Finds, here, past}
 use Rattle.states.specs.declared.Standing.{Standing}
 use Rattle.states.specs.declared.Standing.the-variants as standing
 use Rattle.states.specs.declared.Course.{Course}
@@ -40,11 +41,17 @@ module _ (ns : List ℕ) (tree : Tree (shape ns)) (j : ℕ) (t : List ℕ) {t₁
   passed-once Choice x y = x ∙ sym y
   passed-once Parallel x y = x ∙ sym y
 
--- A choice has one content: what is asked of it here ---------------------------------------------------------------------------------
+-- A choice has one content: what is asked of it here, beside what it is known to be ----------------------------------------------------
 
 pub record ChosenOnce (ns : List ℕ) : Type 0 where
   pub same : {t t₁ t₂ : List ℕ} {a i : ℕ} {q : Ask} {p₁ p₂ : Picked} → Chosen (scene ns t a) i q t₁ p₁ → Chosen (scene ns t a) i q t₂ p₂ → (j : ℕ) → modes t₁ j ≡ modes t₂ j
-  pub rest : {t t₁ t₂ : List ℕ} {a i : ℕ} {q : Ask} {p₁ p₂ : Picked} → Chosen (scene ns t a) i q t₁ p₁ → Chosen (scene ns t a) i q t₂ p₂ → p₁ .rest ≡ p₂ .rest
+
+-- how far into a weight a number falls
+finds-once : {A : Type 0} {f : A → ℕ} {l : List A} {j j′ : ℕ} {x y : A} {r r′ : ℕ} → j ≡ j′ → Finds f l j x r → Finds f l j′ y r′ → r ≡ r′
+finds-once e (here h) (here h′) = e
+finds-once e (here h) (past u) = absurd (omega (arith, e, h))
+finds-once e (past u) (here h) = absurd (omega (arith, e, h))
+finds-once e (past u) (past v) = finds-once (omega (arith, e)) u v
 
 -- One turn ------------------------------------------------------------------------------------------------------------------------
 
@@ -69,7 +76,7 @@ module _ (s : Scene) (tree : Tree (shape (s .ns))) (once : ChosenOnce (s .ns)) {
   picks-once {j = j} {q = q} {r = r} {l = l} x y =
       let e = sets-once (x .sets) (y .sets) in
       let c = subst (λ u. Chosen (scene (s .ns) u (s .a)) j q t₁ (x .picked)) e (x .chosen) in
-      (ext-getD 0 t₁ t₂ (x .long ∙ ap length e ∙ sym (y .long)) (λ n h. once .same c (y .chosen) n), x .is ∙ ap (move r l) (once .rest c (y .chosen)) ∙ sym (y .is))
+      (ext-getD 0 t₁ t₂ (x .long ∙ ap length e ∙ sym (y .long)) (λ n h. once .same c (y .chosen) n), x .is ∙ ap (move r l) (finds-once refl (c .sought .found) (y .chosen .sought .found)) ∙ sym (y .is))
 
   module _ (i k : ℕ) where
     std-once : (v : Sense) (x : Standing) → hands-std s i k v x t₁ y₁ → hands-std s i k v x t₂ y₂ → Alike t₁ y₁ t₂ y₂
