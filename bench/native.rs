@@ -3,6 +3,7 @@
 // native [TIMES]: reads cases from standard input as `replay` does (tests/README.md says how they are written), judges each so many times,
 // once if nothing is said, and prints its line. Time is taken outside.
 use judge::Answer;
+use std::hint::black_box;
 use std::io::{self, Read, Write};
 
 // What the program allows and lends for a file.
@@ -69,7 +70,7 @@ impl<R: Read> Cases<R> {
             b'F' => {
                 let length = self.two()?;
                 let file = self.bytes(length as usize)?;
-                let answer = (0..self.times).map(|_| judge_file(&file)).last();
+                let answer = (0..self.times).map(|_| judge_file(black_box(&file))).last();
                 Some(text(&answer?))
             }
             b'J' => {
@@ -82,7 +83,8 @@ impl<R: Read> Cases<R> {
                 let numbers: Vec<u16> = numbers.chunks(2).map(|b| u16::from_le_bytes([b[0], b[1]])).collect();
                 let (nodes, records) = numbers.split_at(n);
                 let mut work = vec![FILLER; room];
-                let answer = (0..self.times).map(|_| judge::judge(nodes, records, &mut work, allowance)).last()?;
+                let judged = |_| judge::judge(black_box(nodes), black_box(records), &mut work, allowance);
+                let answer = (0..self.times).map(judged).last()?;
                 let note = if clean(&answer, nodes, records, &work) { "clean" } else { "dirty" };
                 Some(format!("{} {note}", text(&answer)))
             }
