@@ -35,9 +35,16 @@ def plain(text):
     return "\n".join(kept) + "\n"
 
 
+def unchecked(text):
+    """Without the checks of bounds that Rust would make: that every index is within is proved, and the proved program makes none."""
+    at = r"\b([a-z]\w*|[A-Z]+)\[((?:(?!\.\.)[^\[\];])+)\]"
+    text = re.sub(rf"^(\s*){at} = (.*);$", r"\1unsafe { *\2.get_unchecked_mut(\3) = \4; }", text, flags=re.M)
+    return re.sub(at, r"(unsafe { *\1.get_unchecked(\2) })", text)
+
+
 def module(text, names):
     """As a module of one Rust crate, in which the other crates are modules too."""
-    text = re.sub(rf"(?<![\w:])({'|'.join(names)})::(?=\w)", r"crate::\1::", plain(text))
+    text = re.sub(rf"(?<![\w:])({'|'.join(names)})::(?=\w)", r"crate::\1::", unchecked(plain(text)))
     return re.sub(r"^((?:pub )?(?:struct|enum) )", r"#[derive(Clone, Copy)]\n\1", text, flags=re.M)
 
 
