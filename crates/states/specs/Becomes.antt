@@ -40,11 +40,11 @@ abbrev pub known-of : ℕ → ℕ → Std → Picked
 known-of a r k = picked r (cap (moves a k)) (ends k done)
 
 -- of l;k and of k beside l, where l was chosen last
-abbrev pub before : Picked → Picked → Picked
-before l k = picked (l .rest) (cond (l .able) (cap (l .moves + k .moves)) (l .moves)) (l .able && k .able)
+abbrev pub seq-of : Picked → Picked → Picked
+seq-of l k = picked (l .rest) (cond (l .able) (cap (l .moves + k .moves)) (l .moves)) (l .able && k .able)
 
-abbrev pub beside : Picked → Picked → Picked
-beside k l = picked (l .rest) (cap (k .moves + l .moves)) (k .able && l .able)
+abbrev pub par-of : Picked → Picked → Picked
+par-of k l = picked (l .rest) (cap (k .moves + l .moves)) (k .able && l .able)
 
 -- What is asked of children -----------------------------------------------------------------------------------------------------------
 
@@ -88,32 +88,32 @@ module _ (s : Scene) where
 pub data Becomes (ns : List ℕ) (a : ℕ) : Course → List ℕ → ℕ → Ask → List ℕ → Picked → Type 0 where
   basic-stays : {b : Simple} {t : List ℕ} {i : ℕ} {q : Ask} → Becomes ns a (course.Basic b) t i q t (picked (q .number) 0 true)
   -- P is passed, and Q is left to be done, or nothing
-  pair-done : {p : Two} {t t₁ t′ : List ℕ} {i : ℕ} {q : Ask} → q .closing ≡ done → Redrawn ns (p .first) t t₁ → Sets t₁ i left-second t′
+  pair-to-second : {p : Two} {t t₁ t′ : List ℕ} {i : ℕ} {q : Ask} → q .closing ≡ done → Redrawn ns (p .first) t t₁ → Sets t₁ i left-second t′
       → Becomes ns a (course.Pair p) t i q t′ (known-of a (q .number) (part ns (modes t) (p .second) .std Drawn))
-  pair-other : {p : Two} {t t₁ t′ : List ℕ} {i : ℕ} {q : Ask} → T (not (eqc (q .closing) done)) → Redrawn ns (p .first) t t₁ → Sets t₁ i left-nothing t′
+  pair-to-nothing : {p : Two} {t t₁ t′ : List ℕ} {i : ℕ} {q : Ask} → T (not (eqc (q .closing) done)) → Redrawn ns (p .first) t t₁ → Sets t₁ i left-nothing t′
       → Becomes ns a (course.Pair p) t i q t′ (picked (q .number) 0 true)
   as-child : {c : ℕ} {t t′ : List ℕ} {i : ℕ} {q : Ask} {k : Picked} → Becomes ns a (course-in (scene ns t a) c) t c q t′ k → Becomes ns a (course.As c) t i q t′ k
-  held-second : {p : Two} {t t₁ t′ : List ℕ} {i : ℕ} {q : Ask} {l : Picked} → Sets t i left-both t₁
+  held-to-both : {p : Two} {t t₁ t′ : List ℕ} {i : ℕ} {q : Ask} {l : Picked} → Sets t i left-both t₁
       → Becomes ns a (course-in (scene ns t₁ a) (p .second)) t₁ (p .second) (ask-second q (known-of a (q .number) (part ns (modes t) (p .first) .std Undoing))) t′ l
-      → Becomes ns a (course.Held p) t i q t′ (before l (known-of a (q .number) (part ns (modes t) (p .first) .std Undoing)))
+      → Becomes ns a (course.Held p) t i q t′ (seq-of l (known-of a (q .number) (part ns (modes t) (p .first) .std Undoing)))
   -- PP closes, or ends done and QQ closes
-  seq-first : {p : Two} {t t₁ t′ : List ℕ} {i : ℕ} {q : Ask} {k : Picked} → q .number < own-of (scene ns t a) (p .first) (q .closing) (q .weight) → Sets t i left-first t₁
+  seq-to-first : {p : Two} {t t₁ t′ : List ℕ} {i : ℕ} {q : Ask} {k : Picked} → q .number < own-of (scene ns t a) (p .first) (q .closing) (q .weight) → Sets t i left-first t₁
       → Becomes ns a (course-in (scene ns t₁ a) (p .first)) t₁ (p .first) q t′ k → Becomes ns a (course.Both Sequence p) t i q t′ k
-  seq-both : {p : Two} {t t₁ t₂ t′ : List ℕ} {i : ℕ} {q : Ask} {k l : Picked} → own-of (scene ns t a) (p .first) (q .closing) (q .weight) ≤ q .number
+  seq-to-both : {p : Two} {t t₁ t₂ t′ : List ℕ} {i : ℕ} {q : Ask} {k l : Picked} → own-of (scene ns t a) (p .first) (q .closing) (q .weight) ≤ q .number
       → Becomes ns a (course-in (scene ns t a) (p .first)) t (p .first) (ask-first (scene ns t a) (p .first) (p .second) q) t₁ k → Sets t₁ i left-both t₂
-      → Becomes ns a (course-in (scene ns t₂ a) (p .second)) t₂ (p .second) (ask-second q k) t′ l → Becomes ns a (course.Both Sequence p) t i q t′ (before l k)
-  alt-first : {p : Two} {t t₁ t′ : List ℕ} {i : ℕ} {q : Ask} {k : Picked} → q .number < weight-of (scene ns t a) (p .first) (q .closing) (q .weight) → Sets t i first-taken t₁
+      → Becomes ns a (course-in (scene ns t₂ a) (p .second)) t₂ (p .second) (ask-second q k) t′ l → Becomes ns a (course.Both Sequence p) t i q t′ (seq-of l k)
+  alt-to-first : {p : Two} {t t₁ t′ : List ℕ} {i : ℕ} {q : Ask} {k : Picked} → q .number < weight-of (scene ns t a) (p .first) (q .closing) (q .weight) → Sets t i first-taken t₁
       → Becomes ns a (course-in (scene ns t₁ a) (p .first)) t₁ (p .first) q t′ k → Becomes ns a (course.Both Choice p) t i q t′ k
-  alt-second : {p : Two} {t t₁ t′ : List ℕ} {i : ℕ} {q : Ask} {k : Picked} → weight-of (scene ns t a) (p .first) (q .closing) (q .weight) ≤ q .number → Sets t i second-taken t₁
+  alt-to-second : {p : Two} {t t₁ t′ : List ℕ} {i : ℕ} {q : Ask} {k : Picked} → weight-of (scene ns t a) (p .first) (q .closing) (q .weight) ≤ q .number → Sets t i second-taken t₁
       → Becomes ns a (course-in (scene ns t₁ a) (p .second)) t₁ (p .second) (ask (q .closing) (q .weight) (q .number - weight-of (scene ns t a) (p .first) (q .closing) (q .weight))) t′ k
       → Becomes ns a (course.Both Choice p) t i q t′ k
   -- by what PP ends, what it becomes, by what QQ ends, and what it becomes
-  par-both : {p : Two} {t t₁ t′ : List ℕ} {i : ℕ} {q : Ask} {x y : Closing} {r r₂ : ℕ} {k l : Picked}
+  par-to-both : {p : Two} {t t₁ t′ : List ℕ} {i : ℕ} {q : Ask} {x y : Closing} {r r₂ : ℕ} {k l : Picked}
       → Lands (side-of (scene ns t a) (p .first) (p .second) q done) (side-of (scene ns t a) (p .first) (p .second) q withdrawn) (q .number) x r
       → Becomes ns a (course-in (scene ns t a) (p .first)) t (p .first) (ask x (beside-of (scene ns t a) (p .second) q x) r) t₁ k
       → Lands (fitting-of (scene ns t a) (p .second) q x k done) (fitting-of (scene ns t a) (p .second) q x k withdrawn) (k .rest) y r₂
       → Becomes ns a (course-in (scene ns t₁ a) (p .second)) t₁ (p .second) (ask y (within-of q k) r₂) t′ l
-      → Becomes ns a (course.Both Parallel p) t i q t′ (beside k l)
+      → Becomes ns a (course.Both Parallel p) t i q t′ (par-of k l)
 
 -- A compensation is chosen: t′ are the modes after, p what is known of it --------------------------------------------------------------
 

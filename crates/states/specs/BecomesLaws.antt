@@ -18,7 +18,7 @@ use Rattle.states.specs.declared.Picked.{Picked}
 use Rattle.states.specs.declared.Sense.the-variants.{Undoing}
 use Rattle.states.specs.State.{part, modes}
 use Rattle.states.specs.Scenes.{scene, Sets, Redrawn, Ask, ask}
-use Rattle.states.specs.Becomes.{course-in, Lands, on-done, on-withdrawn, on-failed, Becomes, basic-stays, pair-done, pair-other, as-child, held-second, seq-first, seq-both, alt-first, alt-second, par-both, known-of, before, beside, ask-second, within-of, fitting-of, beside-of, Chosen}
+use Rattle.states.specs.Becomes.{course-in, Lands, on-done, on-withdrawn, on-failed, Becomes, basic-stays, pair-to-second, pair-to-nothing, as-child, held-to-both, seq-to-first, seq-to-both, alt-to-first, alt-to-second, par-to-both, known-of, seq-of, par-of, ask-second, within-of, fitting-of, beside-of, Chosen}
 use Rattle.states.specs.RedrawLaws.{redrawn-once}
 
 -- A number is set, or a part redrawn -------------------------------------------------------------------------------------------------
@@ -66,32 +66,32 @@ module _ (ns : List ℕ) (tree : Tree (shape ns)) (a : ℕ) where
 
   pub becomes-once : {x : Course} {t : List ℕ} {i : ℕ} {q : Ask} {t₁ t₂ : List ℕ} {p₁ p₂ : Picked} → Becomes ns a x t i q t₁ p₁ → Becomes ns a x t i q t₂ p₂ → (t₁ ≡ t₂) × (p₁ ≡ p₂)
   becomes-once basic-stays basic-stays = (refl, refl)
-  becomes-once (pair-done e x w) (pair-done e′ y v) = (sets-same (redrawn-same tree x y) w v, refl)
-  becomes-once (pair-done e x w) (pair-other n y v) = absurd (not-other e n)
-  becomes-once (pair-other n x w) (pair-done e y v) = absurd (not-other e n)
-  becomes-once (pair-other n x w) (pair-other n′ y v) = (sets-same (redrawn-same tree x y) w v, refl)
+  becomes-once (pair-to-second e x w) (pair-to-second e′ y v) = (sets-same (redrawn-same tree x y) w v, refl)
+  becomes-once (pair-to-second e x w) (pair-to-nothing n y v) = absurd (not-other e n)
+  becomes-once (pair-to-nothing n x w) (pair-to-second e y v) = absurd (not-other e n)
+  becomes-once (pair-to-nothing n x w) (pair-to-nothing n′ y v) = (sets-same (redrawn-same tree x y) w v, refl)
   becomes-once (as-child x) (as-child y) = becomes-once x y
-  becomes-once {t = t} {q = q} (held-second {p = p} w x) (held-second v y) =
+  becomes-once {t = t} {q = q} (held-to-both {p = p} w x) (held-to-both v y) =
       let z = becomes-once x (at-same (sets-once w v) refl y) in
-      (z .0, ap (λ l. before l (known-of a (q .number) (part ns (modes t) (p .first) .std Undoing))) (z .1))
-  becomes-once (seq-first h w x) (seq-first h′ v y) = becomes-once x (at-same (sets-once w v) refl y)
-  becomes-once (seq-first h w x) (seq-both h′ x′ v y) = absurd (omega (arith, h, h′))
-  becomes-once (seq-both h x′ w x) (seq-first h′ v y) = absurd (omega (arith, h, h′))
-  becomes-once {q = q} (seq-both h x w x₂) (seq-both h′ y v y₂) =
+      (z .0, ap (λ l. seq-of l (known-of a (q .number) (part ns (modes t) (p .first) .std Undoing))) (z .1))
+  becomes-once (seq-to-first h w x) (seq-to-first h′ v y) = becomes-once x (at-same (sets-once w v) refl y)
+  becomes-once (seq-to-first h w x) (seq-to-both h′ x′ v y) = absurd (omega (arith, h, h′))
+  becomes-once (seq-to-both h x′ w x) (seq-to-first h′ v y) = absurd (omega (arith, h, h′))
+  becomes-once {q = q} (seq-to-both h x w x₂) (seq-to-both h′ y v y₂) =
       let z = becomes-once x y in
       let z₂ = becomes-once x₂ (at-same (sets-same (z .0) w v) (ap (ask-second q) (z .1)) y₂) in
-      (z₂ .0, (λ j. before (z₂ .1 j) (z .1 j)))
-  becomes-once (alt-first h w x) (alt-first h′ v y) = becomes-once x (at-same (sets-once w v) refl y)
-  becomes-once (alt-first h w x) (alt-second h′ v y) = absurd (omega (arith, h, h′))
-  becomes-once (alt-second h w x) (alt-first h′ v y) = absurd (omega (arith, h, h′))
-  becomes-once (alt-second h w x) (alt-second h′ v y) = becomes-once x (at-same (sets-once w v) refl y)
-  becomes-once {t = t} {q = q} (par-both {p = p} {y = v} {r₂ = n} f x f₂ x₂) (par-both g y g₂ y₂) =
+      (z₂ .0, (λ j. seq-of (z₂ .1 j) (z .1 j)))
+  becomes-once (alt-to-first h w x) (alt-to-first h′ v y) = becomes-once x (at-same (sets-once w v) refl y)
+  becomes-once (alt-to-first h w x) (alt-to-second h′ v y) = absurd (omega (arith, h, h′))
+  becomes-once (alt-to-second h w x) (alt-to-first h′ v y) = absurd (omega (arith, h, h′))
+  becomes-once (alt-to-second h w x) (alt-to-second h′ v y) = becomes-once x (at-same (sets-once w v) refl y)
+  becomes-once {t = t} {q = q} (par-to-both {p = p} {y = v} {r₂ = n} f x f₂ x₂) (par-to-both g y g₂ y₂) =
       let s = scene ns t a in
       let l = lands-once f g in
       let z = becomes-once x (at-same refl (λ j. ask (l .0 j) (beside-of s (p .second) q (l .0 j)) (l .1 j)) y) in
       let l₂ = lands-once (subst₂ (λ x k. Lands (fitting-of s (p .second) q x k done) (fitting-of s (p .second) q x k withdrawn) (k .rest) v n) (l .0) (z .1) f₂) g₂ in
       let z₂ = becomes-once x₂ (at-same (z .0) (λ j. ask (l₂ .0 j) (within-of q (z .1 j)) (l₂ .1 j)) y₂) in
-      (z₂ .0, (λ j. beside (z .1 j) (z₂ .1 j)))
+      (z₂ .0, (λ j. par-of (z .1 j) (z₂ .1 j)))
 
 pub chosen-once : {ns : List ℕ} → Tree (shape ns) → {t t₁ t₂ : List ℕ} {a i : ℕ} {q : Ask} {p₁ p₂ : Picked} → Chosen (scene ns t a) i q t₁ p₁ → Chosen (scene ns t a) i q t₂ p₂ → (t₁ ≡ t₂) × (p₁ ≡ p₂)
 chosen-once {ns} tree {a = a} x y = becomes-once ns tree a (x .becomes) (y .becomes)
