@@ -3,10 +3,9 @@
 -- what a pair's compensation is whatever it weighs (`PairChosen`). Definitions only. Assumes nothing.
 use Prim.Native.Nat.{ℕ, _<_}
 use mathlib.Core.Path.{_≡_}
-use mathlib.Core.Bool.{Bool, not}
 use mathlib.Core.List.{List, map}
 use Rattle.calculus.specs.Term.{Closing, done, Std, Cmp, seq}
-use Rattle.calculus.specs.Successors.{eqc, only, ends, comps}
+use Rattle.calculus.specs.Successors.{ends, comps}
 use Rattle.flow.specs.declared.Operator.the-variants.{Sequence}
 use Rattle.flow.specs.declared.Two.{Two}
 use Rattle.flow.specs.declared.Node.the-variants.{Compensable}
@@ -15,19 +14,20 @@ use Rattle.flow.specs.Shapes.{Kid}
 use Rattle.tallies.specs.Capped.{cap}
 use Rattle.tallies.specs.Counts.{sum-of, moves, weight}
 use Rattle.tallies.specs.Formulas.{closing}
-use Rattle.tallies.specs.Sought.{Sought, Falls}
+use Rattle.tallies.specs.Sought.{Sought}
 use Rattle.tallies.specs.declared.Weight.{Weight}
 use Rattle.states.specs.declared.Sense.the-variants.{Undoing}
 use Rattle.states.specs.declared.Course.{Course}
 use Rattle.states.specs.declared.Picked.{Picked}
-use Rattle.states.specs.Standings.{course-of}
+use Rattle.states.specs.Standings.{left-both, course-of}
 use Rattle.states.specs.State.{part, modes}
 use Rattle.seek.specs.declared.Query.{Query}
-use Rattle.states.specs.Contracts.{Spot, Kept, Scene, part-at, weight-of, Ask, ask, Chosen}
+use Rattle.states.specs.Becomes.{Lands, Becomes, ask-second, seq-of}
+use Rattle.states.specs.Contracts.{Spot, Sets, Kept, Scene, part-at, weight-of, Ask, ask, Chosen}
 
 -- an ending, as a small number, that j falls on, where those done and withdrawn weigh x and y
 pub record Fallen (x y j e r : ℕ) : Type 0 where
-  pub falls : Falls x y j (closing e) r
+  pub lands : Lands x y j (closing e) r
   pub small : e < 3
 
 -- what node i is as a part that runs by the modes t, its term, and the compensation that it has become
@@ -40,10 +40,6 @@ runs ns t i = part ns (modes t) i .run
 abbrev pub left : List ℕ → List ℕ → ℕ → Std
 left ns t i = part ns (modes t) i .std Undoing
 
--- what is known of a compensation
-abbrev pub picked : ℕ → ℕ → Bool → Picked
-picked r n b = record { rest = r; moves = n; able = b }
-
 -- what the code is asked, where the closing is a small number
 abbrev pub asked : Query → Ask
 asked q = ask (closing (q .closing)) (q .weight) (q .number)
@@ -53,10 +49,6 @@ abbrev pub Picks : ℕ → Ask → List Std → Std → Picked → Type 0
 Picks a q l k p = Sought a (q .weight) l (q .number) k (p .rest) (p .moves) (p .able)
 
 module _ (s : Scene) where
-  -- what PP, node i, weighs in PP;QQ by w: all that it can become, if it does not end done
-  abbrev pub own-of : ℕ → Closing → Weight → ℕ
-  own-of i w g = cap (sum-of (weight (s .a) g) (only (not (eqc w done)) (comps (part-at s i .run) w)))
-
   module _ (i : ℕ) where
     -- a search in node i: its place, its course, the closing as a small number, and that j falls on one of its compensations
     pub record Wanted (x : Course) (w : ℕ) (g : Weight) (j : ℕ) : Type 0 where
@@ -90,6 +82,12 @@ module _ (s : Scene) where
       pub ended : k .able ≡ ends (left (s .ns) (s .t) (two .first)) done
       pub room : k .rest < cap (sum-of (weight (s .a) g) (seconds two (closing w)))
 
-    pub record SecondChosen (q : Ask) (t′ : List ℕ) (p : Picked) : Type 0 where
-      pub sought : Picks (s .a) q (seconds two (q .closing)) (left (s .ns) t′ i) p
+    -- one of them is chosen: the node gets its mode, QQ becomes what is known as `last`, and PP's follows
+    pub record SecondChosen (w : Closing) (g : Weight) (k : Picked) (t′ : List ℕ) (p : Picked) : Type 0 where
+      pub sought : Picks (s .a) (ask w g (k .rest)) (seconds two w) (left (s .ns) t′ i) p
       pub kept : Kept (s .ns) i (modes (s .t)) (modes t′)
+      pub between : List ℕ
+      pub last : Picked
+      pub sets : Sets (s .t) i left-both between
+      pub becomes : Becomes (s .ns) (s .a) (course-at (s .ns) between (two .second)) between (two .second) (ask-second (ask w g (k .rest)) k) t′ last
+      pub is : p ≡ seq-of last k

@@ -1,14 +1,14 @@
 -- Why each way through the search is right: one lemma for each call that the code makes and for each way in which it returns. Each
 -- takes what the code has learnt, in the code's order; what it says of terms is in SeekLaws of the crate below. Assumes nothing.
 use Prim.Native.Nat.{ℕ, _+_, _*_, _-_, _<_, _≤_}
-use mathlib.Core.Path.{_≡_, refl, sym, _∙_, ap, subst}
-use mathlib.Core.Bool.{true, not, _&&_, cond}
+use mathlib.Core.Path.{_≡_, refl, sym, _∙_, ap, subst, subst₂}
+use mathlib.Core.Bool.{true, not}
 use mathlib.Core.List.{List, map}
 use mathlib.Core.Logic.{inl, inr, _≢_}
 use native.Mathlib.Omega.{arith}
 use lib.Dec.{eqb}
 use lib.ListN.{length, set}
-use Rattle.calculus.specs.Term.{Closing, done, withdrawn, skip, seq, par, pair, cseq, held}
+use Rattle.calculus.specs.Term.{Closing, done, withdrawn, Std, skip, seq, par, pair, cseq, held}
 use Rattle.calculus.specs.Successors.{comps}
 use Rattle.flow.specs.declared.Simple.{Simple}
 use Rattle.flow.specs.declared.Simple.the-variants.{Skip, Throw, Yield}
@@ -26,7 +26,8 @@ use Rattle.tallies.specs.CountsLaws.{by-word}
 use Rattle.tallies.specs.Formulas.{closing, whenT, byW, total, afterG, insideG, besideG, withinG, fittingT, partnersT}
 use Rattle.tallies.specs.Bare.{bareW}
 use Rattle.tallies.specs.BareLaws.{total-by-bare, total-when-bare, after-by-bare, beside-partners-bare, side-bare, fitting-bare}
-use Rattle.tallies.specs.SeekLaws.{eqc-done, closing-other, total-by, total-when, view-moves, view-able, seek-pair, seek-pair-skip, seek-skip, seek-calt-first, seek-calt-room, seek-calt-second, seek-second-room, seek-second, seek-held-room, seek-held, seek-own-room, seek-own, seek-both-room, seek-both-rest, seek-both, seek-par-first-room, seek-par-second-room, seek-par}
+use Rattle.tallies.specs.SeekLaws.{eqc-done, closing-other, fall-done, fall-withdrawn, fall-failed, total-by, total-when, view-moves, view-able, seek-pair, seek-pair-skip, seek-skip, seek-calt-first, seek-calt-room, seek-calt-second, seek-second-room, seek-second, seek-held-room, seek-held, seek-own-room, seek-own, seek-both-room, seek-both-rest, seek-both, seek-par-first-room, seek-par-second-room, seek-par}
+use Rattle.tallies.specs.Sought.{Falls}
 use Rattle.tallies.specs.declared.View.{View}
 use Rattle.tallies.specs.declared.Word.{Word}
 use Rattle.tallies.specs.declared.Weight.{Weight}
@@ -40,9 +41,10 @@ use Rattle.states.specs.Standings.{first-taken, second-taken, left-second, left
 use Rattle.states.specs.State.{std-of, run-of, part, modes}
 use Rattle.states.specs.StateLaws.{std-part}
 use Rattle.states.specs.LiveParts.{Twins}
-use Rattle.states.specs.Contracts.{Spot, Kept, Sets, Redrawn, Scene, scene, weight-of, ask, Counted, Chosen}
+use Rattle.states.specs.Becomes.{picked, known-of, seq-of, par-of, ask-second, own-of, side-of, fitting-of, Lands, on-done, on-withdrawn, on-failed, Becomes, basic-stays, pair-to-second, pair-to-nothing, as-child, held-to-both, seq-to-first, seq-to-both, alt-to-first, alt-to-second, par-to-both}
+use Rattle.states.specs.Contracts.{Spot, Kept, Sets, Redrawn, Scene, scene, weight-of, Ask, ask, Counted, Chosen}
 use Rattle.states.specs.ChildLaws.{set-sets, not-own, lower-spot, same-room, kept-set, kept-part, kid-lower, kept-kid, own-kept, same-part, spot-down}
-use Rattle.seek.specs.Asked.{Fallen, course-at, runs, left, picked, Picks, own-of, Wanted, Below, seconds, SecondWanted, SecondChosen, PairChosen}
+use Rattle.seek.specs.Asked.{Fallen, course-at, runs, left, Picks, Wanted, Below, seconds, SecondWanted, SecondChosen, PairChosen}
 use Rattle.seek.specs.Weighed.{row, Live, itself, Weighed, Known}
 use Rattle.seek.specs.WeighedLaws.{weighed-live, known-live, known-same}
 use Rattle.seek.specs.NodeLaws.{course-runs, course-kids, course-node, left-is, room-is, sought-is, marked-picks, marked-mode, marked-kept, marked-beside}
@@ -66,6 +68,27 @@ module _ {ns t : List ℕ} {a i : ℕ} {d : List ℕ} (k : Weighed (scene ns t a
 
     before-read : {r : Weight} → r ≡ afterG (byW (row d i) (closing w)) g → r ≡ afterG (tally a (comps (runs ns t i) (closing w))) g
     before-read e = e ∙ ap (λ x. afterG (byW x (closing w)) g) row-is ∙ after-by-bare _ (closing w) g ∙ ap (λ x. afterG x g) (by-word a (runs ns t i) (closing w))
+
+-- A node of a course becomes what one of that course does
+at-course : {ns t : List ℕ} {a i : ℕ} {x : Course} {q : Ask} {t′ : List ℕ} {p : Picked} → course-at ns t i ≡ x → Becomes ns a x t i q t′ p → Becomes ns a (course-at ns t i) t i q t′ p
+at-course {ns} {t} {a} {i} {q = q} {t′ = t′} {p = p} e b = subst (λ x. Becomes ns a x t i q t′ p) (sym e) b
+
+-- where what is asked, or what is known, is said in another way
+ask-is : {ns t : List ℕ} {a i : ℕ} {x : Course} {q q₂ : Ask} {t′ : List ℕ} {p : Picked} → q ≡ q₂ → Becomes ns a x t i q t′ p → Becomes ns a x t i q₂ t′ p
+ask-is {ns} {t} {a} {i} {x} {t′ = t′} {p = p} e b = subst (λ q. Becomes ns a x t i q t′ p) e b
+
+known-is : {ns t : List ℕ} {a i : ℕ} {x : Course} {q : Ask} {t′ : List ℕ} {p r : Picked} → r ≡ p → Becomes ns a x t i q t′ p → Becomes ns a x t i q t′ r
+known-is {ns} {t} {a} {i} {x} {q} {t′} e b = subst (λ p. Becomes ns a x t i q t′ p) (sym e) b
+
+-- what the counting pass sees of k is what is known of it
+view-known : (a j : ℕ) (k : Std) {v : View} → v ≡ view a k → picked j (v .moves) (v .done) ≡ known-of a j k
+view-known a j k e = λ z. picked j (view-moves a k e z) (view-able a k e z)
+
+-- on which closing a number falls
+falls-on : {x y j : ℕ} {w : Closing} {r : ℕ} → Lands x y j w r → Falls x y j w r
+falls-on (on-done h) = fall-done h
+falls-on (on-withdrawn h k) = fall-withdrawn h k
+falls-on (on-failed h k) = fall-failed h k
 
 -- something is kept
 pub known-some : {s : Scene} {d : List ℕ} {i : ℕ} → Known s d i → length d ≢ 0 → Weighed s d i
@@ -113,7 +136,7 @@ basic-chosen {ns} {t} {a} {i} {w} {g} {b} h =
     let tree = h .spot .node .sound .tree in
     let r : runs ns t i ≡ paired b = course-runs (h .spot) (h .is) in
     let l : left ns t i ≡ skip = std-part ns tree (modes t) i Undoing ∙ ap (λ x. std-of x Undoing (part ns (modes t))) (course-node (h .spot) (h .is) (modes t i)) in
-    record { sought = sought-is a g (closing w) (sym r) (sym l) (skip-picks a g w b (room-is a g (closing w) r (h .room))); kept = λ k u. refl }
+    record { sought = sought-is a g (closing w) (sym r) (sym l) (skip-picks a g w b (room-is a g (closing w) r (h .room))); kept = λ k u. refl; becomes = at-course (h .is) basic-stays }
 
 -- P÷Q -----------------------------------------------------------------------------------------------------------------------
 
@@ -155,6 +178,7 @@ module _ {ns t : List ℕ} {i : ℕ} {two : Two} (spot : Spot ns t i) (e : cours
       record {
         sought = sought-is a g (closing w) (sym pair-runs) (sym l) (seek-pair a g _ _ (ap closing o) u (room-is a g (closing w) pair-runs room));
         kept = pair-kept left-second x f;
+        becomes = at-course e (known-is (view-known a _ _ u) (pair-to-second (ap closing o) x (pair-sets left-second x f)));
       }
 
   pub pair-other : {a w j : ℕ} {t₁ t′ : List ℕ} → Redrawn ns (two .first) t t₁ → t′ ≡ set t₁ i left-nothing → w ≢ 0 → PairChosen (scene ns t a) i (closing w) j t′ (picked j 0 true)
@@ -162,6 +186,7 @@ module _ {ns t : List ℕ} {i : ℕ} {two : Two} (spot : Spot ns t i) (e : cours
   pair-other {a} {w} {t′} x f n g room = record {
     sought = sought-is a g (closing w) (sym pair-runs) (sym (left-is ns t′ i pair-tree (course-node spot e) (pair-sets left-nothing x f .here))) (seek-pair-skip a g _ _ (closing w) (closing-other w n) (room-is a g (closing w) pair-runs room));
     kept = pair-kept left-nothing x f;
+    becomes = at-course e (pair-to-nothing (closing-other w n) x (pair-sets left-nothing x f));
   }
 
 -- A choice that has been made -----------------------------------------------------------------------------------------------
@@ -188,7 +213,7 @@ module _ {ns t : List ℕ} {a i c w : ℕ} {g : Weight} {j : ℕ} (h : Wanted (s
   unfolding std-of
   as-chosen {t′} x =
       let l : left ns t′ i ≡ left ns t′ c = left-is ns t′ i as-tree refl (own-kept ns as-tree (course-kids (h .spot) (h .is)) (x .kept)) ∙ ap (λ x. std-of x Undoing (part ns (modes t′))) (course-node (h .spot) (h .is)) in
-      record { sought = sought-is a g (closing w) (sym as-runs) (sym l) (x .sought); kept = kept-kid ns as-tree (course-kids (h .spot) (h .is)) (x .kept) }
+      record { sought = sought-is a g (closing w) (sym as-runs) (sym l) (x .sought); kept = kept-kid ns as-tree (course-kids (h .spot) (h .is)) (x .kept); becomes = at-course (h .is) (as-child (x .becomes)) }
 
 -- Two parts that both run, whatever joins them ------------------------------------------------------------------------------
 
@@ -244,11 +269,12 @@ module _ {ns t : List ℕ} {a i w : ℕ} {g : Weight} {j : ℕ} {o : Operator} {
   -- the mode m leaves the child c alone, and what is picked there is what is picked in the whole
   alone-chosen : (m : ℕ) {c n : ℕ} → Kid (shape ns) i c → stand Undoing (Compensable o two) m ≡ standings.only c Undoing → {t′ : List ℕ} {p : Picked}
       → (Picks a (ask (closing w) g n) (comps (runs ns t c) (closing w)) (left ns t′ c) p → Picks a (ask (closing w) g j) (comps (compensable o (runs ns t (two .first)) (runs ns t (two .second))) (closing w)) (left ns t′ c) p)
+      → (Sets t i m (set t i m) → Becomes ns a (course-at ns (set t i m) c) (set t i m) c (ask (closing w) g n) t′ p → Becomes ns a (course.Both o two) t i (ask (closing w) g j) t′ p)
       → Chosen (scene ns (set t i m) a) c (ask (closing w) g n) t′ p → Chosen (scene ns t a) i (ask (closing w) g j) t′ p
   unfolding std-of
-  alone-chosen m {c} kid e {t′} up x =
+  alone-chosen m {c} kid e {t′} up way x =
       let l : left ns t′ i ≡ left ns t′ c = left-is ns t′ i two-tree (course-node (h .spot) (h .is)) (marked-mode m (h .spot) kid x) ∙ ap (λ x. std-of x Undoing (part ns (modes t′))) e in
-      record { sought = sought-is a g (closing w) (sym two-runs) (sym l) (up (marked-picks m (h .spot) kid x)); kept = marked-kept m (h .spot) kid x }
+      record { sought = sought-is a g (closing w) (sym two-runs) (sym l) (up (marked-picks m (h .spot) kid x)); kept = marked-kept m (h .spot) kid x; becomes = at-course (h .is) (way (set-sets (h .spot .room) refl) (x .becomes)) }
 
 -- PP□QQ ---------------------------------------------------------------------------------------------------------------------
 
@@ -264,7 +290,7 @@ module _ {ns t : List ℕ} {a i w : ℕ} {g : Weight} {j : ℕ} {two : Two} (h :
 
       pub choice-first : {t′ : List ℕ} {p : Picked} → Chosen (scene ns (set t i first-taken) a) (two .first) (ask (closing w) g j) t′ p → Chosen (scene ns t a) i (ask (closing w) g j) t′ p
       unfolding stand stand-undoing undoing-two
-      choice-first = alone-chosen h first-taken (two-twins h .one) refl (seek-calt-first a g _ _ (closing w))
+      choice-first = alone-chosen h first-taken (two-twins h .one) refl (seek-calt-first a g _ _ (closing w)) (alt-to-first (omega (arith, d, lt)))
 
     module _ (le : c ≤ j) where
       pub choice-second-below : Below (scene ns t a) i (two .second) w g (j - c)
@@ -272,7 +298,7 @@ module _ {ns t : List ℕ} {a i w : ℕ} {g : Weight} {j : ℕ} {two : Two} (h :
 
       pub choice-second : {t′ : List ℕ} {p : Picked} → Chosen (scene ns (set t i second-taken) a) (two .second) (ask (closing w) g (j - c)) t′ p → Chosen (scene ns t a) i (ask (closing w) g j) t′ p
       unfolding stand stand-undoing undoing-two
-      choice-second = alone-chosen h second-taken (two-twins h .other) refl (seek-calt-second a g _ _ (closing w) d (two-room h) le)
+      choice-second = alone-chosen h second-taken (two-twins h .other) refl (seek-calt-second a g _ _ (closing w) d (two-room h) le) (λ u b. alt-to-second (omega (arith, d, le)) u (ask-is (λ z. ask (closing w) g (j - d z)) b))
 
 -- PP;QQ: the second, before what the first has become -----------------------------------------------------------------------
 
@@ -284,7 +310,7 @@ module _ {ns t : List ℕ} {a i w : ℕ} {g : Weight} {two : Two} {k : Picked} (
   second-below = record { spot = h .spot; kid = two-kids ns i (h .is) two refl .1; closes = h .closes; room = seek-second-room a g _ _ (h .counted) (h .ended) eg (h .room) }
 
   pub second-chosen : {t′ : List ℕ} {p : Picked} → Chosen (scene ns (set t i left-both) a) (two .second) (ask (closing w) g₂ (k .rest)) t′ p
-      → SecondChosen (scene ns t a) i two (ask (closing w) g (k .rest)) t′ (picked (p .rest) (cond (p .able) (cap (p .moves + k .moves)) (p .moves)) (p .able && k .able))
+      → SecondChosen (scene ns t a) i two (closing w) g k t′ (seq-of p k)
   unfolding std-of stand stand-undoing undoing-two
   second-chosen {t′} {p} m =
       let kids = two-kids ns i (h .is) two refl in
@@ -292,9 +318,14 @@ module _ {ns t : List ℕ} {a i w : ℕ} {g : Weight} {two : Two} {k : Picked} (
       let l : left ns t′ i ≡ seq (left ns t′ (two .second)) (left ns t′ (two .first)) = left-is ns t′ i second-tree (h .is) (marked-mode left-both (h .spot) (kids .1) m) in
       let r : seq (left ns t′ (two .second)) (left ns t (two .first)) ≡ left ns t′ i = sym (l ∙ ap (λ p. seq (left ns t′ (two .second)) (p .std Undoing)) f) in
       record {
-        sought = subst (λ x. Picks a (ask (closing w) g (k .rest)) (seconds (scene ns t a) two (closing w)) x (picked (p .rest) (cond (p .able) (cap (p .moves + k .moves)) (p .moves)) (p .able && k .able))) r
+        sought = subst (λ x. Picks a (ask (closing w) g (k .rest)) (seconds (scene ns t a) two (closing w)) x (seq-of p k)) r
             (seek-second a g _ _ (h .counted) (h .ended) eg (h .room) (marked-picks left-both (h .spot) (kids .1) m));
         kept = marked-kept left-both (h .spot) (kids .1) m;
+        between = set t i left-both;
+        last = p;
+        sets = set-sets (h .spot .room) refl;
+        becomes = ask-is (ap (λ g. ask (closing w) g (k .rest)) eg) (m .becomes);
+        is = refl;
       }
 
 -- PP;QQ whose PP has ended --------------------------------------------------------------------------------------------------
@@ -326,10 +357,16 @@ module _ {ns t : List ℕ} {a i w : ℕ} {g : Weight} {j : ℕ} {two : Two} (h :
     room = seek-held-room a g _ _ (closing w) (room-is a g (closing w) held-runs (h .room));
   }
 
-  pub held-chosen : {t′ : List ℕ} {p : Picked} → SecondChosen (scene ns t a) i two (ask (closing w) g j) t′ p → Chosen (scene ns t a) i (ask (closing w) g j) t′ p
-  held-chosen {t′} {p} m =
+  pub held-chosen : {c c′ : List ℕ} {v : View} → Counted (scene ns t a) (Plain Undoing) (two .first) c c′ v → {t′ : List ℕ} {p : Picked}
+      → SecondChosen (scene ns t a) i two (closing w) g (picked j (v .moves) (v .done)) t′ p → Chosen (scene ns t a) i (ask (closing w) g j) t′ p
+  held-chosen x {t′} {p} m =
       let u : Picks a (ask (closing w) g j) (comps (held (runs ns t (two .second)) (left ns t (two .first))) (closing w)) (left ns t′ i) p = seek-held a g _ _ (closing w) (m .sought) in
-      record { sought = sought-is a g (closing w) (sym held-runs) refl u; kept = m .kept }
+      let k = view-known a j (left ns t (two .first)) (x .seen) in
+      record {
+        sought = sought-is a g (closing w) (sym held-runs) refl u;
+        kept = m .kept;
+        becomes = at-course (h .is) (known-is (m .is ∙ ap (seq-of (m .last)) k) (held-to-both (m .sets) (ask-is (ap (ask-second (ask (closing w) g j)) k) (m .becomes))));
+      }
 
 -- PP;QQ whose PP runs -------------------------------------------------------------------------------------------------------
 
@@ -349,7 +386,7 @@ module _ {ns t : List ℕ} {a i w : ℕ} {g : Weight} {j : ℕ} {two : Two} (h :
 
       pub own-chosen : {t′ : List ℕ} {p : Picked} → Chosen (scene ns (set t i left-first) a) (two .first) (ask (closing w) g j) t′ p → Chosen (scene ns t a) i (ask (closing w) g j) t′ p
       unfolding stand stand-undoing undoing-two
-      own-chosen = alone-chosen h left-first (two-twins h .one) refl (seek-own a g _ _ (closing w) d (two-room h) lt)
+      own-chosen = alone-chosen h left-first (two-twins h .one) refl (seek-own a g _ _ (closing w) d (two-room h) lt) (seq-to-first (omega (arith, d, lt)))
 
     -- PP ends done, and QQ closes by w
     module _ (le : c ≤ j) {g₁ : Weight} (eg : g₁ ≡ afterG (tally a (comps (runs ns t (two .second)) (closing w))) g) where
@@ -373,11 +410,15 @@ module _ {ns t : List ℕ} {a i w : ℕ} {g : Weight} {j : ℕ} {two : Two} (h :
           room = subst (λ l. k .rest < cap (sum-of (weight a g) l)) both-list (seek-both-rest a g _ _ (closing w) d (two-room h) le refl eg (x .sought));
         }
 
-        pub both-chosen : {t′ : List ℕ} {p : Picked} → SecondChosen (scene ns t₁ a) i two (ask (closing w) g (k .rest)) t′ p → Chosen (scene ns t a) i (ask (closing w) g j) t′ p
+        pub both-chosen : {t′ : List ℕ} {p : Picked} → SecondChosen (scene ns t₁ a) i two (closing w) g k t′ p → Chosen (scene ns t a) i (ask (closing w) g j) t′ p
         both-chosen {t′} {p} m =
             let v : Picks a (ask (closing w) g (k .rest)) (map (λ x. seq x (left ns t₁ (two .first))) (comps (runs ns t (two .second)) (closing w))) (left ns t′ i) p = subst (λ l. Picks a (ask (closing w) g (k .rest)) l (left ns t′ i) p) (sym both-list) (m .sought) in
             let u : Picks a (ask (closing w) g j) (comps (cseq (runs ns t (two .first)) (runs ns t (two .second))) (closing w)) (left ns t′ i) p = seek-both a g _ _ (closing w) d (two-room h) le refl eg (x .sought) v in
-            record { sought = sought-is a g (closing w) (sym (two-runs h)) refl u; kept = λ y u. m .kept y u ∙ kept-kid ns (two-tree h) (two-twins h .one) (x .kept) y u }
+            record {
+              sought = sought-is a g (closing w) (sym (two-runs h)) refl u;
+              kept = λ y u. m .kept y u ∙ kept-kid ns (two-tree h) (two-twins h .one) (x .kept) y u;
+              becomes = at-course (h .is) (known-is (m .is) (seq-to-both (omega (arith, d, le)) (ask-is (λ z. ask done (eg z) (j - d z)) (x .becomes)) (m .sets) (m .becomes)));
+            }
 
 -- PP∥QQ ---------------------------------------------------------------------------------------------------------------------
 
@@ -406,16 +447,26 @@ module _ {ns t : List ℕ} {a i w : ℕ} {g : Weight} {j : ℕ} {two : Two} (h :
 
   module _ {p q : Word} (ep : p ≡ row d (two .first)) (eq : q ≡ row d (two .second)) {x r : ℕ} (fx : Fallen (total (byW p done) (besideG (partnersT q (closing w) done) g)) (total (byW p withdrawn) (besideG (partnersT q (closing w) withdrawn) g)) j x r) {g₁ : Weight} (e₁ : g₁ ≡ besideG (partnersT q (closing w) (closing x)) g) where
     pub par-first-room : r < weight-of (scene ns t a) (two .first) (closing x) g₁
-    par-first-room = seek-par-first-room a g _ _ (closing w) refl refl (two-room h) (side-is ep eq done) (side-is ep eq withdrawn) (fx .falls) (e₁ ∙ beside-is ep eq (closing x))
+    par-first-room = seek-par-first-room a g _ _ (closing w) refl refl (two-room h) (side-is ep eq done) (side-is ep eq withdrawn) (falls-on (fx .lands)) (e₁ ∙ beside-is ep eq (closing x))
 
     module _ {t₁ : List ℕ} {k : Picked} (c₁ : Chosen (scene ns t a) (two .first) (ask (closing x) g₁ r) t₁ k) {g₂ : Weight} (e₂ : g₂ ≡ withinG g (k .moves) (k .able)) {y r₂ : ℕ} (fy : Fallen (total (fittingT q (closing w) (closing x) done) g₂) (total (fittingT q (closing w) (closing x) withdrawn) g₂) (k .rest) y r₂) where
       second-same : part ns (modes t₁) (two .second) ≡ part ns (modes t) (two .second)
       second-same = kept-part ns (two-tree h) (two .first) (two-twins h .free) (c₁ .kept)
 
       pub par-second-room : r₂ < weight-of (scene ns t₁ a) (two .second) (closing y) g₂
-      par-second-room = room-is a g₂ (closing y) (ap (λ p. p .run) (sym second-same)) (seek-par-second-room a g _ _ (closing w) refl refl (two-room h) (side-is ep eq done) (side-is ep eq withdrawn) (fx .falls) (e₁ ∙ beside-is ep eq (closing x)) (c₁ .sought) e₂ (fitting-is ep eq (closing x) done g₂) (fitting-is ep eq (closing x) withdrawn g₂) (fy .falls))
+      par-second-room = room-is a g₂ (closing y) (ap (λ p. p .run) (sym second-same)) (seek-par-second-room a g _ _ (closing w) refl refl (two-room h) (side-is ep eq done) (side-is ep eq withdrawn) (falls-on (fx .lands)) (e₁ ∙ beside-is ep eq (closing x)) (c₁ .sought) e₂ (fitting-is ep eq (closing x) done g₂) (fitting-is ep eq (closing x) withdrawn g₂) (falls-on (fy .lands)))
 
-      pub par-chosen : {t₂ : List ℕ} {l : Picked} → Chosen (scene ns t₁ a) (two .second) (ask (closing y) g₂ r₂) t₂ l → Chosen (scene ns t a) i (ask (closing w) g j) t₂ (picked (l .rest) (cap (k .moves + l .moves)) (k .able && l .able))
+      -- the same by what the terms weigh
+      first-lands : Lands (side-of (scene ns t a) (two .first) (two .second) (ask (closing w) g j) done) (side-of (scene ns t a) (two .first) (two .second) (ask (closing w) g j) withdrawn) j (closing x) r
+      first-lands = subst₂ (λ u v. Lands u v j (closing x) r) (side-is ep eq done) (side-is ep eq withdrawn) (fx .lands)
+
+      fitting-same : (v : Closing) → total (fittingT q (closing w) (closing x) v) g₂ ≡ fitting-of (scene ns t a) (two .second) (ask (closing w) g j) (closing x) k v
+      fitting-same v = fitting-is ep eq (closing x) v g₂ ∙ ap (total (fittingT second-word (closing w) (closing x) v)) e₂
+
+      second-lands : Lands (fitting-of (scene ns t a) (two .second) (ask (closing w) g j) (closing x) k done) (fitting-of (scene ns t a) (two .second) (ask (closing w) g j) (closing x) k withdrawn) (k .rest) (closing y) r₂
+      second-lands = subst₂ (λ u v. Lands u v (k .rest) (closing y) r₂) (fitting-same done) (fitting-same withdrawn) (fy .lands)
+
+      pub par-chosen : {t₂ : List ℕ} {l : Picked} → Chosen (scene ns t₁ a) (two .second) (ask (closing y) g₂ r₂) t₂ l → Chosen (scene ns t a) i (ask (closing w) g j) t₂ (par-of k l)
       unfolding std-of stand stand-undoing undoing-two
       par-chosen {t₂} {l} c₂ =
           let z : part ns (modes t₂) (two .first) ≡ part ns (modes t₁) (two .first) = kept-part ns (two-tree h) (two .second) (λ j u v. two-twins h .free j v u) (c₂ .kept) in
@@ -423,6 +474,7 @@ module _ {ns t : List ℕ} {a i w : ℕ} {g : Weight} {j : ℕ} {two : Two} (h :
           let m : par (left ns t₁ (two .first)) (left ns t₂ (two .second)) ≡ left ns t₂ i = sym (o ∙ ap (λ p. par (p .std Undoing) (left ns t₂ (two .second))) z) in
           let v : Picks a (ask (closing y) g₂ r₂) (comps (runs ns t (two .second)) (closing y)) (left ns t₂ (two .second)) l = sought-is a g₂ (closing y) (ap (λ p. p .run) second-same) refl (c₂ .sought) in
           record {
-            sought = sought-is a g (closing w) (sym (two-runs h)) m (seek-par a g _ _ (closing w) refl refl (two-room h) (side-is ep eq done) (side-is ep eq withdrawn) (fx .falls) (e₁ ∙ beside-is ep eq (closing x)) (c₁ .sought) e₂ (fitting-is ep eq (closing x) done g₂) (fitting-is ep eq (closing x) withdrawn g₂) (fy .falls) v);
+            sought = sought-is a g (closing w) (sym (two-runs h)) m (seek-par a g _ _ (closing w) refl refl (two-room h) (side-is ep eq done) (side-is ep eq withdrawn) (falls-on (fx .lands)) (e₁ ∙ beside-is ep eq (closing x)) (c₁ .sought) e₂ (fitting-is ep eq (closing x) done g₂) (fitting-is ep eq (closing x) withdrawn g₂) (falls-on (fy .lands)) v);
             kept = λ b u. kept-kid ns (two-tree h) (two-twins h .other) (c₂ .kept) b u ∙ kept-kid ns (two-tree h) (two-twins h .one) (c₁ .kept) b u;
+            becomes = at-course (h .is) (par-to-both first-lands (ask-is (ap (λ g. ask (closing x) g r) (e₁ ∙ beside-is ep eq (closing x))) (c₁ .becomes)) second-lands (ask-is (ap (λ g. ask (closing y) g r₂) e₂) (c₂ .becomes)));
           }

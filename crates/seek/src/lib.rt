@@ -391,7 +391,7 @@ fn seek_second(
 ) -> Picked
     requires { ⌜ SecondWanted (scene (now ns) (now t) a) i two w g k ⌝ }
     requires { ⌜ Known (scene (now ns) (now t) a) (now d) (two .second) ⌝ }
-    ensures { λ r. ⌜ SecondChosen (scene (now (ns .entry)) (now (t .entry)) a) i two (ask (closing w) g (k .rest)) (now (t .exit)) r ⌝ }
+    ensures { λ r. ⌜ SecondChosen (scene (now (ns .entry)) (now (t .entry)) a) i two (closing w) g k (now (t .exit)) r ⌝ }
 {
     let inside = tallies::weight_inside(g, k.moves, k.able);
     let inner = Query {

@@ -1,5 +1,6 @@
 -- What the judge's functions on a state promise, as records that their contracts name: what the counting pass and the steps do. What
--- they ask and leave alone is in Scenes, and how a step is made in Hands. Definitions only. Assumes nothing.
+-- they ask and leave alone is in Scenes, what a choice among compensations is in Becomes, and how a step is made in Hands.
+-- Definitions only. Assumes nothing.
 use Prim.Native.Nat.{ℕ, _<_}
 use mathlib.Core.Path.{_≡_}
 use mathlib.Core.List.{List}
@@ -8,7 +9,8 @@ use Rattle.tallies.specs.Places.{At}
 use Rattle.states.specs.State.{part, modes, counts}
 use Rattle.states.specs.declared.Role.{Role}
 use Rattle.states.specs.Roles.{get, nexts, many, Sight, look, ok}
-pub use Rattle.states.specs.Scenes.{Sound, Inside, Spot, Sets, Kept, Redrawn, Scene, scene, part-at, stored-at, noted-at, weight-of, Ask, ask, Chosen}
+pub use Rattle.states.specs.Scenes.{Sound, Inside, Spot, Sets, Kept, Redrawn, Scene, scene, part-at, stored-at, noted-at, weight-of, Ask, ask}
+pub use Rattle.states.specs.Becomes.{Chosen}
 use Rattle.states.specs.Hands.{move, Makes}
 
 -- the counting pass in a role: counts c before and c′ after, answer v

@@ -1,6 +1,6 @@
 -- How the modes become those after a step: by setting a node's mode, redrawing what is passed and choosing a compensation, a step of
 -- the node becomes a step of one child, perhaps in another role (`Hands`), and so on down to the event that is taken (`Makes`). Places
--- are compared with the true counts. But for the choices, this says all of the bytes after (`makes-once` in HandsLaws).
+-- are compared with the true counts. This says all of the bytes after (`makes-once` in HandsLaws).
 -- Definitions only. Assumes nothing.
 use Prim.Native.Nat.{ℕ, _<_, _≤_, _-_}
 use mathlib.Core.List.{List}
@@ -25,7 +25,9 @@ use Rattle.states.specs.declared.Picked.{Picked}
 use Rattle.states.specs.Standings.{event-taken, moved-on, first-taken, second-taken, compensating, holding, left-first, stand, course-of}
 use Rattle.states.specs.State.{modes}
 use Rattle.states.specs.Roles.{many}
-use Rattle.states.specs.Scenes.{Scene, scene, Sets, Redrawn, part-at, Ask, ask, Chosen}
+use Rattle.states.specs.Scenes.{Scene, scene, Sets, Redrawn, part-at, Ask, ask}
+use Rattle.states.specs.Becomes.{Chosen}
+pub use Rattle.states.specs.Becomes.{course-in}
 
 -- a step of node i in role r, at place k among its steps
 pub record Move : Type 0 where
@@ -48,9 +50,6 @@ stance-of Running n m = course-of n m
 -- what is left of node i
 abbrev pub stand-in : Scene → Sense → ℕ → Standing
 stand-in s v i = stand v (node (s .ns) i) (modes (s .t) i)
-
-abbrev pub course-in : Scene → ℕ → Course
-course-in s i = course-of (node (s .ns) i) (modes (s .t) i)
 
 -- the mode of P;Q and of QQ's and then PP's compensation, once the second part has made a step
 abbrev pub gone : Sense → ℕ

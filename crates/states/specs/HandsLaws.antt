@@ -1,18 +1,12 @@
--- A step has one content of the bytes after, if a choice among compensations has (`makes-once`). Assumes nothing.
+-- A step has one content of the bytes after (`makes-once`, `step-once`). Assumes nothing.
 use Prim.Native.Nat.{ℕ}
 use mathlib.Core.Path.{_≡_, refl, sym, _∙_, ap, subst, subst₂}
-use mathlib.Core.Bool.{Bool, true, false}
 use mathlib.Core.List.{List}
 use native.Mathlib.Omega.{arith}
-use borrow.Author.Tests.{eqb-true, eqb-false}
-use lib.Dec.{eqb}
-use lib.ListN.{length, getD}
-use lib.Seq.{ext-getD}
 use Rattle.flow.specs.declared.Operator.{Operator}
 use Rattle.flow.specs.declared.Operator.the-variants.{Sequence, Choice, Parallel}
 use Rattle.flow.specs.Kinds.{node, shape}
 use Rattle.flow.specs.Trees.{Tree}
-use Rattle.tallies.specs.Places.{Finds, here, past}
 use Rattle.states.specs.declared.Standing.{Standing}
 use Rattle.states.specs.declared.Standing.the-variants as standing
 use Rattle.states.specs.declared.Course.{Course}
@@ -20,38 +14,18 @@ use Rattle.states.specs.declared.Course.the-variants as course
 use Rattle.states.specs.declared.Sense.{Sense}
 use Rattle.states.specs.declared.Role.{Role}
 use Rattle.states.specs.declared.Role.the-variants.{Plain, Running}
-use Rattle.states.specs.declared.Picked.{Picked}
 use Rattle.states.specs.State.{modes}
-use Rattle.states.specs.Scenes.{Scene, scene, Sets, Ask, Chosen}
-use Rattle.states.specs.RedrawLaws.{redrawn-once}
+use Rattle.states.specs.Contracts.{Scene, scene, Ask, Chosen, Stepped}
+use Rattle.states.specs.BecomesLaws.{sets-once, redrawn-same, chosen-once}
 use Rattle.states.specs.Hands.{Move, move, Stance, stance-of, stand-in, Passed, Fork, to-first, to-second, Marked, Past, Picks, hands-std, hands-run, hands-by, Hands, Makes, takes, hands}
 
--- A number is set, or a part passed ------------------------------------------------------------------------------------------------
-
-pub sets-once : {t t₁ t₂ : List ℕ} {i n : ℕ} → Sets t i n t₁ → Sets t i n t₂ → t₁ ≡ t₂
-sets-once {t} {t₁} {t₂} {i} x y = ext-getD 0 t₁ t₂ (x .long ∙ sym (y .long)) (λ j h. by j (eqb j i) refl)
-  where
-    by : (j : ℕ) (b : Bool) → eqb j i ≡ b → getD t₁ j 0 ≡ getD t₂ j 0
-    by j true e = ap (λ z. getD t₁ z 0) (eqb-true j i e) ∙ x .here ∙ sym (y .here) ∙ ap (λ z. getD t₂ z 0) (sym (eqb-true j i e))
-    by j false e = x .others j (eqb-false j i e) ∙ sym (y .others j (eqb-false j i e))
+-- A part is passed ----------------------------------------------------------------------------------------------------------------
 
 module _ (ns : List ℕ) (tree : Tree (shape ns)) (j : ℕ) (t : List ℕ) {t₁ t₂ : List ℕ} where
   pub passed-once : (o : Operator) → Passed ns o j t t₁ → Passed ns o j t t₂ → t₁ ≡ t₂
-  passed-once Sequence x y = ext-getD 0 t₁ t₂ (x .long ∙ sym (y .long)) (λ n h. redrawn-once tree x y n)
+  passed-once Sequence x y = redrawn-same tree x y
   passed-once Choice x y = x ∙ sym y
   passed-once Parallel x y = x ∙ sym y
-
--- A choice has one content: what is asked of it here, beside what it is known to be ----------------------------------------------------
-
-pub record ChosenOnce (ns : List ℕ) : Type 0 where
-  pub same : {t t₁ t₂ : List ℕ} {a i : ℕ} {q : Ask} {p₁ p₂ : Picked} → Chosen (scene ns t a) i q t₁ p₁ → Chosen (scene ns t a) i q t₂ p₂ → (j : ℕ) → modes t₁ j ≡ modes t₂ j
-
--- how far into a weight a number falls
-finds-once : {A : Type 0} {f : A → ℕ} {l : List A} {j j′ : ℕ} {x y : A} {r r′ : ℕ} → j ≡ j′ → Finds f l j x r → Finds f l j′ y r′ → r ≡ r′
-finds-once e (here h) (here h′) = e
-finds-once e (here h) (past u) = absurd (omega (arith, e, h))
-finds-once e (past u) (here h) = absurd (omega (arith, e, h))
-finds-once e (past u) (past v) = finds-once (omega (arith, e)) u v
 
 -- One turn ------------------------------------------------------------------------------------------------------------------------
 
@@ -59,7 +33,7 @@ finds-once e (past u) (past v) = finds-once (omega (arith, e)) u v
 abbrev Alike : List ℕ → Move → List ℕ → Move → Type 0
 Alike t₁ y₁ t₂ y₂ = (t₁ ≡ t₂) × (y₁ ≡ y₂)
 
-module _ (s : Scene) (tree : Tree (shape (s .ns))) (once : ChosenOnce (s .ns)) {t₁ t₂ : List ℕ} {y₁ y₂ : Move} where
+module _ (s : Scene) (tree : Tree (shape (s .ns))) {t₁ t₂ : List ℕ} {y₁ y₂ : Move} where
   fork-once : {n k : ℕ} {a₁ b₁ a₂ b₂ : Type 0} → (a₁ → a₂ → Alike t₁ y₁ t₂ y₂) → (b₁ → b₂ → Alike t₁ y₁ t₂ y₂) → Fork n k a₁ b₁ → Fork n k a₂ b₂ → Alike t₁ y₁ t₂ y₂
   fork-once f g (to-first h x) (to-first h′ y) = f x y
   fork-once f g (to-first h x) (to-second h′ y) = absurd (omega (arith, h, h′))
@@ -74,9 +48,8 @@ module _ (s : Scene) (tree : Tree (shape (s .ns))) (once : ChosenOnce (s .ns)) {
 
   picks-once : {i m j : ℕ} {q : Ask} {r : Role} {l : ℕ} → Picks s i m j q r l t₁ y₁ → Picks s i m j q r l t₂ y₂ → Alike t₁ y₁ t₂ y₂
   picks-once {j = j} {q = q} {r = r} {l = l} x y =
-      let e = sets-once (x .sets) (y .sets) in
-      let c = subst (λ u. Chosen (scene (s .ns) u (s .a)) j q t₁ (x .picked)) e (x .chosen) in
-      (ext-getD 0 t₁ t₂ (x .long ∙ ap length e ∙ sym (y .long)) (λ n h. once .same c (y .chosen) n), x .is ∙ ap (move r l) (finds-once refl (c .sought .found) (y .chosen .sought .found)) ∙ sym (y .is))
+      let c = chosen-once tree (subst (λ u. Chosen (scene (s .ns) u (s .a)) j q t₁ (x .picked)) (sets-once (x .sets) (y .sets)) (x .chosen)) (y .chosen) in
+      (c .0, x .is ∙ ap (λ p. move r l (p .rest)) (c .1) ∙ sym (y .is))
 
   module _ (i k : ℕ) where
     std-once : (v : Sense) (x : Standing) → hands-std s i k v x t₁ y₁ → hands-std s i k v x t₂ y₂ → Alike t₁ y₁ t₂ y₂
@@ -113,10 +86,14 @@ module _ (s : Scene) (x : Move) {v : Sense} {e : ℕ} (t′ : List ℕ) (y : Mov
       = subst (λ r. hands-by s (x .node) (x .place) r (stance-of r (node (s .ns) (x .node)) (modes (s .t) (x .node))) t′ y) f h in
       subst (λ z. hands-std s (x .node) (x .place) v z t′ y) d g
 
-pub makes-once : (ns : List ℕ) → Tree (shape ns) → ChosenOnce ns → {s : Scene} {x : Move} {t₁ t₂ : List ℕ} → s .ns ≡ ns → Makes s x t₁ → Makes s x t₂ → t₁ ≡ t₂
-makes-once ns tree once f (takes r e w) (takes r′ e′ w′) = sets-once w w′
-makes-once ns tree once {s = s} {x = x} f (takes r e w) (hands {y = y} {t₁ = u} h m) = absurd (no-hand s x u y r e h)
-makes-once ns tree once {s = s} {x = x} f (hands {y = y} {t₁ = u} h m) (takes r e w) = absurd (no-hand s x u y r e h)
-makes-once ns tree once {s = s} {x = x} {t₂ = t₂} f (hands h m) (hands h′ m′) =
-    let d = hands-once s (subst (λ z. Tree (shape z)) (sym f) tree) (subst ChosenOnce (sym f) once) x h h′ in
-    makes-once ns tree once f m (subst₂ (λ u z. Makes (scene (s .ns) u (s .a)) z t₂) (sym (d .0)) (sym (d .1)) m′)
+pub makes-once : (ns : List ℕ) → Tree (shape ns) → {s : Scene} {x : Move} {t₁ t₂ : List ℕ} → s .ns ≡ ns → Makes s x t₁ → Makes s x t₂ → t₁ ≡ t₂
+makes-once ns tree f (takes r e w) (takes r′ e′ w′) = sets-once w w′
+makes-once ns tree {s = s} {x = x} f (takes r e w) (hands {y = y} {t₁ = u} h m) = absurd (no-hand s x u y r e h)
+makes-once ns tree {s = s} {x = x} f (hands {y = y} {t₁ = u} h m) (takes r e w) = absurd (no-hand s x u y r e h)
+makes-once ns tree {s = s} {x = x} {t₂ = t₂} f (hands h m) (hands h′ m′) =
+    let d = hands-once s (subst (λ z. Tree (shape z)) (sym f) tree) x h h′ in
+    makes-once ns tree f m (subst₂ (λ u z. Makes (scene (s .ns) u (s .a)) z t₂) (sym (d .0)) (sym (d .1)) m′)
+
+-- a step of a node in a role, at a place, has one content of the bytes after
+pub step-once : {s : Scene} {r : Role} {i k : ℕ} {t₁ t₂ : List ℕ} → Tree (shape (s .ns)) → Stepped s r i k t₁ → Stepped s r i k t₂ → t₁ ≡ t₂
+step-once {s} tree x y = makes-once (s .ns) tree refl (x .makes) (y .makes)

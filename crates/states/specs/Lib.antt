@@ -5,6 +5,7 @@ pub mod Stored
 pub mod LiveParts
 pub mod Roles
 pub mod Scenes
+pub mod Becomes
 pub mod Hands
 pub mod Contracts
 -- Theorems.
@@ -14,4 +15,5 @@ pub mod NotedLaws
 pub mod ChildLaws
 pub mod DrawnLaws
 pub mod RedrawLaws
+pub mod BecomesLaws
 pub mod HandsLaws

@@ -1,6 +1,6 @@
 -- What the judge's functions on a state ask and leave alone: `Sound` of the table, `Spot` of a node and a stretch of the work bytes,
--- `Sets`, `Kept` and `Redrawn` of the modes before and after; and what a choice among compensations is (`Chosen`).
--- Definitions only. Assumes nothing.
+-- `Sets`, `Kept` and `Redrawn` of the modes before and after; and what is asked of a choice among compensations (`Ask`). What the
+-- choice is, is in Becomes. Definitions only. Assumes nothing.
 use Prim.Native.Nat.{ℕ, _+_, _*_, _<_, _≤_}
 use mathlib.Core.Path.{_≡_}
 use mathlib.Core.List.{List}
@@ -12,13 +12,10 @@ use Rattle.flow.specs.Kinds.{shape}
 use Rattle.flow.specs.Trees.{Under, Tree}
 use Rattle.tallies.specs.Capped.{cap}
 use Rattle.tallies.specs.Counts.{sum-of, weight}
-use Rattle.tallies.specs.Sought.{Sought}
 use Rattle.tallies.specs.declared.Weight.{Weight}
 use Rattle.states.specs.Standings.{as-drawn}
 use Rattle.states.specs.State.{Part, part, modes, counts}
 use Rattle.states.specs.Stored.{Right, stored, noted}
-use Rattle.states.specs.declared.Picked.{Picked}
-use Rattle.states.specs.declared.Sense.the-variants.{Undoing}
 
 -- a table that checks 1 to 9 passed
 pub record Sound (ns : List ℕ) : Type 0 where
@@ -82,8 +79,3 @@ pub record Ask : Type 0 where
 
 abbrev pub ask : Closing → Weight → ℕ → Ask
 ask w g j = record { closing = w; weight = g; number = j }
-
--- a compensation is chosen: t′ are the modes after, p what is known of it
-pub record Chosen (s : Scene) (i : ℕ) (q : Ask) (t′ : List ℕ) (p : Picked) : Type 0 where
-  pub sought : Sought (s .a) (q .weight) (comps (part-at s i .run) (q .closing)) (q .number) (part (s .ns) (modes t′) i .std Undoing) (p .rest) (p .moves) (p .able)
-  pub kept : Kept (s .ns) i (modes (s .t)) (modes t′)

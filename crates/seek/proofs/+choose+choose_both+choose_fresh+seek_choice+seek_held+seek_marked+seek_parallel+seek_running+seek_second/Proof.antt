@@ -350,7 +350,7 @@ seek-held-same-length : (t : ℕ) → seek-held-lts.Need-same-length (seek-held-
 seek-held-same-length t c = c .before .before .seek-second .kept .1 .0
 
 seek-held-returns : (t : ℕ) → seek-held-lts.Need-returns (seek-held-calls t) (seek-held-at t) seek-held.Post
-seek-held-returns t c = held-chosen (c .before .before .before .before .before .before .before .before .before .before .pre .1 .0) (c .before .before .seek-second .ensures)
+seek-held-returns t c = held-chosen (c .before .before .before .before .before .before .before .before .before .before .pre .1 .0) (c .before .before .before .before .count-std .ensures) (c .before .before .seek-second .ensures)
 
 seek-marked-set-mode-requires : (t : ℕ) → seek-marked-lts.Need-set-mode-requires (seek-marked-calls t) (seek-marked-at t) seek-marked.Post
 seek-marked-set-mode-requires t c κs = c .before .before .before .before .pre .1 .0 .spot .room
