@@ -182,54 +182,92 @@ fn moves_before(able: bool, l: u32, k: u32) -> u32
     if able { tallies::sum(l, k) } else { l }
 }
 
-// Parallel: what a compensation of the first side by x weighs with all that go with it.
-fn beside(q: Word, w: u8, x: u8, g: Weight) -> Weight
-    requires { ⌜ (w < 3) × (x < 3) ⌝ }
-    ensures { λ r. ⌜ r ≡ besideG (partnersT q (closing w) (closing x)) g ⌝ }
+// Parallel: how many compensations of the second side, node i, go with endings x of the first and y of its own.
+fn fitting_count(d: &[u32], i: usize, w: u8, x: u8, y: u8) -> u32
+    requires { ⌜ 9 * i + 8 < length (now d) ⌝ }
+    requires { ⌜ (w < 3) × ((x < 3) × (y < 3)) ⌝ }
+    ensures { λ r. ⌜ r ≡ (fittingT (row (now (d .entry)) i) (closing w) (closing x) (closing y)) .many ⌝ }
 {
-    tallies::weight_beside(tallies::partners(q, w, x), g)
+    let y = tallies::fitting(word_at(d, i), w, x, y);
+    y.many
 }
 
-// All those by x, with all that go with them. Mostly there are none, and this is told before what goes with them is put together.
-fn side_weight(p: Word, q: Word, w: u8, x: u8, g: Weight) -> u32
+// And how many with x whatever its own.
+fn partner_count(d: &[u32], i: usize, w: u8, x: u8) -> u32
+    requires { ⌜ 9 * i + 8 < length (now d) ⌝ }
     requires { ⌜ (w < 3) × (x < 3) ⌝ }
-    ensures { λ r. ⌜ r ≡ total (byW p (closing x)) (besideG (partnersT q (closing w) (closing x)) g) ⌝ }
+    ensures { λ r. ⌜ r ≡ (partnersT (row (now (d .entry)) i) (closing w) (closing x)) .many ⌝ }
 {
-    let k = tallies::tally_by(p, x);
+    let a = fitting_count(d, i, w, x, tallies::RANK_DONE);
+    let b = fitting_count(d, i, w, x, tallies::RANK_WITHDRAWN);
+    let c = fitting_count(d, i, w, x, tallies::RANK_FAILED);
+    tallies::sum(tallies::sum(a, b), c)
+}
+
+// What a compensation of the first side by x weighs with all that go with it. Where only they are counted, their number is enough.
+fn beside(d: &[u32], i: usize, w: u8, x: u8, g: Weight) -> Weight
+    requires { ⌜ 9 * i + 8 < length (now d) ⌝ }
+    requires { ⌜ (w < 3) × (x < 3) ⌝ }
+    ensures { λ r. ⌜ r ≡ besideG (partnersT (row (now (d .entry)) i) (closing w) (closing x)) g ⌝ }
+{
+    if tallies::own_only(g) {
+        let own = tallies::product(g.own, partner_count(d, i, w, x));
+        return Weight {
+            own,
+            moves: 0,
+            able: 0,
+        };
+    }
+    tallies::weight_beside(tallies::partners(word_at(d, i), w, x), g)
+}
+
+// All those of the first side, by x, with all that go with them. Most are none, so this is told before.
+fn side_weight(d: &[u32], two: Two, w: u8, x: u8, g: Weight) -> u32
+    requires { ⌜ (9 * two .first + 8 < length (now d)) × (9 * two .second + 8 < length (now d)) ⌝ }
+    requires { ⌜ (w < 3) × (x < 3) ⌝ }
+    ensures { λ r. ⌜ r ≡ total (byW (row (now (d .entry)) (two .first)) (closing x)) (besideG (partnersT (row (now (d .entry)) (two .second)) (closing w) (closing x)) g) ⌝ }
+{
+    let k = tally_at(d, two.first, x);
     if (k.many == 0) & (k.able == 0) & (k.moves == 0) {
         return 0;
     }
-    tallies::weight_total(k, beside(q, w, x, g))
+    tallies::weight_total(k, beside(d, two.second, w, x, g))
 }
 
 // By what the first side ends.
-fn first_ending(p: Word, q: Word, w: u8, g: Weight, j: u32) -> Fall
+fn first_ending(d: &[u32], two: Two, w: u8, g: Weight, j: u32) -> Fall
+    requires { ⌜ (9 * two .first + 8 < length (now d)) × (9 * two .second + 8 < length (now d)) ⌝ }
     requires { ⌜ w < 3 ⌝ }
-    ensures { λ r. ⌜ Fallen (total (byW p done) (besideG (partnersT q (closing w) done) g)) (total (byW p withdrawn) (besideG (partnersT q (closing w) withdrawn) g)) j (r .ending) (r .rest) ⌝ }
+    ensures { λ r. ⌜ Fallen (total (byW (row (now (d .entry)) (two .first)) done) (besideG (partnersT (row (now (d .entry)) (two .second)) (closing w) done) g)) (total (byW (row (now (d .entry)) (two .first)) withdrawn) (besideG (partnersT (row (now (d .entry)) (two .second)) (closing w) withdrawn) g)) j (r .ending) (r .rest) ⌝ }
 {
     ending_at(
-        side_weight(p, q, w, tallies::RANK_DONE, g),
-        side_weight(p, q, w, tallies::RANK_WITHDRAWN, g),
+        side_weight(d, two, w, tallies::RANK_DONE, g),
+        side_weight(d, two, w, tallies::RANK_WITHDRAWN, g),
         j,
     )
 }
 
 // All compensations of the second side by y that go with an ending x of the first.
-fn fitting_weight(q: Word, w: u8, x: u8, y: u8, g: Weight) -> u32
+fn fitting_weight(d: &[u32], i: usize, w: u8, x: u8, y: u8, g: Weight) -> u32
+    requires { ⌜ 9 * i + 8 < length (now d) ⌝ }
     requires { ⌜ (w < 3) × ((x < 3) × (y < 3)) ⌝ }
-    ensures { λ r. ⌜ r ≡ total (fittingT q (closing w) (closing x) (closing y)) g ⌝ }
+    ensures { λ r. ⌜ r ≡ total (fittingT (row (now (d .entry)) i) (closing w) (closing x) (closing y)) g ⌝ }
 {
-    tallies::weight_total(tallies::fitting(q, w, x, y), g)
+    if tallies::own_only(g) {
+        return tallies::product(g.own, fitting_count(d, i, w, x, y));
+    }
+    tallies::weight_total(tallies::fitting(word_at(d, i), w, x, y), g)
 }
 
 // By what the second side ends, where the first ends by x.
-fn second_ending(q: Word, w: u8, x: u8, g: Weight, j: u32) -> Fall
+fn second_ending(d: &[u32], i: usize, w: u8, x: u8, g: Weight, j: u32) -> Fall
+    requires { ⌜ 9 * i + 8 < length (now d) ⌝ }
     requires { ⌜ (w < 3) × (x < 3) ⌝ }
-    ensures { λ r. ⌜ Fallen (total (fittingT q (closing w) (closing x) done) g) (total (fittingT q (closing w) (closing x) withdrawn) g) j (r .ending) (r .rest) ⌝ }
+    ensures { λ r. ⌜ Fallen (total (fittingT (row (now (d .entry)) i) (closing w) (closing x) done) g) (total (fittingT (row (now (d .entry)) i) (closing w) (closing x) withdrawn) g) j (r .ending) (r .rest) ⌝ }
 {
     ending_at(
-        fitting_weight(q, w, x, tallies::RANK_DONE, g),
-        fitting_weight(q, w, x, tallies::RANK_WITHDRAWN, g),
+        fitting_weight(d, i, w, x, tallies::RANK_DONE, g),
+        fitting_weight(d, i, w, x, tallies::RANK_WITHDRAWN, g),
         j,
     )
 }
@@ -479,9 +517,7 @@ fn seek_parallel(
 {
     let w = q.closing;
     let g = q.weight;
-    let first = word_at(d, two.first);
-    let second = word_at(d, two.second);
-    let x = first_ending(first, second, w, g, q.number);
+    let x = first_ending(d, two, w, g, q.number);
     let k = choose(
         ns,
         t,
@@ -489,11 +525,11 @@ fn seek_parallel(
         d,
         two.first,
         x.ending,
-        beside(second, w, x.ending, g),
+        beside(d, two.second, w, x.ending, g),
         x.rest,
     );
     let within = tallies::weight_within(g, k.moves, k.able);
-    let y = second_ending(second, w, x.ending, within, k.rest);
+    let y = second_ending(d, two.second, w, x.ending, within, k.rest);
     let l = choose(ns, t, a, d, two.second, y.ending, within, y.rest);
     Picked {
         rest: l.rest,

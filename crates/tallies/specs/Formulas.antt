@@ -206,6 +206,10 @@ movesG = weighs 0 1 0
 abbrev pub holdG : ℕ → Weight
 holdG n = weighs n 0 0
 
+-- a compensation weighs by itself alone
+abbrev pub is-own : Weight → Bool
+is-own g = eqb (g .moves) 0 && eqb (g .able) 0
+
 -- what k weighs with all l;k, l of t
 unfoldable pub afterG : Tally → Weight → Weight
 afterG t g = weighs (cap (cap (g .own * t .many) + cap (g .moves * t .moves))) (cap (g .moves * t .able)) (cap (g .able * t .able))

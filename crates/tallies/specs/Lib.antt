@@ -16,3 +16,4 @@ pub mod SeekLaws
 pub mod StepLaws
 pub mod RuledOut
 pub mod BareLaws
+pub mod OwnLaws

@@ -4,7 +4,7 @@
 ghost use mathlib.Core.Path.{_≡_};
 ghost use Prim.Native.Nat.{_+_, _*_, _<_};
 ghost use Rattle.tallies.specs.Capped.{cap};
-ghost use Rattle.tallies.specs.Formulas.{closing, rank, viewed, skipV, throwV, yieldV, evV, altV, seqV, hndV, endsV, meetV, bothV, parV, tallied, noneT, oneT, whenT, plusT, seqT, anyV, parT, worded, byW, blkV, pairW, cseqW, heldW, caltW, fittingT, partnersT, bothT, cparW, skippW, throwwW, yielddW, weighs, total, afterG, insideG, besideG, withinG};
+ghost use Rattle.tallies.specs.Formulas.{closing, rank, viewed, skipV, throwV, yieldV, evV, altV, seqV, hndV, endsV, meetV, bothV, parV, tallied, noneT, oneT, whenT, plusT, seqT, anyV, parT, worded, byW, blkV, pairW, cseqW, heldW, caltW, fittingT, partnersT, bothT, cparW, skippW, throwwW, yielddW, weighs, is-own, total, afterG, insideG, besideG, withinG};
 ghost use mathlib.Core.Bool.{cond};
 ghost use Rattle.calculus.specs.Term.{join};
 ghost use Rattle.calculus.specs.Successors.{eqc, closings, some-of};
@@ -71,7 +71,7 @@ pub fn sum(a: u32, b: u32) -> u32
     capped(wide(a) + wide(b))
 }
 
-fn product(a: u32, b: u32) -> u32
+pub fn product(a: u32, b: u32) -> u32
     ensures { λ r. ⌜ r ≡ cap (a * b) ⌝ }
 {
     capped(wide(a) * wide(b))
@@ -517,6 +517,13 @@ fn weight_of(own: u32, moves: u32, able: u32) -> Weight
     Weight { own, moves, able }
 }
 
+// Whether a compensation weighs by itself alone, so that weighing is counting.
+pub fn own_only(g: Weight) -> bool
+    ensures { λ r. ⌜ r ≡ is-own g ⌝ }
+{
+    (g.moves == 0) & (g.able == 0)
+}
+
 // What all of a tally weigh.
 pub fn weight_total(t: Tally, g: Weight) -> u32
     ensures { λ r. ⌜ r ≡ total t g ⌝ }
@@ -570,6 +577,9 @@ pub fn weight_beside(t: Tally, g: Weight) -> Weight
 pub fn weight_within(g: Weight, moves: u32, able: bool) -> Weight
     ensures { λ r. ⌜ r ≡ withinG g moves able ⌝ }
 {
+    if own_only(g) {
+        return g;
+    }
     weight_of(
         sum(g.own, product(g.moves, moves)),
         g.moves,

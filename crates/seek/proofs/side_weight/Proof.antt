@@ -1,18 +1,20 @@
--- `seek::side_weight` meets its contract: nothing weighs nothing, and otherwise what the three calls ensure is put together. Assumes nothing.
+-- `seek::side_weight` meets its contract: nothing weighs nothing, and otherwise what the calls ensure is put together. Assumes nothing.
 use mathlib.Core.Path.{_∙_, ap}
-use Rattle.tallies.specs.Formulas.{closing, total, besideG, partnersT}
-use Rattle.tallies.specs.BareLaws.{nothing-weighs}
 use borrow.Author.Needs.{needs}
+use Rattle.seek.specs.Weighed.{row}
+use Rattle.tallies.specs.BareLaws.{nothing-weighs}
+use Rattle.tallies.specs.Formulas.{closing, total, besideG, partnersT}
 use Rattle.seek.proofs.side_weight.Statement.{statement}
 use Rattle.seek.proofs.side_weight.Tie as tie
 
-tally-by-requires : tie.Need-tally-by-requires
-tally-by-requires c κs = search needs
+tally-at-requires : tie.Need-tally-at-requires
+tally-at-requires c κs = search needs
 
 returns : tie.Need-returns
 returns c =
-    let k = c .before .before .before .before .tally-by in
-    let g = besideG (partnersT (c .before .before .before .before .before .args .q) (closing (c .before .before .before .before .before .args .w)) (closing (c .before .before .before .before .before .args .x))) (c .before .before .before .before .before .args .g) in
+    let a = c .before .before .before .before .before .before .args in
+    let k = c .before .before .before .before .tally-at in
+    let g = besideG (partnersT (row (a .d .now) (a .two .second)) (closing (a .w)) (closing (a .x))) (a .g) in
     nothing-weighs (k .result) g (c .if1 .taken) ∙ ap (λ x. total x g) (k .ensures)
 
 beside-requires : tie.Need-beside-requires
@@ -26,4 +28,4 @@ returns-2 c = cc
 
 pub side-weight-spec : {M : Type 1} → statement M
 side-weight-spec =
-    tie.close (tie.spec tally-by-requires returns beside-requires weight-total-requires returns-2)
+    tie.close (tie.spec tally-at-requires returns beside-requires weight-total-requires returns-2)
