@@ -1,25 +1,25 @@
-use Rattle.judge.proofs.OneRecord.{closing-low, closing-high, closing-tried, event-low, event-tried}
-use borrow.Author.Tests.{not-true, not-false}
-use Rattle.flow.specs.Records.{records}
-use Rattle.judge.proofs.Deeper.{memory-fits, visited-known, visited-kept}
-use Rattle.judge.specs.JudgedLaws.{visit-within}
-use Rattle.judge.proofs.Deeper.{Going}
-use Rattle.judge.specs.Visits.{Truthful}
-use Prim.Native.Nat.{_+_, _-_, _*_}
-use mathlib.Core.Path.{_≡_, refl, sym, ap, subst, _∙_}
+-- The counted search meets its contract: `visit` recalls a state or enters it, `visit_each` and `visit_closing` count its successors,
+-- `try_each` goes through them and `follow` into one. The recursion's measure is six for each record that is left. The loop's invariant
+-- is `Going`: what is kept, what was learned, and that what comes of all successors is what comes of those still to be tried. Assumes
+-- nothing.
+use Prim.Native.Nat.{_+_, _-_, _*_, ℕ, _<_}
+use mathlib.Core.Path.{refl, sym, subst, _∙_}
 use native.Mathlib.Omega.{arith}
 use lib.ListN.{length, drop, getD, length-drop}
 use borrow.Author.Needs.{needs}
-use Rattle.flow.specs.Refusals.{count}
-use Rattle.judge.specs.Visits.{state, Used, Learned, memory}
-use Rattle.judge.proofs.Numbers.{first-inner}
-use Rattle.judge.proofs.Stretches.{used-same, used-trans}
-use Rattle.judge.proofs.Turns.{Turn, turn-none, turn-over, turn-spent, turn-cost, turn-found, turn-on}
-use Rattle.judge.proofs.Memories.{learned-same, learned-trans, truthful-still, truthful-rest}
-use Rattle.judge.proofs.Deeper.{ready-some, ready-spot, last-fits, visited-spent, visited-last, visited-tried, ready-still, right-still, count-still, goes-still, two-stretches, copied-room, apply-asked, back-room, back-length, visit-asked, followed, rest-is, rest-length}
-use Prim.Native.Nat.{ℕ, _<_}
 use borrow.Fn.Kinds.{In}
 use borrow.Fn.PlainCycle.{Measures, is, falls, and}
+use Rattle.flow.specs.Records.{records}
+use Rattle.judge.specs.JudgedLaws.{visit-within}
+use Rattle.judge.specs.Visits.{Truthful, state, memory}
+use Rattle.flow.specs.Refusals.{count}
+use Rattle.memory.proofs.recall.Reads as recall-reads
+use Rattle.judge.proofs.OneRecord.{closing-low, closing-high, closing-tried, event-low, event-tried}
+use Rattle.judge.proofs.Deeper.{memory-fits, visited-known, visited-kept, Going, ready-some, ready-spot, last-fits, visited-spent, visited-last, visited-tried, ready-still, right-still, count-still, goes-still, two-stretches, copied-room, apply-asked, back-room, back-length, visit-asked, followed, rest-is, rest-length}
+use Rattle.judge.proofs.Numbers.{first-inner}
+use Rattle.judge.proofs.Stretches.{used-same, used-trans}
+use Rattle.judge.proofs.Turns.{turn-none, turn-over, turn-spent, turn-cost, turn-found, turn-on}
+use Rattle.judge.proofs.Memories.{learned-same, learned-trans, truthful-still, truthful-rest}
 use Rattle.judge.proofs.enter.Reads as enter
 use Rattle.judge.proofs.enter.Kinds as enter-kinds
 use Rattle.judge.proofs.+enter+follow+try_each+visit+visit_closing+visit_each.Lts-enter as enter-lts
@@ -49,7 +49,6 @@ use Rattle.judge.proofs.key_of.Reads as key-of-reads
 use Rattle.judge.proofs.known.Reads as known-reads
 use Rattle.judge.proofs.role_after.Reads as role-after-reads
 use Rattle.judge.proofs.successors.Reads as successors-reads
-use Rattle.memory.proofs.recall.Reads as recall-reads
 use Rattle.judge.proofs.+enter+follow+try_each+visit+visit_closing+visit_each.{statement}
 use Rattle.judge.proofs.+enter+follow+try_each+visit+visit_closing+visit_each.Tie.{close}
 
@@ -134,31 +133,25 @@ visit-closing-calls t = (closings-reads.Asked, closings-reads.Learnt, try-each-b
 abbrev visit-each-calls : ℕ → visit-each-lts.Claims
 visit-each-calls t = (closes-reads.Asked, closes-reads.Learnt, visit-closing-below t, visit-closing.Post, successors-reads.Asked, successors-reads.Learnt, try-each-below t, try-each.Post)
 
--- src/lib.rt:322:9
 enter-returns : (t : ℕ) → enter-lts.Need-returns (enter-calls t) (enter-at t) enter.Post
 enter-returns t c =
     let a = c .before .before .before .before .before .before .args in
     visited-spent (a .ns .now) (a .rs .now) (a .work .now) (a .role) (a .left) (memory (a .modes .now) (a .marks .now)) (c .if1 .taken)
 
--- src/lib.rt:325:26
 enter-shared-slice-read-finish : (t : ℕ) → enter-lts.Need-shared-slice-read-finish (enter-calls t) (enter-at t) enter.Post
 enter-shared-slice-read-finish t c = omega arith
 
--- src/lib.rt:325:39
 enter-sub-finish : (t : ℕ) → enter-lts.Need-sub-finish (enter-calls t) (enter-at t) enter.Post
 enter-sub-finish t c = omega (arith, c .before .before .before .if1 .left)
 
--- src/lib.rt:325:9
 enter-finish-requires : (t : ℕ) → enter-lts.Need-finish-requires (enter-calls t) (enter-at t) enter.Post
 enter-finish-requires t c κs =
     let r = c .before .before .before .before .before .before .before .before .before .pre .1 .0 in
     (ready-spot r, (r .some, last-fits r (c .before .before .if2 .taken)))
 
--- src/lib.rt:327:40
 enter-sub-visit-each : (t : ℕ) → enter-lts.Need-sub-visit-each (enter-calls t) (enter-at t) enter.Post
 enter-sub-visit-each t c = omega (arith, c .before .before .if1 .left)
 
--- src/lib.rt:327:9
 enter-visit-each-requires : (t : ℕ) → enter-lts.Need-visit-each-requires (enter-calls t) (enter-at t) enter.Post
 enter-visit-each-requires t c κs =
     let s = c .before .before .before .before .before .before .before .before .before .before in
@@ -166,29 +159,23 @@ enter-visit-each-requires t c κs =
     let o = ready-some r in
     (omega (arith, s .pre .0), (r, (s .pre .1 .1, (omega (arith, c .before .before .before .if2 .left), omega (arith, s .fits .left, c .before .before .before .before .if1 .left)))))
 
--- src/lib.rt:308:1
 enter-same-length : (t : ℕ) → enter-lts.Need-same-length (enter-calls t) (enter-at t) enter.Post
 enter-same-length t c = search needs
 
--- src/lib.rt:308:1
 enter-returns-2 : (t : ℕ) → enter-lts.Need-returns-2 (enter-calls t) (enter-at t) enter.Post
 enter-returns-2 t c =
     let a = c .before .before .before .before .before .before .before .before .before .before .args in
     visited-last (a .ns .now) (a .rs .now) (a .work .now) (a .role) (a .left) (memory (a .modes .now) (a .marks .now)) (c .before .before .before .before .if1 .left) (c .finish .result) (c .before .before .before .if2 .taken) (c .finish .ensures)
 
--- src/lib.rt:308:1
 enter-same-length-2 : (t : ℕ) → enter-lts.Need-same-length-2 (enter-calls t) (enter-at t) enter.Post
 enter-same-length-2 t c = c .before .before .before .before .before .before .visit-each .kept .1 .1 .0
 
--- src/lib.rt:308:1
 enter-same-length-3 : (t : ℕ) → enter-lts.Need-same-length-3 (enter-calls t) (enter-at t) enter.Post
 enter-same-length-3 t c = c .before .before .before .before .before .before .visit-each .kept .1 .1 .1 .1 .1 .0
 
--- src/lib.rt:308:1
 enter-same-length-4 : (t : ℕ) → enter-lts.Need-same-length-4 (enter-calls t) (enter-at t) enter.Post
 enter-same-length-4 t c = c .before .before .before .before .before .before .visit-each .kept .1 .1 .1 .1 .1 .1 .0
 
--- src/lib.rt:308:1
 enter-returns-3 : (t : ℕ) → enter-lts.Need-returns-3 (enter-calls t) (enter-at t) enter.Post
 enter-returns-3 t c =
     let s = c .before .before .before .before .before .before .before .before .before .before .before .before .before .before .before .before .before in
@@ -196,75 +183,62 @@ enter-returns-3 t c =
     let v = c .before .before .before .before .before .before .visit-each in
     visited-tried (a .ns .now) (a .rs .now) (a .work .now) (a .role) (a .left) (memory (a .modes .now) (a .marks .now)) (c .before .before .before .before .before .before .before .before .before .before .before .if1 .left) (v .result) (v .last .1 .1 .0) (memory (v .last .1 .1 .1 .1 .1 .0) (v .last .1 .1 .1 .1 .1 .1 .0)) (ready-some (s .pre .1 .0)) (v .ensures)
 
--- src/lib.rt:478:5
 follow-copy-down-requires : (t : ℕ) → follow-lts.Need-copy-down-requires (follow-calls t) (follow-at t) follow.Post
 follow-copy-down-requires t c κs =
     let p = c .before .before .before .before .before .before .before .pre .1 in
     let o = two-stretches (p .0) (p .1 .1 .0) in
     omega arith
 
--- src/lib.rt:479:13
 follow-mul-w : (t : ℕ) → follow-lts.Need-mul-w (follow-calls t) (follow-at t) follow.Post
 follow-mul-w t c = omega arith
 
--- src/lib.rt:480:15
 follow-sub-apply : (t : ℕ) → follow-lts.Need-sub-apply (follow-calls t) (follow-at t) follow.Post
 follow-sub-apply t c =
     let p = c .before .before .before .before .before .before .before .before .before .before .pre .1 in
     let o = copied-room (p .0) (p .1 .1 .0) (c .before .before .copy-down .last .0) (c .before .before .copy-down .ensures) in
     omega arith
 
--- src/lib.rt:480:15
 follow-part-apply-start : (t : ℕ) → follow-lts.Need-part-apply-start (follow-calls t) (follow-at t) follow.Post
 follow-part-apply-start t c =
     let p = c .before .before .before .before .before .before .before .before .before .before .pre .1 in
     let o = copied-room (p .0) (p .1 .1 .0) (c .before .before .copy-down .last .0) (c .before .before .copy-down .ensures) in
     omega arith
 
--- src/lib.rt:480:15
 follow-part-apply-end : (t : ℕ) → follow-lts.Need-part-apply-end (follow-calls t) (follow-at t) follow.Post
 follow-part-apply-end t c = search needs
 
--- src/lib.rt:480:31
 follow-shared-slice-read-apply : (t : ℕ) → follow-lts.Need-shared-slice-read-apply (follow-calls t) (follow-at t) follow.Post
 follow-shared-slice-read-apply t c =
     let q = c .before .before .before .before .before .before .before .before .before .before .before .before .pre .1 .1 .1 .0 in
     omega arith
 
--- src/lib.rt:480:5
 follow-apply-requires : (t : ℕ) → follow-lts.Need-apply-requires (follow-calls t) (follow-at t) follow.Post
 follow-apply-requires t c κs =
     let s = c .before .before .before .before .before .before .before .before .before .before .before .before in
     let p = s .pre .1 in
     apply-asked (p .0) (p .1 .1 .0) (c .before .before .before .before .copy-down .last .0) (c .before .before .before .before .copy-down .ensures) (s .args .c .now) (s .args .d .now) (s .args .k) (p .1 .1 .1 .0) (p .1 .1 .1 .1)
 
--- src/lib.rt:481:34
 follow-shared-slice-read-role-after : (t : ℕ) → follow-lts.Need-shared-slice-read-role-after (follow-calls t) (follow-at t) follow.Post
 follow-shared-slice-read-role-after t c =
     let q = c .before .before .before .before .before .before .before .before .before .before .before .before .before .before .before .before .pre .1 .1 .1 .0 in
     omega arith
 
--- src/lib.rt:481:9
 follow-role-after-requires : (t : ℕ) → follow-lts.Need-role-after-requires (follow-calls t) (follow-at t) follow.Post
 follow-role-after-requires t c κs = search needs
 
--- src/lib.rt:482:15
 follow-sub-visit : (t : ℕ) → follow-lts.Need-sub-visit (follow-calls t) (follow-at t) follow.Post
 follow-sub-visit t c =
     let q = c .before .before .before .before .before .before .before .before .before .before .before .before .before .before .before .before .before .pre .1 .1 .1 .0 in
     omega arith
 
--- src/lib.rt:482:15
 follow-part-visit-start : (t : ℕ) → follow-lts.Need-part-visit-start (follow-calls t) (follow-at t) follow.Post
 follow-part-visit-start t c =
     let q = c .before .before .before .before .before .before .before .before .before .before .before .before .before .before .before .before .before .pre .1 .1 .1 .0 in
     omega arith
 
--- src/lib.rt:482:15
 follow-part-visit-end : (t : ℕ) → follow-lts.Need-part-visit-end (follow-calls t) (follow-at t) follow.Post
 follow-part-visit-end t c = search needs
 
--- src/lib.rt:482:25
 follow-sub-visit-2 : (t : ℕ) → follow-lts.Need-sub-visit-2 (follow-calls t) (follow-at t) follow.Post
 follow-sub-visit-2 t c =
     let s = c .before .before .before .before .before .before .before .before .before .before .before .before .before .before .before .before .before .before in
@@ -273,7 +247,6 @@ follow-sub-visit-2 t c =
     let o = back-room (p .0) (p .1 .1 .0) (c .before .before .before .before .before .before .before .before .before .before .copy-down .last .0) (c .before .before .before .before .before .before .before .before .before .before .copy-down .ensures) (s .args .k) (a .last .1 .0) (a .kept .1 .0) (a .ensures) in
     omega arith
 
--- src/lib.rt:482:25
 follow-part-visit-start-2 : (t : ℕ) → follow-lts.Need-part-visit-start-2 (follow-calls t) (follow-at t) follow.Post
 follow-part-visit-start-2 t c =
     let s = c .before .before .before .before .before .before .before .before .before .before .before .before .before .before .before .before .before .before in
@@ -282,11 +255,9 @@ follow-part-visit-start-2 t c =
     let o = back-room (p .0) (p .1 .1 .0) (c .before .before .before .before .before .before .before .before .before .before .copy-down .last .0) (c .before .before .before .before .before .before .before .before .before .before .copy-down .ensures) (s .args .k) (a .last .1 .0) (a .kept .1 .0) (a .ensures) in
     omega arith
 
--- src/lib.rt:482:25
 follow-part-visit-end-2 : (t : ℕ) → follow-lts.Need-part-visit-end-2 (follow-calls t) (follow-at t) follow.Post
 follow-part-visit-end-2 t c = search needs
 
--- src/lib.rt:482:5
 follow-visit-requires : (t : ℕ) → follow-lts.Need-visit-requires (follow-calls t) (follow-at t) follow.Post
 follow-visit-requires t c κs =
     let s = c .before .before .before .before .before .before .before .before .before .before .before .before .before .before .before .before .before .before .before .before .before in
@@ -301,7 +272,6 @@ follow-visit-requires t c κs =
       ),
     )
 
--- src/lib.rt:458:1
 follow-same-length : (t : ℕ) → follow-lts.Need-same-length (follow-calls t) (follow-at t) follow.Post
 follow-same-length t c =
     let s = c .before .before .before .before .before .before .before .before .before .before .before .before .before .before .before .before .before .before .before .before .before .before .before .before .before .before .before .before in
@@ -310,15 +280,12 @@ follow-same-length t c =
     let v = c .before .before .before .before .before .before .visit in
     back-length (p .0) (p .1 .1 .0) (c .before .before .before .before .before .before .before .before .before .before .before .before .before .before .before .before .before .before .before .before .copy-down .last .0) (c .before .before .before .before .before .before .before .before .before .before .before .before .before .before .before .before .before .before .before .before .copy-down .ensures) (s .args .k) (a .last .1 .0) (a .kept .1 .0) (a .ensures) (v .last .1 .1 .0) (v .kept .1 .1 .0)
 
--- src/lib.rt:458:1
 follow-same-length-2 : (t : ℕ) → follow-lts.Need-same-length-2 (follow-calls t) (follow-at t) follow.Post
 follow-same-length-2 t c = c .before .before .before .before .before .before .visit .kept .1 .1 .1 .1 .1 .0
 
--- src/lib.rt:458:1
 follow-same-length-3 : (t : ℕ) → follow-lts.Need-same-length-3 (follow-calls t) (follow-at t) follow.Post
 follow-same-length-3 t c = c .before .before .before .before .before .before .visit .kept .1 .1 .1 .1 .1 .1 .0
 
--- src/lib.rt:458:1
 follow-returns : (t : ℕ) → follow-lts.Need-returns (follow-calls t) (follow-at t) follow.Post
 follow-returns t c =
     let s = c .before .before .before .before .before .before .before .before .before .before .before .before .before .before .before .before .before .before .before .before .before .before .before .before .before .before .before .before in
@@ -334,7 +301,6 @@ try-each-Inv-loop ns rs work₀ role left modes₀ marks₀ c d many k₀ far₀
 abbrev try-each-μ-loop : try-each-lts.MeasureT-loop
 try-each-μ-loop ns rs work₀ role left modes₀ marks₀ c d many k₀ far₀ rest₀ work modes marks k far rest = many - k
 
--- src/lib.rt:418:5
 try-each-loop-holds : (t : ℕ) → try-each-lts.Need-loop-holds (try-each-calls t) (try-each-at t) try-each.Post try-each-Inv-loop try-each-μ-loop
 try-each-loop-holds t c =
     let a = c .before .before .before .before .before .before .args in
@@ -347,7 +313,6 @@ try-each-loop-holds t c =
       turn = turn-none (state (a .ns .now) (a .role) (a .work .now)) (getD (a .rs .now) 0 0) (drop 1 (a .rs .now)) (a .left);
     }
 
--- src/lib.rt:419:15
 try-each-follow-requires : (t : ℕ) → try-each-lts.Need-follow-requires (try-each-calls t) (try-each-at t) try-each.Post try-each-Inv-loop try-each-μ-loop
 try-each-follow-requires t c κs =
     let s = c .before .before .before .before .before .before .before .before .before .before .before in
@@ -371,23 +336,18 @@ try-each-follow-requires t c κs =
       ),
     )
 
--- src/lib.rt:421:17
 try-each-enum-told : (t : ℕ) → try-each-lts.Need-enum-told (try-each-calls t) (try-each-at t) try-each.Post try-each-Inv-loop try-each-μ-loop
 try-each-enum-told t c = search needs
 
--- src/lib.rt:421:17
 try-each-same-length : (t : ℕ) → try-each-lts.Need-same-length (try-each-calls t) (try-each-at t) try-each.Post try-each-Inv-loop try-each-μ-loop
 try-each-same-length t c = c .before .before .before .before .before .before .before .before .follow .kept .1 .1 .1 .1 .0 ∙ c .before .before .before .before .before .before .before .before .before .before .before .before .before .loop .inv .long
 
--- src/lib.rt:421:17
 try-each-same-length-2 : (t : ℕ) → try-each-lts.Need-same-length-2 (try-each-calls t) (try-each-at t) try-each.Post try-each-Inv-loop try-each-μ-loop
 try-each-same-length-2 t c = c .before .before .before .before .before .before .before .before .follow .kept .1 .1 .1 .1 .1 .1 .1 .1 .0 ∙ c .before .before .before .before .before .before .before .before .before .before .before .before .before .loop .inv .wide
 
--- src/lib.rt:421:17
 try-each-same-length-3 : (t : ℕ) → try-each-lts.Need-same-length-3 (try-each-calls t) (try-each-at t) try-each.Post try-each-Inv-loop try-each-μ-loop
 try-each-same-length-3 t c = c .before .before .before .before .before .before .before .before .follow .kept .1 .1 .1 .1 .1 .1 .1 .1 .1 .0 ∙ c .before .before .before .before .before .before .before .before .before .before .before .before .before .loop .inv .deep
 
--- src/lib.rt:421:17
 try-each-returns : (t : ℕ) → try-each-lts.Need-returns (try-each-calls t) (try-each-at t) try-each.Post try-each-Inv-loop try-each-μ-loop
 try-each-returns t c =
     let s = c .before .before .before .before .before .before .before .before .before .before .before .before .before .before .before .before .before .before .before .before in
@@ -402,11 +362,9 @@ try-each-returns t c =
       learned = learned-trans (a .ns .now) (a .rs .now) (v .learned) (f .ensures .learned);
     }
 
--- src/lib.rt:423:23
 try-each-enum-known-trip : (t : ℕ) → try-each-lts.Need-enum-known-trip (try-each-calls t) (try-each-at t) try-each.Post try-each-Inv-loop try-each-μ-loop
 try-each-enum-known-trip t c = search needs
 
--- src/lib.rt:424:17
 try-each-further-requires : (t : ℕ) → try-each-lts.Need-further-requires (try-each-calls t) (try-each-at t) try-each.Post try-each-Inv-loop try-each-μ-loop
 try-each-further-requires t c κs =
     let s = c .before .before .before .before .before .before .before .before .before .before .before .before .before .before .before .before .before .before .before .before .before in
@@ -421,19 +379,15 @@ try-each-further-requires t c κs =
     let q = r .known .few in
     omega (arith, z .far)
 
--- src/lib.rt:427:21
 try-each-same-length-4 : (t : ℕ) → try-each-lts.Need-same-length-4 (try-each-calls t) (try-each-at t) try-each.Post try-each-Inv-loop try-each-μ-loop
 try-each-same-length-4 t c = c .before .before .before .before .before .before .before .before .before .before .before .follow .kept .1 .1 .1 .1 .0 ∙ c .before .before .before .before .before .before .before .before .before .before .before .before .before .before .before .before .loop .inv .long
 
--- src/lib.rt:427:21
 try-each-same-length-5 : (t : ℕ) → try-each-lts.Need-same-length-5 (try-each-calls t) (try-each-at t) try-each.Post try-each-Inv-loop try-each-μ-loop
 try-each-same-length-5 t c = c .before .before .before .before .before .before .before .before .before .before .before .follow .kept .1 .1 .1 .1 .1 .1 .1 .1 .0 ∙ c .before .before .before .before .before .before .before .before .before .before .before .before .before .before .before .before .loop .inv .wide
 
--- src/lib.rt:427:21
 try-each-same-length-6 : (t : ℕ) → try-each-lts.Need-same-length-6 (try-each-calls t) (try-each-at t) try-each.Post try-each-Inv-loop try-each-μ-loop
 try-each-same-length-6 t c = c .before .before .before .before .before .before .before .before .before .before .before .follow .kept .1 .1 .1 .1 .1 .1 .1 .1 .1 .0 ∙ c .before .before .before .before .before .before .before .before .before .before .before .before .before .before .before .before .loop .inv .deep
 
--- src/lib.rt:427:21
 try-each-returns-2 : (t : ℕ) → try-each-lts.Need-returns-2 (try-each-calls t) (try-each-at t) try-each.Post try-each-Inv-loop try-each-μ-loop
 try-each-returns-2 t c =
     let s = c .before .before .before .before .before .before .before .before .before .before .before .before .before .before .before .before .before .before .before .before .before .before .before in
@@ -449,15 +403,12 @@ try-each-returns-2 t c =
       learned = learned-trans (a .ns .now) (a .rs .now) (v .learned) (f .ensures .learned);
     }
 
--- src/lib.rt:435:9
 try-each-add-k : (t : ℕ) → try-each-lts.Need-add-k (try-each-calls t) (try-each-at t) try-each.Post try-each-Inv-loop try-each-μ-loop
 try-each-add-k t c = omega (arith, c .before .before .before .before .before .before .before .before .before .before .before .before .before .before .before .loop-test .taken, c .before .before .before .before .before .before .before .before .before .before .before .before .before .before .before .before .before .before .before .before .before .before .before .fits .many)
 
--- src/lib.rt:418:5
 try-each-loop-less : (t : ℕ) → try-each-lts.Need-loop-less (try-each-calls t) (try-each-at t) try-each.Post try-each-Inv-loop try-each-μ-loop
 try-each-loop-less t c = omega arith
 
--- src/lib.rt:418:5
 try-each-loop-again : (t : ℕ) → try-each-lts.Need-loop-again (try-each-calls t) (try-each-at t) try-each.Post try-each-Inv-loop try-each-μ-loop
 try-each-loop-again t c =
     let s = c .before .before .before .before .before .before .before .before .before .before .before .before .before .before .before .before .before .before .before .before .before .before .before in
@@ -476,19 +427,15 @@ try-each-loop-again t c =
       turn = turn-on (state (a .ns .now) (a .role) (a .work .now)) (getD (a .rs .now) 0 0) (drop 1 (a .rs .now)) (a .left) (v .turn) (f .result) (goes-still r (l .work) (v .used) (getD (a .rs .now) 0 0) (l .k) (f .ensures .goes)) (f .ensures .out) (x .given .0 .0) (x .given .1) (c .before .further .result) (c .before .further .ensures) (c .if1 .left);
     }
 
--- src/lib.rt:396:1
 try-each-same-length-7 : (t : ℕ) → try-each-lts.Need-same-length-7 (try-each-calls t) (try-each-at t) try-each.Post try-each-Inv-loop try-each-μ-loop
 try-each-same-length-7 t c = c .before .loop .inv .long
 
--- src/lib.rt:396:1
 try-each-same-length-8 : (t : ℕ) → try-each-lts.Need-same-length-8 (try-each-calls t) (try-each-at t) try-each.Post try-each-Inv-loop try-each-μ-loop
 try-each-same-length-8 t c = c .before .loop .inv .wide
 
--- src/lib.rt:396:1
 try-each-same-length-9 : (t : ℕ) → try-each-lts.Need-same-length-9 (try-each-calls t) (try-each-at t) try-each.Post try-each-Inv-loop try-each-μ-loop
 try-each-same-length-9 t c = c .before .loop .inv .deep
 
--- src/lib.rt:396:1
 try-each-returns-3 : (t : ℕ) → try-each-lts.Need-returns-3 (try-each-calls t) (try-each-at t) try-each.Post try-each-Inv-loop try-each-μ-loop
 try-each-returns-3 t c =
     let s = c .before .before .before .before .before .before .before .before in
@@ -501,35 +448,28 @@ try-each-returns-3 t c =
       learned = v .learned;
     }
 
--- src/lib.rt:296:9
 visit-key-of-requires : (t : ℕ) → visit-lts.Need-key-of-requires (visit-calls t) (visit-at t) visit.Post
 visit-key-of-requires t c κs = c .before .before .before .before .before .pre .1 .0 .known .few
 
--- src/lib.rt:297:11
 visit-recall-requires : (t : ℕ) → visit-lts.Need-recall-requires (visit-calls t) (visit-at t) visit.Post
 visit-recall-requires t c κs =
     let s = c .before .before .before .before .before .before .before .before .before in
     memory-fits (s .pre .1 .0) (memory (s .args .modes .now) (s .args .marks .now)) (c .before .before .before .key-of .ensures) (s .args .work .now) refl (s .pre .1 .1)
 
--- src/lib.rt:298:25
 visit-enum-known-seen : (t : ℕ) → visit-lts.Need-enum-known-seen (visit-calls t) (visit-at t) visit.Post
 visit-enum-known-seen t c = search needs
 
--- src/lib.rt:298:34
 visit-known-requires : (t : ℕ) → visit-lts.Need-known-requires (visit-calls t) (visit-at t) visit.Post
 visit-known-requires t c κs = search needs
 
--- src/lib.rt:299:27
 visit-enum-known-slot : (t : ℕ) → visit-lts.Need-enum-known-slot (visit-calls t) (visit-at t) visit.Post
 visit-enum-known-slot t c = search needs
 
--- src/lib.rt:300:17
 visit-enter-requires : (t : ℕ) → visit-lts.Need-enter-requires (visit-calls t) (visit-at t) visit.Post
 visit-enter-requires t c κs =
     let s = c .before .before .before .before .before .before .before .before .before .before .before .before .before .before .before .before in
     (omega (arith, s .pre .0), s .pre .1)
 
--- src/lib.rt:301:13
 visit-keep-requires : (t : ℕ) → visit-lts.Need-keep-requires (visit-calls t) (visit-at t) visit.Post
 visit-keep-requires t c κs =
     let s = c .before .before .before .before .before .before .before .before .before .before .before .before .before .before .before .before .before .before .before .before .before .before .before .before .before .before in
@@ -540,19 +480,15 @@ visit-keep-requires t c κs =
       visit-within (records (a .rs .now)) (state (a .ns .now) (a .role) (a .work .now)) (a .left) (v .result) (v .ensures .out),
     )
 
--- src/lib.rt:282:1
 visit-same-length : (t : ℕ) → visit-lts.Need-same-length (visit-calls t) (visit-at t) visit.Post
 visit-same-length t c = refl
 
--- src/lib.rt:282:1
 visit-same-length-2 : (t : ℕ) → visit-lts.Need-same-length-2 (visit-calls t) (visit-at t) visit.Post
 visit-same-length-2 t c = refl
 
--- src/lib.rt:282:1
 visit-same-length-3 : (t : ℕ) → visit-lts.Need-same-length-3 (visit-calls t) (visit-at t) visit.Post
 visit-same-length-3 t c = refl
 
--- src/lib.rt:282:1
 visit-returns : (t : ℕ) → visit-lts.Need-returns (visit-calls t) (visit-at t) visit.Post
 visit-returns t c =
     let s = c .before .before .before .before .before .before .before .before .before .before .before .before .before .before in
@@ -560,19 +496,15 @@ visit-returns t c =
     let x = c .before .before .seen in
     visited-known (s .pre .1 .0) (memory (a .modes .now) (a .marks .now)) (c .before .before .before .before .before .before .before .before .key-of .ensures) (s .pre .1 .1) (a .left) (c .known .result) (sym (c .before .before .before .before .recall .ensures) ∙ x .given .1) (c .known .ensures)
 
--- src/lib.rt:282:1
 visit-same-length-4 : (t : ℕ) → visit-lts.Need-same-length-4 (visit-calls t) (visit-at t) visit.Post
 visit-same-length-4 t c = c .before .before .before .before .before .before .before .before .before .before .before .before .before .before .enter .kept .1 .1 .0
 
--- src/lib.rt:282:1
 visit-same-length-5 : (t : ℕ) → visit-lts.Need-same-length-5 (visit-calls t) (visit-at t) visit.Post
 visit-same-length-5 t c = c .before .before .before .before .keep .kept .1 .1 .0 ∙ c .before .before .before .before .before .before .before .before .before .before .before .before .before .before .enter .kept .1 .1 .1 .1 .1 .0
 
--- src/lib.rt:282:1
 visit-same-length-6 : (t : ℕ) → visit-lts.Need-same-length-6 (visit-calls t) (visit-at t) visit.Post
 visit-same-length-6 t c = c .before .before .before .before .keep .kept .1 .1 .1 .0 ∙ c .before .before .before .before .before .before .before .before .before .before .before .before .before .before .enter .kept .1 .1 .1 .1 .1 .1 .0
 
--- src/lib.rt:282:1
 visit-returns-2 : (t : ℕ) → visit-lts.Need-returns-2 (visit-calls t) (visit-at t) visit.Post
 visit-returns-2 t c =
     let s = c .before .before .before .before .before .before .before .before .before .before .before .before .before .before .before .before .before .before .before .before .before .before .before .before .before .before .before .before .before .before .before in
@@ -581,14 +513,12 @@ visit-returns-2 t c =
     let k = c .before .before .before .before .keep in
     visited-kept (s .pre .1 .0) (memory (a .modes .now) (a .marks .now)) (c .before .before .before .before .before .before .before .before .before .before .before .before .before .before .before .before .before .before .before .before .before .before .before .before .before .key-of .ensures) (a .left) (v .last .1 .1 .0) (memory (v .last .1 .1 .1 .1 .1 .0) (v .last .1 .1 .1 .1 .1 .1 .0)) (memory (k .last .1 .1 .0) (k .last .1 .1 .1 .0)) (v .result) (v .ensures) (k .ensures)
 
--- src/lib.rt:391:35
 visit-closing-shared-slice-read-closings :
     (t : ℕ) → visit-closing-lts.Need-shared-slice-read-closings (visit-closing-calls t) (visit-closing-at t) visit-closing.Post
 visit-closing-shared-slice-read-closings t c =
     let q = c .before .before .before .before .before .before .before .pre .1 .1 .1 .0 .0 in
     omega arith
 
--- src/lib.rt:391:9
 visit-closing-closings-requires : (t : ℕ) → visit-closing-lts.Need-closings-requires (visit-closing-calls t) (visit-closing-at t) visit-closing.Post
 visit-closing-closings-requires t c κs =
     let s = c .before .before .before .before .before .before .before .before in
@@ -606,11 +536,9 @@ visit-closing-closings-requires t c κs =
       ),
     )
 
--- src/lib.rt:392:58
 visit-closing-slice-aggregate-try-each : (t : ℕ) → visit-closing-lts.Need-slice-aggregate-try-each (visit-closing-calls t) (visit-closing-at t) visit-closing.Post
 visit-closing-slice-aggregate-try-each t c = sym (c .before .before .before .before .before .closings .ensures .right .long)
 
--- src/lib.rt:392:5
 visit-closing-try-each-requires : (t : ℕ) → visit-closing-lts.Need-try-each-requires (visit-closing-calls t) (visit-closing-at t) visit-closing.Post
 visit-closing-try-each-requires t c κs =
     let s = c .before .before .before .before .before .before .before .before .before .before .before .before .before .before in
@@ -619,63 +547,50 @@ visit-closing-try-each-requires t c κs =
     let k = c .before .before .before .before .before .closings in
     (omega (arith, s .pre .0), (p .0, (p .1 .0, (p .1 .1 .0, closing-tried (a .ns .now) (a .work .now) (a .role) (getD (a .rs .now) 0 0) (p .1 .1 .1) (k .ensures)))))
 
--- src/lib.rt:374:1
 visit-closing-same-length : (t : ℕ) → visit-closing-lts.Need-same-length (visit-closing-calls t) (visit-closing-at t) visit-closing.Post
 visit-closing-same-length t c = c .before .before .before .before .before .before .try-each .kept .1 .1 .0
 
--- src/lib.rt:374:1
 visit-closing-same-length-2 : (t : ℕ) → visit-closing-lts.Need-same-length-2 (visit-closing-calls t) (visit-closing-at t) visit-closing.Post
 visit-closing-same-length-2 t c = c .before .before .before .before .before .before .try-each .kept .1 .1 .1 .1 .1 .0
 
--- src/lib.rt:374:1
 visit-closing-same-length-3 : (t : ℕ) → visit-closing-lts.Need-same-length-3 (visit-closing-calls t) (visit-closing-at t) visit-closing.Post
 visit-closing-same-length-3 t c = c .before .before .before .before .before .before .try-each .kept .1 .1 .1 .1 .1 .1 .0
 
--- src/lib.rt:374:1
 visit-closing-returns : (t : ℕ) → visit-closing-lts.Need-returns (visit-closing-calls t) (visit-closing-at t) visit-closing.Post
 visit-closing-returns t c = c .before .before .before .before .before .before .try-each .ensures
 
--- src/lib.rt:364:21
 visit-each-shared-slice-read-closes : (t : ℕ) → visit-each-lts.Need-shared-slice-read-closes (visit-each-calls t) (visit-each-at t) visit-each.Post
 visit-each-shared-slice-read-closes t c =
     let q = c .before .before .before .before .before .before .pre .1 .1 .1 .0 in
     omega arith
 
--- src/lib.rt:364:8
 visit-each-closes-requires : (t : ℕ) → visit-each-lts.Need-closes-requires (visit-each-calls t) (visit-each-at t) visit-each.Post
 visit-each-closes-requires t c κs = search needs
 
--- src/lib.rt:365:9
 visit-each-visit-closing-requires : (t : ℕ) → visit-each-lts.Need-visit-closing-requires (visit-each-calls t) (visit-each-at t) visit-each.Post
 visit-each-visit-closing-requires t c κs =
     let s = c .before .before .before .before .before .before .before .before .before .before .before in
     let p = s .pre .1 in
     (omega (arith, s .pre .0), (p .0, (p .1 .0, (p .1 .1, sym (c .before .before .before .before .closes .ensures) ∙ c .before .before .before .if1 .taken))))
 
--- src/lib.rt:365:9
 visit-each-same-length : (t : ℕ) → visit-each-lts.Need-same-length (visit-each-calls t) (visit-each-at t) visit-each.Post
 visit-each-same-length t c = c .before .before .before .before .before .before .visit-closing .kept .1 .1 .0
 
--- src/lib.rt:365:9
 visit-each-same-length-2 : (t : ℕ) → visit-each-lts.Need-same-length-2 (visit-each-calls t) (visit-each-at t) visit-each.Post
 visit-each-same-length-2 t c = c .before .before .before .before .before .before .visit-closing .kept .1 .1 .1 .1 .1 .0
 
--- src/lib.rt:365:9
 visit-each-same-length-3 : (t : ℕ) → visit-each-lts.Need-same-length-3 (visit-each-calls t) (visit-each-at t) visit-each.Post
 visit-each-same-length-3 t c = c .before .before .before .before .before .before .visit-closing .kept .1 .1 .1 .1 .1 .1 .0
 
--- src/lib.rt:365:9
 visit-each-returns : (t : ℕ) → visit-each-lts.Need-returns (visit-each-calls t) (visit-each-at t) visit-each.Post
 visit-each-returns t c = c .before .before .before .before .before .before .visit-closing .ensures
 
--- src/lib.rt:368:37
 visit-each-shared-slice-read-successors :
     (t : ℕ) → visit-each-lts.Need-shared-slice-read-successors (visit-each-calls t) (visit-each-at t) visit-each.Post
 visit-each-shared-slice-read-successors t c =
     let q = c .before .before .before .before .before .before .before .before .before .before .pre .1 .1 .1 .0 in
     omega arith
 
--- src/lib.rt:368:9
 visit-each-successors-requires : (t : ℕ) → visit-each-lts.Need-successors-requires (visit-each-calls t) (visit-each-at t) visit-each.Post
 visit-each-successors-requires t c κs =
     let s = c .before .before .before .before .before .before .before .before .before .before .before in
@@ -684,15 +599,12 @@ visit-each-successors-requires t c κs =
     let r = p .0 in
     (ready-spot r, (r .some, event-low (a .ns .now) (a .work .now) (a .role) (getD (a .rs .now) 0 0) (sym (c .before .before .before .before .closes .ensures) ∙ c .before .before .before .if1 .left) (first-inner (a .ns .now) (a .work .now) (a .role) (a .rs .now) (r .known) (p .1 .1 .0) (r .fits))))
 
--- src/lib.rt:370:58
 visit-each-array-share-prefix-none : (t : ℕ) → visit-each-lts.Need-array-share-prefix-none (visit-each-calls t) (visit-each-at t) visit-each.Post
 visit-each-array-share-prefix-none t c = omega arith
 
--- src/lib.rt:370:58
 visit-each-slice-aggregate-try-each : (t : ℕ) → visit-each-lts.Need-slice-aggregate-try-each (visit-each-calls t) (visit-each-at t) visit-each.Post
 visit-each-slice-aggregate-try-each t c = refl
 
--- src/lib.rt:370:5
 visit-each-try-each-requires : (t : ℕ) → visit-each-lts.Need-try-each-requires (visit-each-calls t) (visit-each-at t) visit-each.Post
 visit-each-try-each-requires t c κs =
     let s = c .before .before .before .before .before .before .before .before .before .before .before .before .before .before .before .before .before in
@@ -702,19 +614,15 @@ visit-each-try-each-requires t c κs =
     let k = c .before .before .before .before .before .successors in
     (omega (arith, s .pre .0), (r, (p .1 .0, (p .1 .1, event-tried (a .ns .now) (a .work .now) (a .role) (getD (a .rs .now) 0 0) (sym (c .before .before .before .before .before .before .before .before .before .before .closes .ensures) ∙ c .before .before .before .before .before .before .before .before .before .if1 .left) (first-inner (a .ns .now) (a .work .now) (a .role) (a .rs .now) (r .known) (p .1 .1 .0) (r .fits)) refl (k .ensures)))))
 
--- src/lib.rt:350:1
 visit-each-same-length-4 : (t : ℕ) → visit-each-lts.Need-same-length-4 (visit-each-calls t) (visit-each-at t) visit-each.Post
 visit-each-same-length-4 t c = c .before .before .before .before .before .before .try-each .kept .1 .1 .0
 
--- src/lib.rt:350:1
 visit-each-same-length-5 : (t : ℕ) → visit-each-lts.Need-same-length-5 (visit-each-calls t) (visit-each-at t) visit-each.Post
 visit-each-same-length-5 t c = c .before .before .before .before .before .before .try-each .kept .1 .1 .1 .1 .1 .0
 
--- src/lib.rt:350:1
 visit-each-same-length-6 : (t : ℕ) → visit-each-lts.Need-same-length-6 (visit-each-calls t) (visit-each-at t) visit-each.Post
 visit-each-same-length-6 t c = c .before .before .before .before .before .before .try-each .kept .1 .1 .1 .1 .1 .1 .0
 
--- src/lib.rt:350:1
 visit-each-returns-2 : (t : ℕ) → visit-each-lts.Need-returns-2 (visit-each-calls t) (visit-each-at t) visit-each.Post
 visit-each-returns-2 t c = c .before .before .before .before .before .before .try-each .ensures
 

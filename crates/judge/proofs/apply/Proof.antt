@@ -1,24 +1,15 @@
-use Rattle.judge.proofs.OneRecord.{inner-is, step-asked, closing-asked, step-applied, closing-applied}
+-- `judge::apply` meets its contract: by the role, the step of the root or the choice of its compensation. Assumes nothing.
 use borrow.Author.Needs.{needs}
+use Rattle.judge.proofs.OneRecord.{inner-is, step-asked, closing-asked, step-applied, closing-applied}
 use Rattle.judge.proofs.apply.Statement.{statement}
 use Rattle.judge.proofs.apply.Tie as tie
-use Rattle.judge.proofs.apply.Reads as reads
-use Rattle.judge.proofs.apply.Lts as lts
-use Rattle.judge.proofs.rank_of.Reads as rank-of-reads
-use Rattle.judge.proofs.root_of.Reads as root-of-reads
-use Rattle.seek.proofs.choose.Reads as choose-reads
-use Rattle.steps.proofs.step_run.Reads as step-run-reads
-use Rattle.steps.proofs.step_std.Reads as step-std-reads
 
--- src/lib.rt:124:9
 root-of-requires : tie.Need-root-of-requires
 root-of-requires c κs = search needs
 
--- src/lib.rt:126:21
 enum-known-role : tie.Need-enum-known-role
 enum-known-role c = search needs
 
--- src/lib.rt:126:31
 step-std-requires : tie.Need-step-std-requires
 step-std-requires c κs =
     let s = c .before .before .before .before .before .before .before .before in
@@ -28,11 +19,9 @@ step-std-requires c κs =
     let g = c .before .before .role .given .1 in
     step-asked (a .ns .now) (a .t .now) (a .number) (i .result) (i .ensures) g (inner-is (a .ns .now) (a .t .now) (a .number) (i .result) (i .ensures) g (p .1 .0 .1)) (p .0) (p .1 .1 .0) (p .1 .1 .1)
 
--- src/lib.rt:128:16
 enum-told : tie.Need-enum-told
 enum-told c = search needs
 
--- src/lib.rt:129:17
 step-run-requires : tie.Need-step-run-requires
 step-run-requires c κs =
     let s = c .before .before .before .before .before .before .before .before in
@@ -41,11 +30,9 @@ step-run-requires c κs =
     let i = c .before .before .before .before .root-of in
     step-asked (a .ns .now) (a .t .now) (a .number) (i .result) (i .ensures) (c .before .before .enum-told .given .1) (c .before .if1 .taken) (p .0) (p .1 .1 .0) (p .1 .1 .1)
 
--- src/lib.rt:137:21
 rank-of-requires : tie.Need-rank-of-requires
 rank-of-requires c κs = search needs
 
--- src/lib.rt:131:17
 choose-requires : tie.Need-choose-requires
 choose-requires c κs =
     let s = c .before .before .before .before .before .before .before .before .before in
@@ -54,11 +41,9 @@ choose-requires c κs =
     let i = c .before .before .before .before .before .root-of in
     closing-asked (a .ns .now) (a .t .now) (a .number) (i .result) (i .ensures) (c .before .before .before .enum-told .given .1) (c .before .before .if1 .left) (p .1 .0 .1) (c .rank-of .result) (c .rank-of .ensures .1) (c .rank-of .ensures .0) (p .0) (p .1 .1 .0) (p .1 .1 .1)
 
--- src/lib.rt:117:1
 same-length : tie.Need-same-length
 same-length c = search needs
 
--- src/lib.rt:117:1
 returns : tie.Need-returns
 returns c =
     let s = c .before .before .before .before .before .before .before .before .before .before .before in
@@ -67,11 +52,9 @@ returns c =
     let g = c .before .before .before .before .before .role .given .1 in
     step-applied (a .ns .now) (a .t .now) (a .number) (i .result) (i .ensures) g (inner-is (a .ns .now) (a .t .now) (a .number) (i .result) (i .ensures) g (s .pre .1 .0 .1)) (c .before .before .step-std .ensures)
 
--- src/lib.rt:117:1
 same-length-2 : tie.Need-same-length-2
 same-length-2 c = search needs
 
--- src/lib.rt:117:1
 returns-2 : tie.Need-returns-2
 returns-2 c =
     let s = c .before .before .before .before .before .before .before .before .before .before .before in
@@ -79,11 +62,9 @@ returns-2 c =
     let i = c .before .before .before .before .before .before .before .root-of in
     step-applied (a .ns .now) (a .t .now) (a .number) (i .result) (i .ensures) (c .before .before .before .before .before .enum-told .given .1) (c .before .before .before .before .if1 .taken) (c .before .before .step-run .ensures)
 
--- src/lib.rt:117:1
 same-length-3 : tie.Need-same-length-3
 same-length-3 c = search needs
 
--- src/lib.rt:117:1
 returns-3 : tie.Need-returns-3
 returns-3 c =
     let s = c .before .before .before .before .before .before .before .before .before .before .before .before in

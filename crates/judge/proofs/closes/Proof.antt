@@ -1,25 +1,20 @@
-use Rattle.judge.specs.Visits.{closes}
+-- `judge::closes` meets its contract: by the role. Assumes nothing.
 use mathlib.Core.Path.{sym, ap}
 use borrow.Author.Needs.{needs}
+use Rattle.judge.specs.Visits.{closes}
 use Rattle.judge.proofs.closes.Statement.{statement}
 use Rattle.judge.proofs.closes.Tie as tie
-use Rattle.judge.proofs.closes.Reads as reads
-use Rattle.judge.proofs.closes.Lts as lts
 
--- src/lib.rt:316:27
 enum-told : tie.Need-enum-told
 enum-told c = search needs
 
--- src/lib.rt:317:26
 enum-told-2 : tie.Need-enum-told-2
 enum-told-2 c = search needs
 
--- src/lib.rt:312:1
 returns : tie.Need-returns
 unfolding closes
 returns c = sym (ap (λ z. closes z (c .before .before .args .number)) (c .enum-told .given .1))
 
--- src/lib.rt:312:1
 returns-2 : tie.Need-returns-2
 unfolding closes
 returns-2 c = sym (ap (λ z. closes z (c .before .before .args .number)) (c .enum-told2 .given .1))

@@ -1,38 +1,30 @@
+-- `judge::keep` meets its contract: by what came of the search. Assumes nothing.
+use mathlib.Core.Path.{sym, subst}
+use borrow.Author.Needs.{needs}
 use Rattle.judge.specs.Settled.{LeftWithin}
 use Rattle.judge.specs.Visits.{out-of, memory, KeptOut}
 use Rattle.judge.proofs.Memories.{not-added}
-use mathlib.Core.Path.{sym, ap, subst}
-use borrow.Author.Needs.{needs}
 use Rattle.judge.proofs.keep.Statement.{statement}
 use Rattle.judge.proofs.keep.Tie as tie
-use Rattle.judge.proofs.keep.Reads as reads
-use Rattle.judge.proofs.keep.Lts as lts
-use Rattle.judge.proofs.keep_trip.Reads as keep-trip-reads
 
 enum-told : tie.Need-enum-told
 enum-told c = search needs
 
--- src/lib.rt:277:19
 enum-known-out : tie.Need-enum-known-out
 enum-known-out c = search needs
 
--- src/lib.rt:277:28
 keep-trip-requires : tie.Need-keep-trip-requires
 keep-trip-requires c κs = (c .before .before .before .before .before .before .before .before .pre .0, subst (LeftWithin (c .before .before .before .before .before .before .before .before .args .left)) (c .before .before .before .out .given .1) (c .before .before .before .before .before .before .before .before .pre .1))
 
--- src/lib.rt:261:1
 returns : tie.Need-returns
 returns c = not-added (c .before .before .before .before .before .args .n) (c .before .before .before .before .before .args .key) (c .before .before .before .before .before .args .t .now) (c .before .before .before .before .before .args .left) _ (memory (c .before .before .before .before .before .args .modes .now) (c .before .before .before .before .before .args .marks .now))
 
--- src/lib.rt:261:1
 same-length : tie.Need-same-length
 same-length c = search needs
 
--- src/lib.rt:261:1
 same-length-2 : tie.Need-same-length-2
 same-length-2 c = search needs
 
--- src/lib.rt:261:1
 returns-2 : tie.Need-returns-2
 returns-2 c =
     let a = c .before .before .before .before .before .before .before .before .before .before .before .before .before .args in

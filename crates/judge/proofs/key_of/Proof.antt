@@ -1,56 +1,44 @@
-use Rattle.judge.specs.Visits.{key-of, rank-of}
-use native.Mathlib.Omega.{arith}
+-- `judge::key_of` meets its contract: four times the records, and the role's number. Assumes nothing.
 use mathlib.Core.Path.{sym, ap, _∙_}
-use Rattle.states.specs.declared.Role.the-variants.{Plain}
+use native.Mathlib.Omega.{arith}
 use borrow.Author.Needs.{needs}
+use Rattle.judge.specs.Visits.{key-of, rank-of}
+use Rattle.states.specs.declared.Role.the-variants.{Plain}
 use Rattle.judge.proofs.key_of.Statement.{statement}
 use Rattle.judge.proofs.key_of.Tie as tie
-use Rattle.judge.proofs.key_of.Reads as reads
-use Rattle.judge.proofs.key_of.Lts as lts
 
--- src/lib.rt:212:21
 cast-depth : tie.Need-cast-depth
 cast-depth c = search needs
 
--- src/lib.rt:212:17
 mul-depth : tie.Need-mul-depth
 mul-depth c = search needs
 
--- src/lib.rt:214:21
 enum-known-role : tie.Need-enum-known-role
 enum-known-role c = search needs
 
--- src/lib.rt:215:29
 enum-told : tie.Need-enum-told
 enum-told c = search needs
 
--- src/lib.rt:216:31
 enum-told-2 : tie.Need-enum-told-2
 enum-told-2 c = search needs
 
--- src/lib.rt:216:31
 add-result : tie.Need-add-result
 add-result c = search needs
 
--- src/lib.rt:218:26
 enum-told-3 : tie.Need-enum-told-3
 enum-told-3 c = search needs
 
--- src/lib.rt:218:26
 add-result-2 : tie.Need-add-result-2
 add-result-2 c = search needs
 
--- src/lib.rt:208:1
 returns : tie.Need-returns
 unfolding rank-of
 returns c = omega arith ∙ sym (ap (λ z. key-of z (c .before .before .before .before .before .args .records)) (c .before .before .before .role .given .1 ∙ ap Plain (c .enum-told .given .1)))
 
--- src/lib.rt:208:1
 returns-2 : tie.Need-returns-2
 unfolding rank-of
 returns-2 c = sym (ap (λ z. key-of z (c .before .before .before .before .before .args .records)) (c .before .before .before .role .given .1 ∙ ap Plain (c .enum-told2 .given .1)))
 
--- src/lib.rt:208:1
 returns-3 : tie.Need-returns-3
 unfolding rank-of
 returns-3 c = sym (ap (λ z. key-of z (c .before .before .args .records)) (c .enum-told3 .given .1))

@@ -1,14 +1,11 @@
+-- `judge::known` meets its contract: by whether what is left is enough. Assumes nothing.
 use Rattle.judge.proofs.Memories.{known-spent, known-back}
 use Rattle.judge.proofs.known.Statement.{statement}
 use Rattle.judge.proofs.known.Tie as tie
-use Rattle.judge.proofs.known.Reads as reads
-use Rattle.judge.proofs.known.Lts as lts
 
--- src/lib.rt:227:9
 returns : tie.Need-returns
 returns c = known-spent (c .before .before .args .seen) (c .before .before .args .left) (c .if1 .taken)
 
--- src/lib.rt:223:1
 returns-2 : tie.Need-returns-2
 returns-2 c = known-back (c .before .before .before .args .seen) (c .before .before .before .args .left) (c .before .if1 .left)
 

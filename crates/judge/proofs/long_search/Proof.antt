@@ -1,29 +1,22 @@
-use Rattle.judge.proofs.Memories.{truthful-fresh}
+-- `judge::long_search` meets its contract: a memory of zeros remembers nothing yet. Assumes nothing.
 use native.Mathlib.Omega.{arith}
 use borrow.Author.Needs.{needs}
+use Rattle.judge.proofs.Memories.{truthful-fresh}
 use Rattle.judge.proofs.long_search.Statement.{statement}
 use Rattle.judge.proofs.long_search.Tie as tie
-use Rattle.judge.proofs.long_search.Reads as reads
-use Rattle.judge.proofs.long_search.Lts as lts
-use Rattle.judge.proofs.visit.Reads as visit-reads
 
--- src/lib.rt:592:50
 slice-aggregate-visit : tie.Need-slice-aggregate-visit
 slice-aggregate-visit c = search needs
 
--- src/lib.rt:592:62
 slice-aggregate-visit-2 : tie.Need-slice-aggregate-visit-2
 slice-aggregate-visit-2 c = search needs
 
--- src/lib.rt:592:5
 visit-requires : tie.Need-visit-requires
 visit-requires c κs = (c .before .before .before .before .before .before .pre, truthful-fresh (c .before .before .before .before .before .before .args .nodes .now) (c .before .before .before .before .before .before .args .records .now) 131072 6144 (omega arith))
 
--- src/lib.rt:586:1
 same-length : tie.Need-same-length
 same-length c = search needs
 
--- src/lib.rt:586:1
 returns : tie.Need-returns
 returns c = search needs
 

@@ -1,5 +1,5 @@
--- `judge::search` meets its contract: the drawn flow is where the search begins, and what it brings back is the answer.
--- Assumes nothing.
+-- `judge::search` meets its contract: the drawn flow is where the search begins, and what it brings back is the answer. Assumes
+-- nothing.
 use native.Mathlib.Omega.{arith}
 use borrow.Author.Needs.{needs}
 use Rattle.judge.specs.JudgedLaws.{table-some, table-few, table-fine, roomy, few-records, nodes-within, visit-ready, within, searched}

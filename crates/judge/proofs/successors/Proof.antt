@@ -1,34 +1,24 @@
-use Rattle.judge.proofs.OneRecord.{counted-event}
+-- `judge::successors` meets its contract: by the role, what the counting pass gives of the root. Assumes nothing.
 use borrow.Author.Needs.{needs}
+use Rattle.judge.proofs.OneRecord.{counted-event}
 use Rattle.judge.proofs.successors.Statement.{statement}
 use Rattle.judge.proofs.successors.Tie as tie
-use Rattle.judge.proofs.successors.Reads as reads
-use Rattle.judge.proofs.successors.Lts as lts
-use Rattle.counting.proofs.count_run.Reads as count-run-reads
-use Rattle.counting.proofs.count_std.Reads as count-std-reads
-use Rattle.judge.proofs.root_of.Reads as root-of-reads
 
--- src/lib.rt:92:9
 root-of-requires : tie.Need-root-of-requires
 root-of-requires c κs = search needs
 
--- src/lib.rt:94:21
 enum-known-role : tie.Need-enum-known-role
 enum-known-role c = search needs
 
--- src/lib.rt:95:17
 count-std-requires : tie.Need-count-std-requires
 count-std-requires c κs = rw (c .before .before .before .before .root-of .ensures) (c .before .before .before .before .before .before .before .pre .0)
 
--- src/lib.rt:99:56
 enum-told : tie.Need-enum-told
 enum-told c = search needs
 
--- src/lib.rt:99:17
 count-run-requires : tie.Need-count-run-requires
 count-run-requires c κs = search needs
 
--- src/lib.rt:87:1
 returns : tie.Need-returns
 returns c =
     let s = c .before .before .before .before .before .before .before .before in
@@ -36,7 +26,6 @@ returns c =
     let i = c .before .before .before .before .before .root-of in
     counted-event (a .ns .now) (a .t .now) (a .number) (i .result) (i .ensures) (c .before .before .before .role .given .1) (s .pre .1 .1) (c .count-std .ensures)
 
--- src/lib.rt:87:1
 returns-2 : tie.Need-returns-2
 returns-2 c =
     let s = c .before .before .before .before .before .before .before in

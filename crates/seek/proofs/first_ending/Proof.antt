@@ -1,4 +1,5 @@
--- `seek::first_ending` meets its contract: what the endings done and withdrawn weigh is put in for the numbers handed on. Assumes nothing.
+-- `seek::first_ending` meets its contract: what the endings done and withdrawn weigh is put in for the numbers handed on. Assumes
+-- nothing.
 use borrow.Author.Needs.{needs}
 use Rattle.seek.proofs.first_ending.Statement.{statement}
 use Rattle.seek.proofs.first_ending.Tie as tie

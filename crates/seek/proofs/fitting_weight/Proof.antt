@@ -1,4 +1,5 @@
--- `seek::fitting_weight` meets its contract: a product where only compensations are counted, else what the calls ensure. Assumes nothing.
+-- `seek::fitting_weight` meets its contract: a product where only compensations are counted, else what the calls ensure. Assumes
+-- nothing.
 use Prim.Native.Nat.{_*_}
 use mathlib.Core.Path.{sym, ap, _∙_}
 use borrow.Author.Needs.{needs}

@@ -1,4 +1,5 @@
--- `seek::second_ending` meets its contract: what the endings done and withdrawn weigh is put in for the numbers handed on. Assumes nothing.
+-- `seek::second_ending` meets its contract: what the endings done and withdrawn weigh is put in for the numbers handed on.
+-- Assumes nothing.
 use borrow.Author.Needs.{needs}
 use Rattle.seek.proofs.second_ending.Statement.{statement}
 use Rattle.seek.proofs.second_ending.Tie as tie

@@ -1,4 +1,5 @@
--- `seek::side_weight` meets its contract: nothing weighs nothing, and otherwise what the calls ensure is put together. Assumes nothing.
+-- `seek::side_weight` meets its contract: nothing weighs nothing, and otherwise what the calls ensure is put together. Assumes
+-- nothing.
 use mathlib.Core.Path.{_∙_, ap}
 use borrow.Author.Needs.{needs}
 use Rattle.seek.specs.Weighed.{row}

@@ -1,4 +1,5 @@
--- `tallies::weight_within` meets its contract: nothing changes where only compensations are counted, else by what its callees ensure. Assumes nothing.
+-- `tallies::weight_within` meets its contract: nothing changes where only compensations are counted, else by what its callees
+-- ensure. Assumes nothing.
 use mathlib.Core.Path.{sym, _∙_}
 use native.Mathlib.Omega.{arith}
 use borrow.Author.Needs.{needs}
