@@ -185,7 +185,7 @@ pub fn first_at(nodes: &[u16], i: usize) -> u16
     nodes[3 * i + 1]
 }
 
-fn second_at(nodes: &[u16], i: usize) -> u16
+pub fn second_at(nodes: &[u16], i: usize) -> u16
     requires { ⌜ 3 * i + 2 < length (now nodes) ⌝ }
     ensures { λ r. ⌜ r ≡ two-of (now (nodes .entry)) i ⌝ }
 {

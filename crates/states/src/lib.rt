@@ -8,7 +8,7 @@ ghost use mathlib.Core.Path.{_≡_};
 ghost use mathlib.Core.Logic.{_≢_};
 ghost use Prim.Native.Nat.{_+_, _*_, _<_};
 ghost use lib.ListN.{length, set};
-ghost use Rattle.flow.specs.Kinds.{node, two-of};
+ghost use Rattle.flow.specs.Kinds.{node};
 ghost use Rattle.states.specs.Standings.{as-drawn, only, drawn-two, undoing-two, stand-drawn, stand-undoing, stand, course-two, course-of};
 ghost use Rattle.states.specs.State.{modes};
 ghost use Rattle.states.specs.Contracts.{Spot, Redrawn};
@@ -251,13 +251,6 @@ pub fn course_at(ns: &[u16], t: &[u8], i: usize) -> Course
     }
 }
 
-fn second_at(ns: &[u16], i: usize) -> u16
-    requires { ⌜ 3 * i + 2 < length (now ns) ⌝ }
-    ensures { λ r. ⌜ r ≡ two-of (now (ns .entry)) i ⌝ }
-{
-    ns[3 * i + 2]
-}
-
 // Node i and all under it get the modes of the drawn flow: what is dropped or passed has no other, so that equal states have equal modes.
 pub fn redraw(ns: &[u16], t: &mut [u8], i: usize)
     requires { ⌜ Spot (now ns) (now t) i ⌝ }
@@ -270,6 +263,6 @@ pub fn redraw(ns: &[u16], t: &mut [u8], i: usize)
     }
     redraw(ns, t, flow::first_at(ns, i) as usize);
     if form.kids == 2 {
-        redraw(ns, t, second_at(ns, i) as usize);
+        redraw(ns, t, flow::second_at(ns, i) as usize);
     }
 }

@@ -10,7 +10,7 @@ use Rattle.states.proofs.redraw.Kinds as redraw-kinds
 use Rattle.states.proofs.+redraw.Lts-redraw as redraw-lts
 use Rattle.flow.proofs.first_at.Reads as first-at-reads
 use Rattle.flow.proofs.form_at.Reads as form-at-reads
-use Rattle.states.proofs.second_at.Reads as second-at-reads
+use Rattle.flow.proofs.second_at.Reads as second-at-reads
 use Rattle.states.proofs.set_mode.Reads as set-mode-reads
 use Rattle.states.proofs.+redraw.{statement}
 use Rattle.states.proofs.+redraw.Tie.{close}
