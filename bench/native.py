@@ -2,8 +2,8 @@
 """Compiles the judge and the reader as plain Rust for this machine, over `native.rs`.
 
 Rattle's programs are compiled for x86-64 and are emulated elsewhere, where their time says nothing. Their code is nearly Rust: what is
-taken out here is contracts and ghost imports, and what is added is that values are copied. So the code that is measured is the code
-that is proved, but for its compiler: nothing is proved of what comes out, and nothing but measuring is done with it.
+taken out here is contracts, ghost imports and checks of bounds, and what is added is that values are copied. So the code that is measured
+is the code that is proved, but for its compiler: nothing is proved of what comes out, and nothing but measuring is done with it.
 usage: native.py CHECKOUT PROGRAM
   CHECKOUT  a folder with crates.txt and crates/, this one's or that of an earlier commit
   PROGRAM   the file to write
