@@ -24,19 +24,19 @@ use Rattle.memory.specs.MemoryLaws.{remembered-held, zeros-held}
 use Rattle.judge.specs.declared.Trip.{Trip}
 use Rattle.judge.specs.declared.Out.{Out}
 use Rattle.judge.specs.declared.Out.the-variants.{Spent, Back}
-use Rattle.judge.specs.Visits.{state, out-of, Memory, memory, rank-of, key-of, saw-none, last, Has, Saw, Truthful, Searched-once, Learned, Added, KeptOut}
+use Rattle.judge.specs.Visits.{state, out-of, Memory, memory, role-number, key-of, saw-none, last, Has, Saw, Truthful, SearchedState, Learned, Added, KeptOut}
 use Rattle.judge.proofs.Stretches.{state-same}
 
 -- Keys --------------------------------------------------------------------------------------------------------------------
 
-small : (role : Role) → rank-of role < 4
-unfolding rank-of
+small : (role : Role) → role-number role < 4
+unfolding role-number
 small (Plain Drawn) = omega arith
 small (Plain Undoing) = omega arith
 small Running = omega arith
 
-same-rank : (role role′ : Role) → rank-of role ≡ rank-of role′ → role ≡ role′
-unfolding rank-of
+same-rank : (role role′ : Role) → role-number role ≡ role-number role′ → role ≡ role′
+unfolding role-number
 same-rank (Plain Drawn) (Plain Drawn) e = refl
 same-rank (Plain Drawn) (Plain Undoing) e = absurd (omega arith)
 same-rank (Plain Drawn) Running e = absurd (omega arith)
@@ -77,7 +77,7 @@ module _ (ns rs : List ℕ) where
   pub learned-trans : {m m′ m″ : Memory} → Learned ns rs m m′ → Learned ns rs m′ m″ → Learned ns rs m m″
   learned-trans {m} {m′} {m″} f g key t x h = by (g key t x h)
     where
-      by : Has ns rs m′ key t x ⊎ Searched-once ns rs key t x → Has ns rs m key t x ⊎ Searched-once ns rs key t x
+      by : Has ns rs m′ key t x ⊎ SearchedState ns rs key t x → Has ns rs m key t x ⊎ SearchedState ns rs key t x
       by (inl k) = f key t x k
       by (inr s) = inr s
 
@@ -90,7 +90,7 @@ module _ (ns rs : List ℕ) where
         right = λ role d some few t x h. by role d some few t x (g (key-of role d) t x h);
       }
     where
-      by : (role : Role) (d : ℕ) → 1 ≤ d → d ≤ length rs → (t : List ℕ) (x : Sight) → Has ns rs m (key-of role d) t x ⊎ Searched-once ns rs (key-of role d) t x → Saw ns rs role d t x
+      by : (role : Role) (d : ℕ) → 1 ≤ d → d ≤ length rs → (t : List ℕ) (x : Sight) → Has ns rs m (key-of role d) t x ⊎ SearchedState ns rs (key-of role d) t x → Saw ns rs role d t x
       by role d some few t x (inl k) = f .right role d some few t x k
       by role d some few t x (inr s) =
           subst (λ z. Saw ns rs z d t x) (sym (key-role role (s .role) d (s .depth) (s .is)))
@@ -108,7 +108,7 @@ module _ (ns rs : List ℕ) where
     pub learned-rest : {m m′ : Memory} → Learned ns (drop 1 rs) m m′ → Learned ns rs m m′
     learned-rest {m} {m′} f key t x h = by (f key t x h)
       where
-        by : Has ns (drop 1 rs) m key t x ⊎ Searched-once ns (drop 1 rs) key t x → Has ns rs m key t x ⊎ Searched-once ns rs key t x
+        by : Has ns (drop 1 rs) m key t x ⊎ SearchedState ns (drop 1 rs) key t x → Has ns rs m key t x ⊎ SearchedState ns rs key t x
         by (inl k) = inl k
         by (inr s) =
             let l = length-drop 1 rs in
@@ -187,7 +187,7 @@ module _ (ns rs : List ℕ) (sound : Sound ns) (enough : 3 ≤ length ns) (role 
   pub kept-learned : {o : Found} {m m′ : Memory} → o ≡ visitB (records rs) (state ns role t) left → KeptOut (count ns) (key-of role (length rs)) t′ left o m m′ → Learned ns rs m m′
   kept-learned {o} {m} {m′} e f key u x h = by (f .adds key u x h)
     where
-      by : Has ns rs m key u x ⊎ Added (count ns) (key-of role (length rs)) t′ left o x key u → Has ns rs m key u x ⊎ Searched-once ns rs key u x
+      by : Has ns rs m key u x ⊎ Added (count ns) (key-of role (length rs)) t′ left o x key u → Has ns rs m key u x ⊎ SearchedState ns rs key u x
       by (inl k) = inl k
       by (inr a) =
           let s : state ns role t ≡ state ns role u = state-same ns sound enough t u (λ j l. same j l ∙ sym (a .same .modes j l)) role in

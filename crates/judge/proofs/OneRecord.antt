@@ -33,7 +33,7 @@ use Rattle.states.specs.declared.Role.{Role}
 use Rattle.states.specs.declared.Role.the-variants.{Plain, Running}
 use Rattle.states.specs.Roles.{Term, get, nexts, many, Sight, look, moves-of, ok}
 use Rattle.states.specs.NotedLaws.{counted-right}
-use Rattle.seek.specs.Weighed.{Known as MayKnow, Weighed}
+use Rattle.seek.specs.Weighed.{MayKnow, Weighed}
 use Rattle.states.specs.Contracts.{Spot, scene, stored-at, weight-of, ask, Counted, Ready, Stepped, Chosen}
 use Rattle.judge.specs.Visits.{state, role-next, closing-of, ends-by, onward, Inner, RightCounts, successor-count, SuccessorsCounted, ClosingsCounted, closes, Applied}
 use Rattle.judge.proofs.Numbers.{record-event, record-close, last-close, not-twice}

@@ -19,7 +19,7 @@ use Rattle.flow.specs.Refusals.{count, root}
 use Rattle.states.specs.State.{modes, counts}
 use Rattle.states.specs.StateLaws.{part-frame, stored-frame}
 use Rattle.states.specs.Contracts.{Sound, Kept, scene}
-use Rattle.seek.specs.Weighed.{Known as MayKnow}
+use Rattle.seek.specs.Weighed.{MayKnow}
 use Rattle.seek.specs.WeighedLaws.{weighed-same}
 use Rattle.states.specs.Roles.{ok}
 use Rattle.states.specs.declared.Role.{Role}

@@ -23,7 +23,7 @@ use Rattle.states.specs.declared.Role.the-variants.{Plain, Running}
 use Rattle.states.specs.State.{part, modes}
 use Rattle.states.specs.Roles.{ok}
 use Rattle.states.specs.Contracts.{Sound, Kept, scene, stored-at}
-use Rattle.seek.specs.Weighed.{Known as MayKnow, Weighed}
+use Rattle.seek.specs.Weighed.{MayKnow, Weighed}
 use Rattle.memory.specs.declared.Sight.{Sight}
 use Rattle.memory.specs.Memory.{slots, Held, Same}
 use Rattle.judge.specs.declared.Out.{Out}
@@ -94,14 +94,14 @@ pub record Memory : Type 0 where
 abbrev pub memory : List ℕ → List ℕ → Memory
 memory modes marks = record { modes = modes; marks = marks }
 
-unfoldable pub rank-of : Role → ℕ
-rank-of (Plain Drawn) = 0
-rank-of (Plain Undoing) = 1
-rank-of Running = 2
+unfoldable pub role-number : Role → ℕ
+role-number (Plain Drawn) = 0
+role-number (Plain Undoing) = 1
+role-number Running = 2
 
 -- what a state is remembered by, beside its modes: the root's role, and how many records are left
 abbrev pub key-of : Role → ℕ → ℕ
-key-of role records = 4 * records + rank-of role
+key-of role records = 4 * records + role-number role
 
 -- what is remembered of a state was seen without finding an end
 abbrev pub saw-none : Sight → Seen
@@ -125,7 +125,7 @@ module _ (ns rs : List ℕ) where
     pub right : (role : Role) (d : ℕ) → 1 ≤ d → d ≤ length rs → (t : List ℕ) (x : Sight) → Has m (key-of role d) t x → Saw role d t x
 
   -- a state that was searched
-  pub record Searched-once (key : ℕ) (t : List ℕ) (x : Sight) : Type 0 where
+  pub record SearchedState (key : ℕ) (t : List ℕ) (x : Sight) : Type 0 where
     pub role : Role
     pub depth : ℕ
     pub is : key ≡ key-of role depth
@@ -134,7 +134,7 @@ module _ (ns rs : List ℕ) where
 
   -- what the memory has after a search it had before, or it was searched
   abbrev pub Learned : Memory → Memory → Type 0
-  Learned m m′ = (key : ℕ) (t : List ℕ) (x : Sight) → Has m′ key t x → Has m key t x ⊎ Searched-once key t x
+  Learned m m′ = (key : ℕ) (t : List ℕ) (x : Sight) → Has m′ key t x → Has m key t x ⊎ SearchedState key t x
 
 -- of `keep`: it adds nothing but the state of n modes, with what came of it, and that only if no end was found
 pub record Added (n key : ℕ) (t : List ℕ) (left : ℕ) (o : Found) (x : Sight) (key′ : ℕ) (t′ : List ℕ) : Type 0 where

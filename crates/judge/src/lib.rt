@@ -257,7 +257,7 @@ fn keep_trip(
     }
 }
 
-// What came of a state is remembered, if it came to something.
+// What came of a state is remembered, if its search was over and found no end.
 fn keep(
     out: Out,
     left: u32,
@@ -567,7 +567,7 @@ fn check_all(nodes: &[u16], records: &[u16], room: usize) -> Check
 // A search of so many states at most goes without a memory: to clear one costs about as much.
 const FEW_STATES: u32 = 32;
 
-// How many states the memory has room for, of 64 modes and three marks each: 152 KiB.
+// The memory has room for 2,048 states, of 64 modes and three marks each: 152 KiB.
 const MODES: usize = 131072;
 
 const MARKS: usize = 6144;

@@ -45,7 +45,7 @@ use Rattle.states.specs.Becomes.{picked, known-of, seq-of, par-of, ask-second, 
 use Rattle.states.specs.Contracts.{Spot, Kept, Sets, Redrawn, Scene, scene, weight-of, Ask, ask, Counted, Chosen}
 use Rattle.states.specs.ChildLaws.{set-sets, not-own, lower-spot, same-room, kept-set, kept-part, kid-lower, kept-kid, own-kept, same-part, spot-down}
 use Rattle.seek.specs.Asked.{Fallen, course-at, runs, left, Picks, Wanted, Below, seconds, SecondWanted, SecondChosen, PairChosen}
-use Rattle.seek.specs.Weighed.{row, Live, itself, Weighed, Known}
+use Rattle.seek.specs.Weighed.{row, Live, itself, Weighed, MayKnow}
 use Rattle.seek.specs.WeighedLaws.{weighed-live, known-live, known-same}
 use Rattle.seek.specs.NodeLaws.{course-runs, course-kids, course-node, left-is, room-is, sought-is, marked-picks, marked-mode, marked-kept, marked-beside}
 
@@ -91,7 +91,7 @@ falls-on (on-withdrawn h k) = fall-withdrawn h k
 falls-on (on-failed h k) = fall-failed h k
 
 -- something is kept
-pub known-some : {s : Scene} {d : List ℕ} {i : ℕ} → Known s d i → length d ≢ 0 → Weighed s d i
+pub known-some : {s : Scene} {d : List ℕ} {i : ℕ} → MayKnow s d i → length d ≢ 0 → Weighed s d i
 known-some (inl e) n = absurd (n e)
 known-some (inr k) n = k
 
@@ -116,7 +116,7 @@ module _ {ns t : List ℕ} {a i : ℕ} (m : ℕ) {c w : ℕ} {g : Weight} {j : �
   pub below-room : j < weight-of (scene ns t₁ a) c (closing w) g
   below-room = room-is a g (closing w) (ap (λ p. p .run) (sym (same-part ns (b .spot .node .sound .tree) (b .kid) below-sets))) (b .room)
 
-  pub below-known : {d : List ℕ} → Known (scene ns t a) d c → Known (scene ns t₁ a) d c
+  pub below-known : {d : List ℕ} → MayKnow (scene ns t a) d c → MayKnow (scene ns t₁ a) d c
   below-known {d} = known-same ns (b .spot .node .sound .tree) a t t₁ d c (λ j u. sym (below-sets .others j (not-own ns (b .spot .node .sound .tree) (b .kid) u)))
 
   pub below-chosen : {t′ : List ℕ} {p : Picked} → Chosen (scene ns t₁ a) c (ask (closing w) g j) t′ p → Chosen (scene ns (set t i m) a) c (ask (closing w) g j) t′ p
@@ -205,7 +205,7 @@ module _ {ns t : List ℕ} {a i c w : ℕ} {g : Weight} {j : ℕ} (h : Wanted (s
   pub as-room : j < weight-of (scene ns t a) c (closing w) g
   as-room = room-is a g (closing w) as-runs (h .room)
 
-  pub as-known : {d : List ℕ} → Known (scene ns t a) d i → Known (scene ns t a) d c
+  pub as-known : {d : List ℕ} → MayKnow (scene ns t a) d i → MayKnow (scene ns t a) d c
   as-known = known-live (subst (λ x. Live x c) (sym (h .is)) refl)
 
   -- its mode stays, and says what it becomes too
@@ -250,10 +250,10 @@ module _ {ns t : List ℕ} {a i w : ℕ} {g : Weight} {j : ℕ} {o : Operator} {
     second-weighed : Weighed (scene ns t a) d (two .second)
     second-weighed = weighed-live (subst (λ x. Live x (two .second)) (sym (h .is)) (inr refl)) k
 
-    pub first-known : Known (scene ns t a) d (two .first)
+    pub first-known : MayKnow (scene ns t a) d (two .first)
     first-known = inr first-weighed
 
-    pub second-known : Known (scene ns t a) d (two .second)
+    pub second-known : MayKnow (scene ns t a) d (two .second)
     second-known = inr second-weighed
 
     pub first-row : 9 * two .first + 8 < length d
@@ -263,7 +263,7 @@ module _ {ns t : List ℕ} {a i w : ℕ} {g : Weight} {j : ℕ} {o : Operator} {
     second-row = row-room second-weighed second-spot
 
     -- the first has become its compensation, and the second is as it was
-    pub second-still : {t₁ : List ℕ} → Kept ns (two .first) (modes t) (modes t₁) → Known (scene ns t₁ a) d (two .second)
+    pub second-still : {t₁ : List ℕ} → Kept ns (two .first) (modes t) (modes t₁) → MayKnow (scene ns t₁ a) d (two .second)
     second-still {t₁} x = known-same ns two-tree a t t₁ d (two .second) (λ j u. sym (x j (λ v. two-twins .free j v u))) second-known
 
   -- the mode m leaves the child c alone, and what is picked there is what is picked in the whole
@@ -344,7 +344,7 @@ module _ {ns t : List ℕ} {a i w : ℕ} {g : Weight} {j : ℕ} {two : Two} (h :
   pub held-spot : Spot ns t (two .first)
   held-spot = lower-spot (h .spot) (kid-lower ns held-tree (held-twins .one))
 
-  pub held-known : {d : List ℕ} → Known (scene ns t a) d i → Known (scene ns t a) d (two .second)
+  pub held-known : {d : List ℕ} → MayKnow (scene ns t a) d i → MayKnow (scene ns t a) d (two .second)
   held-known = known-live (subst (λ x. Live x (two .second)) (sym (h .is)) refl)
 
   pub held-wanted : {c c′ : List ℕ} {v : View} → Counted (scene ns t a) (Plain Undoing) (two .first) c c′ v → SecondWanted (scene ns t a) i two w g (picked j (v .moves) (v .done))

@@ -67,5 +67,5 @@ pub record Weighed (s : Scene) (d : List ℕ) (i : ℕ) : Type 0 where
   pub right : (j : ℕ) → RunsIn (s .ns) (s .t) i j → row d j ≡ bareW (word (s .a) (part-at s j .run))
 
 -- or nothing is kept at all
-abbrev pub Known : Scene → List ℕ → ℕ → Type 0
-Known s d i = (length d ≡ 0) ⊎ Weighed s d i
+abbrev pub MayKnow : Scene → List ℕ → ℕ → Type 0
+MayKnow s d i = (length d ≡ 0) ⊎ Weighed s d i

@@ -20,7 +20,7 @@ use Rattle.states.specs.LiveParts.{CRests}
 use Rattle.states.specs.Rests.{course-rests}
 use Rattle.states.specs.Contracts.{scene}
 use Rattle.seek.specs.Asked.{course-at}
-use Rattle.seek.specs.Weighed.{row, Live, RunsIn, itself, inside, Weighed, Known}
+use Rattle.seek.specs.Weighed.{row, Live, RunsIn, itself, inside, Weighed, MayKnow}
 
 -- Parts that run in a node ----------------------------------------------------------------------------------------------
 
@@ -50,7 +50,7 @@ module _ (ns : List ℕ) (tree : Tree (shape ns)) where
 pub weighed-live : {ns t d : List ℕ} {a i c : ℕ} → Live (course-at ns t i) c → Weighed (scene ns t a) d i → Weighed (scene ns t a) d c
 weighed-live l h = record { long = h .long; right = λ j r. h .right j (inside l r) }
 
-pub known-live : {ns t d : List ℕ} {a i c : ℕ} → Live (course-at ns t i) c → Known (scene ns t a) d i → Known (scene ns t a) d c
+pub known-live : {ns t d : List ℕ} {a i c : ℕ} → Live (course-at ns t i) c → MayKnow (scene ns t a) d i → MayKnow (scene ns t a) d c
 known-live l (inl e) = inl e
 known-live l (inr h) = inr (weighed-live l h)
 
@@ -61,7 +61,7 @@ weighed-same ns tree a t t′ d i e h = record {
   right = λ j r. h .right j (runs-same ns tree t t′ e r) ∙ ap (λ p. bareW (word a (p .run))) (part-frame ns tree (modes t) (modes t′) j (λ k u. e k (under-trans (shape ns) (runs-under ns tree t′ r) u)));
 }
 
-pub known-same : (ns : List ℕ) → Tree (shape ns) → (a : ℕ) (t t′ d : List ℕ) (i : ℕ) → ((j : ℕ) → Under (shape ns) i j → modes t j ≡ modes t′ j) → Known (scene ns t a) d i → Known (scene ns t′ a) d i
+pub known-same : (ns : List ℕ) → Tree (shape ns) → (a : ℕ) (t t′ d : List ℕ) (i : ℕ) → ((j : ℕ) → Under (shape ns) i j → modes t j ≡ modes t′ j) → MayKnow (scene ns t a) d i → MayKnow (scene ns t′ a) d i
 known-same ns tree a t t′ d i e (inl z) = inl z
 known-same ns tree a t t′ d i e (inr h) = inr (weighed-same ns tree a t t′ d i e h)
 

@@ -24,7 +24,7 @@ ghost use Rattle.tallies.specs.Formulas.{closing, whenT, byW, total, afterG, be
 ghost use Rattle.states.specs.declared.Course.the-variants.{Pair, Both, Held};
 ghost use Rattle.states.specs.Contracts.{Spot, scene, weight-of, ask, Chosen};
 ghost use Rattle.seek.specs.Asked.{Fallen, runs, course-at, asked, Wanted, Below, SecondWanted, SecondChosen, PairChosen};
-ghost use Rattle.seek.specs.Weighed.{share, Shared, row, Written, RowsKept, Weighed, Known};
+ghost use Rattle.seek.specs.Weighed.{share, Shared, row, Written, RowsKept, Weighed, MayKnow};
 
 // What is known of running parts ------------------------------------------------------------------------------------
 
@@ -303,7 +303,7 @@ pub fn choose(
     j: u32,
 ) -> Picked
     requires { ⌜ Spot (now ns) (now t) i ⌝ }
-    requires { ⌜ Known (scene (now ns) (now t) a) (now d) i ⌝ }
+    requires { ⌜ MayKnow (scene (now ns) (now t) a) (now d) i ⌝ }
     requires { ⌜ (w < 3) × (j < weight-of (scene (now ns) (now t) a) i (closing w) g) ⌝ }
     ensures { λ r. ⌜ Chosen (scene (now (ns .entry)) (now (t .entry)) a) i (ask (closing w) g j) (now (t .exit)) r ⌝ }
 {
@@ -408,7 +408,7 @@ fn seek_marked(
     q: Query,
 ) -> Picked
     requires { ⌜ Below (scene (now ns) (now t) a) i c (q .closing) (q .weight) (q .number) ⌝ }
-    requires { ⌜ Known (scene (now ns) (now t) a) (now d) c ⌝ }
+    requires { ⌜ MayKnow (scene (now ns) (now t) a) (now d) c ⌝ }
     ensures { λ r. ⌜ Chosen (scene (now (ns .entry)) (set (now (t .entry)) i m) a) c (asked q) (now (t .exit)) r ⌝ }
 {
     states::set_mode(t, i, m);
@@ -428,7 +428,7 @@ fn seek_second(
     k: Picked,
 ) -> Picked
     requires { ⌜ SecondWanted (scene (now ns) (now t) a) i two w g k ⌝ }
-    requires { ⌜ Known (scene (now ns) (now t) a) (now d) (two .second) ⌝ }
+    requires { ⌜ MayKnow (scene (now ns) (now t) a) (now d) (two .second) ⌝ }
     ensures { λ r. ⌜ SecondChosen (scene (now (ns .entry)) (now (t .entry)) a) i two (closing w) g k (now (t .exit)) r ⌝ }
 {
     let inside = tallies::weight_inside(g, k.moves, k.able);
@@ -447,7 +447,7 @@ fn seek_second(
 
 fn seek_held(ns: &[u16], t: &mut [u8], a: u16, d: &[u32], i: usize, two: Two, q: Query) -> Picked
     requires { ⌜ Wanted (scene (now ns) (now t) a) i (Held two) (q .closing) (q .weight) (q .number) ⌝ }
-    requires { ⌜ Known (scene (now ns) (now t) a) (now d) i ⌝ }
+    requires { ⌜ MayKnow (scene (now ns) (now t) a) (now d) i ⌝ }
     ensures { λ r. ⌜ Chosen (scene (now (ns .entry)) (now (t .entry)) a) i (asked q) (now (t .exit)) r ⌝ }
 {
     let mut c = [0u32; 64];

@@ -2,7 +2,7 @@
 use mathlib.Core.Path.{sym, ap, _∙_}
 use native.Mathlib.Omega.{arith}
 use borrow.Author.Needs.{needs}
-use Rattle.judge.specs.Visits.{key-of, rank-of}
+use Rattle.judge.specs.Visits.{key-of, role-number}
 use Rattle.states.specs.declared.Role.the-variants.{Plain}
 use Rattle.judge.proofs.key_of.Statement.{statement}
 use Rattle.judge.proofs.key_of.Tie as tie
@@ -32,15 +32,15 @@ add-result-2 : tie.Need-add-result-2
 add-result-2 c = search needs
 
 returns : tie.Need-returns
-unfolding rank-of
+unfolding role-number
 returns c = omega arith ∙ sym (ap (λ z. key-of z (c .before .before .before .before .before .args .records)) (c .before .before .before .role .given .1 ∙ ap Plain (c .enum-told .given .1)))
 
 returns-2 : tie.Need-returns-2
-unfolding rank-of
+unfolding role-number
 returns-2 c = sym (ap (λ z. key-of z (c .before .before .before .before .before .args .records)) (c .before .before .before .role .given .1 ∙ ap Plain (c .enum-told2 .given .1)))
 
 returns-3 : tie.Need-returns-3
-unfolding rank-of
+unfolding role-number
 returns-3 c = sym (ap (λ z. key-of z (c .before .before .args .records)) (c .enum-told3 .given .1))
 
 pub key-of-spec : {M : Type 1} → statement M
