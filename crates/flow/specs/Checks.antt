@@ -7,7 +7,7 @@ use mathlib.Core.Bool.{cond}
 use mathlib.Core.List.{List, [], _∷_, _++_}
 use Rattle.flow.specs.declared.Check.{Check}
 use Rattle.flow.specs.declared.Check.the-variants.{Fine, Refused}
-use Rattle.flow.specs.Refusals.{Ground, Round, lone, sweep, nodes-order, table-order, values-order, closing-order, records-order}
+use Rattle.flow.specs.Refusals.{Ground, Round, lone, sweep, nodes-order, table-length-order, table-order, values-order, closing-order, records-length-order, records-order}
 
 ---- The first ground that holds ----
 
@@ -42,6 +42,10 @@ grounds (sweep n f ∷ (next ∷ order)) = each f 0 n ++ grounds (next ∷ order
 
 ---- The checks ----
 
+-- 1 to 3
+unfoldable pub table-length-check : List ℕ → Check
+table-length-check ns = first (grounds (table-length-order ns))
+
 -- 1 to 9
 unfoldable pub table-check : List ℕ → Check
 table-check ns = first (grounds (table-order ns))
@@ -57,6 +61,10 @@ values-check rs = first (grounds (values-order rs))
 -- 13
 unfoldable pub closings-check : List ℕ → List ℕ → Check
 closings-check ns rs = first (grounds (closing-order ns rs))
+
+-- 10 and 11
+unfoldable pub records-length-check : List ℕ → Check
+records-length-check rs = first (grounds (records-length-order rs))
 
 -- 10 to 13
 unfoldable pub records-check : List ℕ → List ℕ → Check

@@ -18,6 +18,12 @@ pub record FineNode (ns : List ℕ) (i : ℕ) : Type 0 where
   pub sorts : wrong-sort ns i ≡ false
   pub free : child-taken ns i ≡ false
 
+-- none of 1 to 3
+pub record FineLength (ns : List ℕ) : Type 0 where
+  pub some : 3 ≤ length ns
+  pub few : length ns ≤ 192
+  pub whole : length ns ≡ 3 * count ns
+
 -- none of 1 to 9
 pub record FineTable (ns : List ℕ) : Type 0 where
   pub some : 1 ≤ count ns

@@ -1,7 +1,7 @@
 -- "Given exactly when": a check answers a refusal exactly if its ground holds and no ground listed before it does, and nothing is
 -- refused exactly if no ground holds. Said once, of any list of grounds; then what code needs to know of lists in parts and of
 -- orders. What a check answers of any order of rounds is in the crate above (ExactlyWhen). Assumes nothing.
-use Prim.Native.Nat.{ℕ, zero, suc, _+_, _-_, _<_, _≤_}
+use Prim.Native.Nat.{ℕ, zero, suc, _+_, _-_, _%_, _<_, _≤_}
 use mathlib.Core.Path.{_≡_, refl, sym, ap, _∙_, subst}
 use mathlib.Core.Bool.{Bool, true, false, not}
 use mathlib.Core.List.{List, [], _∷_, _++_, append-nil, append-assoc}
@@ -9,16 +9,17 @@ use native.Mathlib.Omega.{arith}
 use native.Mathlib.Numerals.{add-one}
 use native.Mathlib.Nat.{eq-or-lt-of-le}
 use mathlib.Core.Logic.{⊎-elim, _↔_}
-use lib.Dec.{T}
+use lib.Dec.{T, eqb}
 use lib.ListN.{length}
-use borrow.Author.Tests.{ne-eqb, le-ltb}
+use borrow.Author.Tests.{eqb-true, eqb-false, ltb-false, not-false}
 use Rattle.flow.specs.Tests.{is-true, is-false}
 use Rattle.flow.specs.declared.Refusal.{Refusal}
 use Rattle.flow.specs.declared.Check.{Check}
 use Rattle.flow.specs.declared.Check.the-variants.{Fine, Refused}
-use Rattle.flow.specs.Refusals.{Ground, ground, Round, lone, sweep, most-records, no-records, too-many-records, values-order, closing-order}
-use Rattle.flow.specs.Checks.{refused, or-else-check, answer, first, each, grounds, records-check, values-check, closings-check}
+use Rattle.flow.specs.Refusals.{Ground, ground, Round, lone, sweep, count, no-nodes, not-whole, too-many-nodes, no-records, too-many-records, nodes-order, table-length-order, values-order, closing-order, records-length-order}
+use Rattle.flow.specs.Checks.{refused, or-else-check, answer, first, each, grounds, table-check, table-length-check, nodes-check, records-check, records-length-check, values-check, closings-check}
 use Rattle.flow.specs.Earliest.{Nowhere, end, not-lone, not-sweep}
+use Rattle.flow.specs.Fine.{FineLength}
 pub use Rattle.flow.specs.Earliest.{First, here, later, None, none, more}
 
 abbrev pub is-fine : Check → Type 0
@@ -180,14 +181,44 @@ unfolding or-else-check
 both-fine Fine b e = (refl, e)
 both-fine (Refused r) b e = absurd (subst is-fine (sym e) tt)
 
-pub records-parts : (ns rs : List ℕ) → no-records rs ≡ false → too-many-records rs ≡ false → records-check ns rs ≡ or-else-check (values-check rs) (closings-check ns rs)
-unfolding records-check values-check closings-check
-records-parts ns rs a b =
-    first-passed (ground 10 0 (no-records rs)) _ a
-    ∙ first-passed (ground 11 0 (too-many-records rs)) _ b
-    ∙ first-append (grounds (values-order rs)) (grounds (closing-order ns rs))
+pub or-else-refused : {a : Check} {r : Refusal} (b : Check) → a ≡ Refused r → a ≡ or-else-check a b
+unfolding or-else-check
+or-else-refused {a} {r} b e = e ∙ sym (ap (λ (x : Check). or-else-check x b) e)
 
--- some records, and not too many: 10 and 11 do not hold
-pub some-records : (ns rs : List ℕ) → 1 ≤ length rs → length rs ≤ most-records → records-check ns rs ≡ or-else-check (values-check rs) (closings-check ns rs)
-unfolding no-records too-many-records
-some-records ns rs some few = records-parts ns rs (ne-eqb (length rs) 0 (λ z. omega arith)) (le-ltb most-records (length rs) few)
+pub or-else-fine : {a : Check} (b : Check) → a ≡ Fine → b ≡ or-else-check a b
+unfolding or-else-check
+or-else-fine b e = sym (ap (λ (x : Check). or-else-check x b) e)
+
+pub table-parts : (ns : List ℕ) → table-check ns ≡ or-else-check (table-length-check ns) (nodes-check ns)
+unfolding table-check table-length-check nodes-check
+table-parts ns = orders-append (table-length-order ns) (nodes-order ns)
+
+pub records-parts : (ns rs : List ℕ) → records-check ns rs ≡ or-else-check (records-length-check rs) (or-else-check (values-check rs) (closings-check ns rs))
+unfolding records-check records-length-check values-check closings-check
+records-parts ns rs =
+    orders-append (records-length-order rs) (values-order rs ++ closing-order ns rs)
+    ∙ ap (or-else-check (records-length-check rs)) (orders-append (values-order rs) (closing-order ns rs))
+
+---- Lengths ----
+
+-- 1 to 3 do not hold
+pub fine-length : (ns : List ℕ) → table-length-check ns ≡ Fine → FineLength ns
+unfolding table-length-check no-nodes not-whole too-many-nodes
+fine-length ns e = by (fine-nowhere (table-length-order ns) e)
+  where
+    by : Nowhere (table-length-order ns) → FineLength ns
+    by (not-lone a (not-lone b (not-lone c end))) =
+        let na = eqb-false (length ns) 0 (is-false (no-nodes ns) a) in
+        let nb = eqb-true (length ns % 3) 0 (not-false (eqb (length ns % 3) 0) (is-false (not-whole ns) b)) in
+        let nc = ltb-false 64 (count ns) (is-false (too-many-nodes ns) c) in
+        record { some = omega (arith, na, nb); few = omega (arith, nb, nc); whole = omega (arith, nb) }
+
+-- 10 and 11 do not hold
+pub fine-records-length : (rs : List ℕ) → records-length-check rs ≡ Fine → (1 ≤ length rs) × (length rs ≤ 256)
+unfolding records-length-check no-records too-many-records
+fine-records-length rs e = by (fine-nowhere (records-length-order rs) e)
+  where
+    by : Nowhere (records-length-order rs) → (1 ≤ length rs) × (length rs ≤ 256)
+    by (not-lone a (not-lone b end)) =
+        let na = eqb-false (length rs) 0 (is-false (no-records rs) a) in
+        (omega (arith, na), ltb-false 256 (length rs) (is-false (too-many-records rs) b))

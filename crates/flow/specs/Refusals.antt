@@ -157,10 +157,14 @@ child-grounds ns i = ground 9 i (nobodys-child ns i) ∷ []
 abbrev pub nodes-order : List ℕ → List Round
 nodes-order ns = sweep (count ns) (node-grounds ns) ∷ sweep (count ns - 1) (child-grounds ns) ∷ []
 
+-- "Judging checks 1 to 3"
+abbrev pub table-length-order : List ℕ → List Round
+table-length-order ns =
+    lone (ground 1 0 (no-nodes ns)) ∷ lone (ground 2 0 (not-whole ns)) ∷ lone (ground 3 0 (too-many-nodes ns)) ∷ []
+
 -- "Judging checks 1 to 3; then nodes"
 abbrev pub table-order : List ℕ → List Round
-table-order ns =
-    lone (ground 1 0 (no-nodes ns)) ∷ lone (ground 2 0 (not-whole ns)) ∷ lone (ground 3 0 (too-many-nodes ns)) ∷ nodes-order ns
+table-order ns = table-length-order ns ++ nodes-order ns
 
 unfoldable pub value-grounds : List ℕ → ℕ → List Ground
 value-grounds rs i = ground 12 i (no-record (getD rs i 0)) ∷ []
@@ -172,7 +176,10 @@ values-order rs = sweep (length rs) (value-grounds rs) ∷ []
 abbrev pub closing-order : List ℕ → List ℕ → List Round
 closing-order ns rs = lone (ground 13 (after-closings rs (closings-wanted ns)) (wrong-closings ns rs)) ∷ []
 
+-- 10 and 11
+abbrev pub records-length-order : List ℕ → List Round
+records-length-order rs = lone (ground 10 0 (no-records rs)) ∷ lone (ground 11 0 (too-many-records rs)) ∷ []
+
 -- "then 9 to 14"
 abbrev pub records-order : List ℕ → List ℕ → List Round
-records-order ns rs =
-    lone (ground 10 0 (no-records rs)) ∷ lone (ground 11 0 (too-many-records rs)) ∷ (values-order rs ++ closing-order ns rs)
+records-order ns rs = records-length-order rs ++ (values-order rs ++ closing-order ns rs)

@@ -1,6 +1,6 @@
 // Node tables and record lists: what is refused, in the order of document 01's table, and what stands in a node.
 // `check_table` answers the first of the refusals 1 to 9, `check_records` of 10 to 13; the parts of both that the flow file's
-// reader wants by themselves are public too. The definitions that the contracts cite are in specs/. Nothing is written here
+// reader and writer want by themselves are public too. The definitions that the contracts cite are in specs/. Nothing is written here
 // but marks of the function's own, and no lent slice is changed.
 ghost use mathlib.Core.Path.{_≡_};
 ghost use mathlib.Core.Bool.{true, false, cond, xor, _&&_};
@@ -11,7 +11,7 @@ ghost use Rattle.flow.specs.Kinds.{node-of, node, one-of, two-of, form, 
 ghost use Rattle.flow.specs.Forms.{leaf-form, branch-form, Marks};
 ghost use Rattle.flow.specs.Records.{is-event-number, is-closing-number};
 ghost use Rattle.flow.specs.Refusals.{unknown-kind, wrong-field, not-lower, wrong-sort, child-taken, no-record, closings-wanted, node-grounds, child-grounds, count};
-ghost use Rattle.flow.specs.Checks.{refused, first, each, table-check, nodes-check, values-check, closings-check, records-check};
+ghost use Rattle.flow.specs.Checks.{refused, first, each, table-length-check, table-check, nodes-check, values-check, closings-check, records-length-check, records-check};
 
 // A refusal of document 01: its number, and the node or record that it names.
 pub struct Refusal {
@@ -404,9 +404,9 @@ pub fn check_nodes(nodes: &[u16]) -> Check
     check_children(nodes, &marks)
 }
 
-// 1 to 9.
-pub fn check_table(nodes: &[u16]) -> Check
-    ensures { λ r. ⌜ r ≡ table-check (now (nodes .entry)) ⌝ }
+// 1 to 3.
+pub fn check_table_length(nodes: &[u16]) -> Check
+    ensures { λ r. ⌜ r ≡ table-length-check (now (nodes .entry)) ⌝ }
 {
     if nodes.len() == 0 {
         return refuse(NO_NODES, 0);
@@ -417,6 +417,17 @@ pub fn check_table(nodes: &[u16]) -> Check
     if nodes.len() / 3 > MOST_NODES {
         return refuse(TOO_MANY_NODES, 0);
     }
+    Check::Fine
+}
+
+// 1 to 9.
+pub fn check_table(nodes: &[u16]) -> Check
+    ensures { λ r. ⌜ r ≡ table-check (now (nodes .entry)) ⌝ }
+{
+    let length = check_table_length(nodes);
+    let Check::Fine = length else {
+        return length;
+    };
     check_nodes(nodes)
 }
 
@@ -467,10 +478,9 @@ pub fn check_closings(nodes: &[u16], records: &[u16]) -> Check
     refuse(13, i)
 }
 
-// 10 to 13.
-pub fn check_records(nodes: &[u16], records: &[u16]) -> Check
-    requires { ⌜ 3 ≤ length (now nodes) ⌝ }
-    ensures { λ r. ⌜ r ≡ records-check (now (nodes .entry)) (now (records .entry)) ⌝ }
+// 10 and 11.
+pub fn check_records_length(records: &[u16]) -> Check
+    ensures { λ r. ⌜ r ≡ records-length-check (now (records .entry)) ⌝ }
 {
     if records.len() == 0 {
         return refuse(NO_RECORDS, 0);
@@ -478,9 +488,21 @@ pub fn check_records(nodes: &[u16], records: &[u16]) -> Check
     if records.len() > MOST_RECORDS {
         return refuse(TOO_MANY_RECORDS, 0);
     }
+    Check::Fine
+}
+
+// 10 to 13.
+pub fn check_records(nodes: &[u16], records: &[u16]) -> Check
+    requires { ⌜ 3 ≤ length (now nodes) ⌝ }
+    ensures { λ r. ⌜ r ≡ records-check (now (nodes .entry)) (now (records .entry)) ⌝ }
+{
+    let length = check_records_length(records);
+    let Check::Fine = length else {
+        return length;
+    };
     let values = check_values(records);
-    if let Check::Refused(refusal) = values {
-        return Check::Refused(refusal);
-    }
+    let Check::Fine = values else {
+        return values;
+    };
     check_closings(nodes, records)
 }

@@ -7,17 +7,9 @@ use Rattle.flow.specs.declared.Check.{Check}
 use Rattle.flow.specs.declared.Check.the-variants.{Fine, Refused}
 use Rattle.flow.specs.Refusals.{nodes-order, values-order, closing-order}
 use Rattle.flow.specs.Checks.{first, or-else-check, nodes-check, values-check, closings-check}
-use Rattle.flow.specs.FirstRefusal.{first-append, orders-append}
+use Rattle.flow.specs.FirstRefusal.{first-append, orders-append, or-else-refused, or-else-fine}
 use Rattle.format.specs.Contents.{names-order}
 use Rattle.format.specs.ContentChecks.{leaves-grounds, events-grounds, grounds-of}
-
-pub or-else-refused : {a : Check} {r : Refusal} (b : Check) → a ≡ Refused r → a ≡ or-else-check a b
-unfolding or-else-check
-or-else-refused {a} {r} b e = e ∙ sym (ap (λ (x : Check). or-else-check x b) e)
-
-pub or-else-fine : {a : Check} (b : Check) → a ≡ Fine → b ≡ or-else-check a b
-unfolding or-else-check
-or-else-fine b e = sym (ap (λ (x : Check). or-else-check x b) e)
 
 module _ (names : ℕ) (ns rs : List ℕ) where
   -- from each check on

@@ -7,7 +7,7 @@ use lib.Dec.{ltb, leb}
 use lib.ListN.{length, getD}
 use Rattle.flow.specs.Kinds.{form, node, one-of}
 use Rattle.flow.specs.Records.{most-events}
-use Rattle.flow.specs.Refusals.{Ground, ground, Round, sweep, count, nodes-order, values-order, closing-order}
+use Rattle.flow.specs.Refusals.{Ground, ground, Round, sweep, count, nodes-order, table-length-order, values-order, closing-order, records-length-order}
 use Rattle.format.specs.Format.{File}
 
 -- 19: "a node's event above the number of names (lowest node)"
@@ -34,3 +34,7 @@ content-order names ns rs = nodes-order ns ++ (values-order rs ++ (closing-order
 
 abbrev pub file-order : File → List Round
 file-order f = content-order (length (f .names)) (f .nodes) (f .records)
+
+-- The same of nodes and records that are lent as lists. 02, One: "2 stands between 1 and 3; 1, 2, 3, 10 and 11 have place 0"
+abbrev pub lists-order : ℕ → List ℕ → List ℕ → List Round
+lists-order names ns rs = table-length-order ns ++ (records-length-order rs ++ content-order names ns rs)

@@ -19,7 +19,7 @@ use Rattle.format.specs.Format.{Entry}
 use Rattle.format.specs.Plan.{Plan, done, refuse, place, item, _>>=_, Ran, got, bad, run}
 use Rattle.format.specs.Plans.{bind-bad, bind-got, item-there, item-cut}
 use Rattle.format.specs.Sections.{byte, number, ranged, step-length, machine-length, name, entry}
-use Rattle.format.specs.Items.{refusal-of, as-item, item-in-range, number-at, name-at, name-end, entry-end}
+use Rattle.format.specs.Items.{refusal-of, item-told, refusal-in, as-item, item-in-range, number-at, name-at, name-end, entry-end}
 pub use Rattle.format.specs.There.{Found, NumberThere, RangedThere, LengthThere, NameThere, EntryRuns, EntryThere}
 
 ---- Answers ----
@@ -68,6 +68,14 @@ bad-found f (bad n p) {r} e =
 pub handed-on : {A B : Type 0} (f : A → ℕ) (x : Ran A) (g : B → ℕ) (y : Ran B) {i : Item} {r : Refusal}
     → ((n p : ℕ) → x ≡ bad n p → y ≡ bad n p) → i ≡ as-item f x → i ≡ Bad r → i ≡ as-item g y
 handed-on f x g y {i} {r} k e h = h ∙ item-bad g y refl (k (r .number) (r .place) (bad-found f x (sym e ∙ h)))
+
+-- the refusal that is in an item
+pub item-refusal : {A : Type 0} (g : A → ℕ) (x : Ran A) {i : Item} {q r : Refusal} → i ≡ as-item g x → i ≡ Bad q → r ≡ refusal-in i
+    → x ≡ bad (r .number) (r .place)
+unfolding item-told
+item-refusal g x {i} {q} {r} e h d =
+    let d′ : r ≡ q = d ∙ ap refusal-in h in
+    bad-found g x (sym e ∙ h) ∙ ap (λ (r′ : Refusal). bad (r′ .number) (r′ .place)) (sym d′)
 
 -- an item whose value is the number itself
 pub has-number : (x : Ran ℕ) {g : Got} → as-item (λ n. n) x ≡ Has g → x ≡ got (g .value) (g .next .at)

@@ -3,10 +3,12 @@ pub mod Format
 pub mod Limits
 pub mod Contents
 pub mod Told
+pub mod NameFaults
 -- Definitions that need not be believed.
 pub mod Plan
 pub mod Sections
 pub mod ContentChecks
+pub mod ListChecks
 pub mod Items
 pub mod There
 -- Theorems on the way to the code.
@@ -15,3 +17,4 @@ pub mod ItemLaws
 pub mod SectionLaws
 pub mod NameLaws
 pub mod ContentLaws
+pub mod ListLaws

@@ -1,6 +1,6 @@
 // The flow file's items: a file's bytes read one item after the other, each of which answers a value with the cursor behind it or a
-// refusal; the names section and the sections of numbers; and the checks on the numbers of a file, which a writer makes too.
-// What each answers is defined in specs/, on the plan of the file. Not here: the file as a whole (crate `reader`).
+// refusal; the names section and the sections of numbers; the checks on the numbers of a file, and on lists that are lent to be written.
+// What each answers is defined in specs/, on the plan of the file. Not here: the file as a whole (crates `reader` and `writer`).
 use flow::Check;
 use flow::Refusal;
 ghost use mathlib.Core.Path.{_≡_};
@@ -11,6 +11,7 @@ ghost use Rattle.format.specs.Plan.{run};
 ghost use Rattle.format.specs.Sections.{byte, number, name, entry, new-entry, names, numbers, section, same-bytes, same-entry, met};
 ghost use Rattle.format.specs.Contents.{unnamed-leaf, unnamed-event};
 ghost use Rattle.format.specs.ContentChecks.{leaves-grounds, events-grounds, grounds-of};
+ghost use Rattle.format.specs.ListChecks.{section-alone, lists-check};
 ghost use Rattle.format.specs.Items.{refusal-of, refusal-in, has, as-item, item-in-range, numbers-at, at-front, name-at, name-end, entry-at, entry-end, entries-at, entries-end, Behind};
 
 // The refusals of the items, names and numbers, by document 01's numbers.
@@ -25,6 +26,8 @@ const SAME_ENTRY: u16 = 18;
 const NO_NAME_FOR_NODE: u16 = 19;
 
 const NO_NAME_FOR_RECORD: u16 = 20;
+
+pub const TOO_LONG: u16 = 21;
 
 // The most that there may be of names, and of bytes in a name.
 const MOST_NAMES: u16 = 256;
@@ -313,6 +316,21 @@ pub fn scan_names(file: &[u8]) -> Item
     })
 }
 
+// A names section with nothing behind it: 15 to 18, and 21 at the first byte too many.
+pub fn scan_alone(names: &[u8]) -> Item
+    ensures { λ r. ⌜ r ≡ as-item length (section-alone (now (names .entry))) ⌝ }
+{
+    let item = scan_names(names);
+    let Item::Has(got) = item else {
+        return item;
+    };
+    let end = got.next.at;
+    if end < names.len() {
+        return Item::Bad(refusal(TOO_LONG, end));
+    }
+    item
+}
+
 // So many numbers, one after the other. The value is how many.
 fn run_of_numbers(file: &[u8], c: Cursor, count: u16) -> Item
     requires { ⌜ (c .at < 64000) × (c .at ≤ length (now file)) × (count ≤ 256) ⌝ }
@@ -426,4 +444,24 @@ pub fn check_contents(nodes: &[u16], records: &[u16], names: u16) -> Check
         return leaves;
     };
     check_events(records, names)
+}
+
+// What is refused of a names section, nodes and records that are lent as lists: 15 to 18 and 21 of the names section, 1 to 3, 10 and 11,
+// then as of a file's contents.
+pub fn check_lists(names: &[u8], nodes: &[u16], records: &[u16]) -> Check
+    ensures { λ r. ⌜ r ≡ lists-check (now (names .entry)) (now (nodes .entry)) (now (records .entry)) ⌝ }
+{
+    let section = scan_alone(names);
+    let Item::Has(got) = section else {
+        return Check::Refused(refusal_in(section));
+    };
+    let table = flow::check_table_length(nodes);
+    let Check::Fine = table else {
+        return table;
+    };
+    let list = flow::check_records_length(records);
+    let Check::Fine = list else {
+        return list;
+    };
+    check_contents(nodes, records, got.value)
 }

@@ -1,54 +1,19 @@
 -- What the reader refuses, and where, in terms of the format and in file order: a constructor for each way, with its number and place
--- as the last two indices (`Refuses`); and what it reads (`Readable`). "A count, length byte, name's bytes and number are items; places
--- so far are byte offsets of the item (18: of the entry, 21: of the first byte too many), but 0 for 14. What follows has places as in
--- the table." Definitions only: promises/specs/ReaderRefusals proves that exactly these are refused. Assumes nothing.
+-- as the last two indices (`Refuses`); and what it reads (`Readable`). Places up to 21 are byte offsets, "but 0 for 14. What follows
+-- has places as in the table." The names section's ways are those of `format`, NameFaults. Definitions only: promises/specs/ReaderRefusals proves that exactly these are refused. Assumes nothing.
 use Prim.Native.Nat.{ℕ, _+_, _*_, _≤_, _<_}
-use mathlib.Core.List.{List, [], _∷_, _++_, List·Memᴰ}
+use mathlib.Core.List.{List, _++_}
 use mathlib.Core.Path.{_≡_}
 use lib.ListN.{length}
 use Rattle.flow.specs.Earliest.{Earliest, Nowhere}
 use Rattle.format.specs.declared.Range.{Range}
-use Rattle.format.specs.Format.{number-bytes, Entry, name-bytes, entry-bytes, entries-bytes, names-section, numbers-section, File, encode}
-use Rattle.format.specs.Limits.{step-length, machine-length, name-count, node-count, record-count, InRange, GoodEntry, GoodEntries, GoodNames, GoodNumbers, WithinLimits, Stands}
+use Rattle.format.specs.Format.{number-bytes, Entry, names-section, numbers-section, File, encode}
+use Rattle.format.specs.Limits.{node-count, record-count, InRange, GoodNames, GoodNumbers, WithinLimits, Stands}
 use Rattle.format.specs.Contents.{file-order}
 use Rattle.format.specs.Told.{refusal-of}
+pub use Rattle.format.specs.NameFaults.{RangeFault, cut-count, below, above, NameFault, in-length, cut-bytes, EntryFault, in-step, in-machine, Entering, NamesFault, in-name-count, in-entry, met-again}
 
 module _ (s : List ℕ) where
-  -- of a count or a length at an offset, in so many bytes
-  pub data RangeFault (g : Range) (size : ℕ) (bytes : ℕ → List ℕ) (at : ℕ) : ℕ → ℕ → Type 0 where
-    -- 15
-    cut-count : length s < at + size → RangeFault g size bytes at 15 at
-    -- 1, 10: "no nodes", "no records"; 17: "length out of range"
-    below : (v : ℕ) → Stands s at (bytes v) → v < g .least → RangeFault g size bytes at (g .few) at
-    -- 3, 11: "over 64 nodes", "over 256"; 16: "over 256 names"; 17
-    above : (v : ℕ) → Stands s at (bytes v) → g .most < v → RangeFault g size bytes at (g .many) at
-
-  -- of a name at an offset
-  pub data NameFault (g : Range) (at : ℕ) : ℕ → ℕ → Type 0 where
-    in-length : {k p : ℕ} → RangeFault g 1 (λ v. v ∷ []) at k p → NameFault g at k p
-    cut-bytes : (l : ℕ) → Stands s at (l ∷ []) → InRange g l → length s < at + 1 + l → NameFault g at 15 (at + 1)
-
-  -- of an entry at an offset
-  pub data EntryFault (at : ℕ) : ℕ → ℕ → Type 0 where
-    in-step : {k p : ℕ} → NameFault step-length at k p → EntryFault at k p
-    in-machine : {k p : ℕ} (st : List ℕ) → InRange step-length (length st) → Stands s at (name-bytes st)
-        → NameFault machine-length (at + length (name-bytes st)) k p → EntryFault at k p
-
-  -- n names are counted, the entries es stand whole and good behind the count, and there are more to come, at an offset
-  pub record Entering (n : ℕ) (es : List Entry) (at : ℕ) : Type 0 where
-    pub counted : InRange name-count n
-    pub good : GoodEntries [] es
-    pub left : length es < n
-    pub stands : Stands s 0 (number-bytes n ++ entries-bytes es)
-    pub here : at ≡ 2 + length (entries-bytes es)
-
-  -- of the names section
-  pub data NamesFault : ℕ → ℕ → Type 0 where
-    in-name-count : {k p : ℕ} → RangeFault name-count 2 number-bytes 0 k p → NamesFault k p
-    in-entry : {k p : ℕ} (n : ℕ) (es : List Entry) (at : ℕ) → Entering n es at → EntryFault at k p → NamesFault k p
-    -- 18: "entry equal to an earlier one"
-    met-again : (n : ℕ) (es : List Entry) (at : ℕ) → Entering n es at → (e : Entry) → GoodEntry e → Stands s at (entry-bytes e) → List·Memᴰ e es → NamesFault 18 at
-
   -- of a section of numbers at an offset: the first i numbers stand whole, and the next does not
   pub data SectionFault (g : Range) (each at : ℕ) : ℕ → ℕ → Type 0 where
     in-count : {k p : ℕ} → RangeFault g 2 number-bytes at k p → SectionFault g each at k p

@@ -6,14 +6,12 @@ use mathlib.Core.Path.{_≡_, refl, ap, ap₂, sym, _∙_}
 use native.Mathlib.Omega.{arith}
 use lib.ListN.{length}
 use Rattle.flow.specs.declared.Refusal.{Refusal}
-use Rattle.format.specs.declared.Item.{Item}
-use Rattle.format.specs.declared.Item.the-variants as item
 use Rattle.format.specs.Format.{Entry, File}
 use Rattle.format.specs.Plan.{Plan, done, _>>=_, Ran, got, bad, run}
 use Rattle.format.specs.Sections.{names, section, node-count, record-count, layout}
-use Rattle.format.specs.Items.{refusal-of, refusal-in, item-told, as-item, numbers-at}
+use Rattle.format.specs.Items.{refusal-of, numbers-at}
 use Rattle.format.specs.Plans.{bind-bad, bind-got}
-use Rattle.format.specs.ItemLaws.{got-value, got-next, got-not-bad, bad-found}
+use Rattle.format.specs.ItemLaws.{got-value, got-next, got-not-bad}
 use Rattle.format.specs.SectionLaws.{SectionThere, section-there}
 use Rattle.reader.specs.declared.Counts.{Counts}
 use Rattle.reader.specs.declared.Offsets.{Offsets}
@@ -125,14 +123,6 @@ module _ (s : List ℕ) {f : File} {o : Offsets} (p : Placed s f o) where
       }
 
 ---- What `lay_out` answers ----
-
--- an item that is a refusal hands it on
-pub item-refusal : {A : Type 0} (g : A → ℕ) (x : Ran A) {i : Item} {q r : Refusal} → i ≡ as-item g x → i ≡ item.Bad q → r ≡ refusal-in i
-    → x ≡ bad (r .number) (r .place)
-unfolding item-told
-item-refusal g x {i} {q} {r} e h d =
-    let d′ : r ≡ q = d ∙ ap refusal-in h in
-    bad-found g x (sym e ∙ h) ∙ ap (λ (r′ : Refusal). bad (r′ .number) (r′ .place)) (sym d′)
 
 module _ (s : List ℕ) {es : List Entry} {from : ℕ} (a : run s 0 names ≡ got es from) {ns : List ℕ} {mid : ℕ}
     (b : run s from (section node-count 3) ≡ got ns mid) {rs : List ℕ} {end : ℕ} (c : run s mid (section record-count 1) ≡ got rs end) where

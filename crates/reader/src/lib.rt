@@ -12,9 +12,6 @@ ghost use Rattle.format.specs.Items.{numbers-at};
 ghost use Rattle.reader.specs.Reading.{ReadAs};
 ghost use Rattle.reader.specs.Laying.{layout-refusal, check-refusal, Lays, Inside};
 
-// The refusal of the reader's own, by document 01's number.
-const TOO_LONG: u16 = 21;
-
 // How many nodes and records there may be.
 const NODES: Range = Range {
     least: 1,
@@ -97,7 +94,7 @@ fn lay_out(file: &[u8]) -> Layout
     };
     let end = k.next.at;
     if end < file.len() {
-        return Layout::Bad(format::refusal(TOO_LONG, end));
+        return Layout::Bad(format::refusal(format::TOO_LONG, end));
     }
     let counts = Counts {
         names: e.value,

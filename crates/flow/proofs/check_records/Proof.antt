@@ -1,69 +1,59 @@
--- `flow::check_records` meets its contract: 10 and 11 by their tests, then the parts in their order. Assumes nothing.
-use mathlib.Core.Path.{ap, sym, _∙_}
-use borrow.Author.Tests.{eq-eqb, ne-eqb, lt-ltb, le-ltb}
+-- `flow::check_records` meets its contract: 10 and 11, then the records one by one, then their closings. Assumes nothing.
 use borrow.Author.Needs.{needs}
-use Rattle.flow.specs.declared.Check.{Check}
-use Rattle.flow.specs.Refusals.{no-records, too-many-records}
-use Rattle.flow.specs.Checks.{records-check, closings-check, first, answer, or-else-check}
-use Rattle.flow.specs.FirstRefusal.{records-parts}
+use mathlib.Core.Path.{sym, _∙_}
+use Rattle.flow.specs.FirstRefusal.{or-else-refused, or-else-fine, records-parts, fine-records-length}
 use Rattle.flow.proofs.check_records.Statement.{statement}
 use Rattle.flow.proofs.check_records.Tie as tie
 
-refuse-requires : tie.Need-refuse-requires
-refuse-requires c κs = search needs
-
-returns : tie.Need-returns
-unfolding records-check first answer or-else-check no-records too-many-records
-returns c = rw (c .refuse .ensures, eq-eqb _ _ (c .before .if1 .taken))
-
-refuse-requires-2 : tie.Need-refuse-requires-2
-refuse-requires-2 c κs = search needs
-
-returns-2 : tie.Need-returns-2
-unfolding records-check first answer or-else-check no-records too-many-records
-returns-2 c = rw (c .refuse2 .ensures, ne-eqb _ _ (c .before .before .if1 .left), lt-ltb _ _ (c .before .if2 .taken))
-
-check-values-requires : tie.Need-check-values-requires
-check-values-requires c κs = search needs
-
-enum-known-values : tie.Need-enum-known-values
-enum-known-values c = search needs
-
-returns-3 : tie.Need-returns-3
-unfolding or-else-check no-records too-many-records
-returns-3 c =
-    let ns = c .before .before .before .before .before .before .before .before .args .nodes .now in
-    let rs = c .before .before .before .before .before .before .before .before .args .records .now in
-    let e = sym (c .before .before .before .check-values .ensures) ∙ c .before .values .given .1 in
-    let parts = records-parts ns rs (ne-eqb _ _ (c .before .before .before .before .before .if1 .left)) (le-ltb _ _ (c .before .before .before .before .if2 .left)) in
-    sym (parts ∙ ap (λ (x : Check). or-else-check x (closings-check ns rs)) e)
+check-records-length-requires : tie.Need-check-records-length-requires
+check-records-length-requires c κs = search needs
 
 enum-told : tie.Need-enum-told
 enum-told c = search needs
 
-check-closings-requires : tie.Need-check-closings-requires
-check-closings-requires c κs = search needs
+enum-told-2 : tie.Need-enum-told-2
+enum-told-2 c = search needs
 
-returns-4 : tie.Need-returns-4
-unfolding or-else-check no-records too-many-records
-returns-4 c =
-    let ns = c .before .before .before .before .before .before .before .before .args .nodes .now in
-    let rs = c .before .before .before .before .before .before .before .before .args .records .now in
-    let e = sym (c .before .before .before .check-values .ensures) ∙ c .before .enum-told .given .1 in
-    let parts = records-parts ns rs (ne-eqb _ _ (c .before .before .before .before .before .if1 .left)) (le-ltb _ _ (c .before .before .before .before .if2 .left)) in
-    c .check-closings .ensures ∙ sym (parts ∙ ap (λ (x : Check). or-else-check x (closings-check ns rs)) e)
+returns : tie.Need-returns
+returns c = let e = c .before .before .check-records-length .ensures in e ∙ or-else-refused _ (sym e ∙ c .enum-told2 .given .1) ∙ sym (records-parts _ _)
+
+check-values-requires : tie.Need-check-values-requires
+check-values-requires c κs = fine-records-length _ (sym (c .before .before .check-records-length .ensures) ∙ c .enum-told .given .1) .1
+
+enum-told-3 : tie.Need-enum-told-3
+enum-told-3 c = search needs
+
+enum-told-4 : tie.Need-enum-told-4
+enum-told-4 c = search needs
+
+returns-2 : tie.Need-returns-2
+returns-2 c =
+    let f = sym (c .before .before .before .before .before .check-records-length .ensures) ∙ c .before .before .before .enum-told .given .1 in
+    let e = c .before .before .check-values .ensures in
+    e ∙ or-else-refused _ (sym e ∙ c .enum-told4 .given .1) ∙ or-else-fine _ f ∙ sym (records-parts _ _)
+
+check-closings-requires : tie.Need-check-closings-requires
+check-closings-requires c κs =
+    let f = sym (c .before .before .before .before .before .check-records-length .ensures) ∙ c .before .before .before .enum-told .given .1 in
+    (c .before .before .before .before .before .before .before .before .pre, fine-records-length _ f .1)
+
+returns-3 : tie.Need-returns-3
+returns-3 c =
+    let f = sym (c .before .before .before .before .before .before .check-records-length .ensures) ∙ c .before .before .before .before .enum-told .given .1 in
+    let g = sym (c .before .before .before .check-values .ensures) ∙ c .before .enum-told3 .given .1 in
+    c .check-closings .ensures ∙ or-else-fine _ g ∙ or-else-fine _ f ∙ sym (records-parts _ _)
 
 pub check-records-spec : {M : Type 1} → statement M
 check-records-spec =
     tie.close
     (tie.spec
-    refuse-requires
-    returns
-    refuse-requires-2
-    returns-2
-    check-values-requires
-    enum-known-values
-    returns-3
+    check-records-length-requires
     enum-told
+    enum-told-2
+    returns
+    check-values-requires
+    enum-told-3
+    enum-told-4
+    returns-2
     check-closings-requires
-    returns-4)
+    returns-3)

@@ -1,48 +1,38 @@
--- `flow::check_table` meets its contract: each return rewrites with the tests that led there. Assumes nothing.
-use borrow.Author.Tests.{eq-eqb, ne-eqb, lt-ltb, le-ltb}
+-- `flow::check_table` meets its contract: 1 to 3, then the nodes. Assumes nothing.
 use borrow.Author.Needs.{needs}
-use Rattle.flow.specs.Refusals.{no-nodes, not-whole, too-many-nodes}
-use Rattle.flow.specs.Checks.{table-check, first, answer, or-else-check, nodes-check}
+use mathlib.Core.Path.{sym, _∙_}
+use Rattle.flow.specs.Checks.{nodes-check}
+use Rattle.flow.specs.FirstRefusal.{or-else-refused, or-else-fine, table-parts, fine-length}
 use Rattle.flow.proofs.check_table.Statement.{statement}
 use Rattle.flow.proofs.check_table.Tie as tie
 
-refuse-requires : tie.Need-refuse-requires
-refuse-requires c κs = search needs
+check-table-length-requires : tie.Need-check-table-length-requires
+check-table-length-requires c κs = search needs
+
+enum-told : tie.Need-enum-told
+enum-told c = search needs
+
+enum-told-2 : tie.Need-enum-told-2
+enum-told-2 c = search needs
 
 returns : tie.Need-returns
-unfolding table-check first answer or-else-check no-nodes not-whole too-many-nodes
-returns c = rw (c .refuse .ensures, eq-eqb _ _ (c .before .if1 .taken))
-
-refuse-requires-2 : tie.Need-refuse-requires-2
-refuse-requires-2 c κs = search needs
-
-returns-2 : tie.Need-returns-2
-unfolding table-check first answer or-else-check no-nodes not-whole too-many-nodes
-returns-2 c = rw (c .refuse2 .ensures, ne-eqb _ _ (c .before .before .if1 .left), ne-eqb _ _ (c .before .if2 .taken))
-
-refuse-requires-3 : tie.Need-refuse-requires-3
-refuse-requires-3 c κs = search needs
-
-returns-3 : tie.Need-returns-3
-unfolding table-check first answer or-else-check no-nodes not-whole too-many-nodes
-returns-3 c = rw (c .refuse3 .ensures, ne-eqb _ _ (c .before .before .before .if1 .left), eq-eqb _ _ (c .before .before .if2 .left), lt-ltb _ _ (c .before .if3 .taken))
+returns c = let e = c .before .before .check-table-length .ensures in e ∙ or-else-refused _ (sym e ∙ c .enum-told2 .given .1) ∙ sym (table-parts _)
 
 check-nodes-requires : tie.Need-check-nodes-requires
-check-nodes-requires c κs = search needs
+check-nodes-requires c κs = fine-length _ (sym (c .before .before .check-table-length .ensures) ∙ c .enum-told .given .1) .few
 
-returns-4 : tie.Need-returns-4
-unfolding table-check first answer or-else-check no-nodes not-whole too-many-nodes nodes-check
-returns-4 c = rw (c .check-nodes .ensures, ne-eqb _ _ (c .before .before .before .if1 .left), eq-eqb _ _ (c .before .before .if2 .left), le-ltb _ _ (c .before .if3 .left))
+returns-2 : tie.Need-returns-2
+returns-2 c =
+    let e = c .before .before .before .check-table-length .ensures in
+    c .check-nodes .ensures ∙ or-else-fine _ (sym e ∙ c .before .enum-told .given .1) ∙ sym (table-parts _)
 
 pub check-table-spec : {M : Type 1} → statement M
 check-table-spec =
     tie.close
     (tie.spec
-    refuse-requires
+    check-table-length-requires
+    enum-told
+    enum-told-2
     returns
-    refuse-requires-2
-    returns-2
-    refuse-requires-3
-    returns-3
     check-nodes-requires
-    returns-4)
+    returns-2)

@@ -3,10 +3,10 @@
 use mathlib.Core.Path.{sym, _∙_}
 use native.Mathlib.Omega.{arith}
 use borrow.Author.Needs.{needs}
-use Rattle.format.specs.ItemLaws.{has-found}
+use Rattle.format.specs.ItemLaws.{has-found, item-refusal}
 use Rattle.format.specs.SectionLaws.{names-there, section-there}
 use Rattle.reader.specs.Laying.{lays-bad}
-use Rattle.reader.specs.LayoutLaws.{item-refusal, layout-names-bad, layout-nodes-bad, layout-records-bad, lays-too-long, lays-whole}
+use Rattle.reader.specs.LayoutLaws.{layout-names-bad, layout-nodes-bad, layout-records-bad, lays-too-long, lays-whole}
 use Rattle.reader.proofs.lay_out.Statement.{statement}
 use Rattle.reader.proofs.lay_out.Tie as tie
 

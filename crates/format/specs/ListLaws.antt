@@ -1,0 +1,63 @@
+-- A names section by itself, by what a scan of it found; and the checks of lent lists one after the other. Assumes nothing.
+use Prim.Native.Nat.{ℕ, _<_, _≤_}
+use mathlib.Core.List.{List, _++_}
+use mathlib.Core.Path.{_≡_, ap, sym, _∙_}
+use borrow.Author.Tests.{lt-ltb, le-ltb}
+use lib.ListN.{length}
+use Rattle.flow.specs.declared.Refusal.{Refusal}
+use Rattle.flow.specs.declared.Check.{Check}
+use Rattle.flow.specs.declared.Check.the-variants.{Fine, Refused}
+use Rattle.flow.specs.Refusals.{table-length-order, records-length-order}
+use Rattle.flow.specs.Checks.{refused, first, or-else-check, table-length-check, records-length-check}
+use Rattle.flow.specs.FirstRefusal.{orders-append, or-else-refused, or-else-fine}
+use Rattle.format.specs.Format.{Entry}
+use Rattle.format.specs.Plan.{Ran, got, bad, run}
+use Rattle.format.specs.Sections.{names}
+use Rattle.format.specs.Contents.{content-order}
+use Rattle.format.specs.ContentChecks.{grounds-of}
+use Rattle.format.specs.ListChecks.{nothing-behind, section-alone, by-entries, named-check, lists-check}
+
+---- A names section by itself ----
+
+module _ (s : List ℕ) where
+  pub alone-bad : {n p : ℕ} → run s 0 names ≡ bad n p → section-alone s ≡ bad n p
+  unfolding section-alone nothing-behind
+  alone-bad e = ap (nothing-behind s) e
+
+  module _ {es : List Entry} {at : ℕ} (e : run s 0 names ≡ got es at) where
+    pub alone-longer : at < length s → section-alone s ≡ bad 21 at
+    unfolding section-alone nothing-behind
+    alone-longer h = ap (nothing-behind s) e ∙ rw (lt-ltb at (length s) h)
+
+    pub alone-got : length s ≤ at → section-alone s ≡ got es at
+    unfolding section-alone nothing-behind
+    alone-got h = ap (nothing-behind s) e ∙ rw (le-ltb at (length s) h)
+
+---- Lists ----
+
+module _ (s ns rs : List ℕ) where
+  pub section-refused : {n p : ℕ} → section-alone s ≡ bad n p → lists-check s ns rs ≡ refused n p
+  unfolding lists-check named-check by-entries
+  section-refused e = ap (by-entries _) e
+
+  module _ {es : List Entry} {at : ℕ} (e : section-alone s ≡ got es at) where
+    contents : Check
+    contents = first (grounds-of (length es) ns rs)
+
+    lists-is : lists-check s ns rs ≡ or-else-check (table-length-check ns) (or-else-check (records-length-check rs) contents)
+    unfolding lists-check named-check by-entries contents grounds-of table-length-check records-length-check
+    lists-is =
+        ap (by-entries _) e
+        ∙ orders-append (table-length-order ns) (records-length-order rs ++ content-order (length es) ns rs)
+        ∙ ap (or-else-check (table-length-check ns)) (orders-append (records-length-order rs) (content-order (length es) ns rs))
+
+    pub table-length-refused : {c : Check} {r : Refusal} → c ≡ table-length-check ns → c ≡ Refused r → c ≡ lists-check s ns rs
+    table-length-refused q h = q ∙ or-else-refused _ (sym q ∙ h) ∙ sym lists-is
+
+    module _ (a : table-length-check ns ≡ Fine) where
+      pub records-length-refused : {c : Check} {r : Refusal} → c ≡ records-length-check rs → c ≡ Refused r → c ≡ lists-check s ns rs
+      records-length-refused q h = q ∙ or-else-refused _ (sym q ∙ h) ∙ or-else-fine _ a ∙ sym lists-is
+
+      pub contents-last : {c : Check} {n : ℕ} → records-length-check rs ≡ Fine → n ≡ length es → c ≡ first (grounds-of n ns rs) → c ≡ lists-check s ns rs
+      unfolding contents
+      contents-last b d q = q ∙ ap (λ (k : ℕ). first (grounds-of k ns rs)) d ∙ or-else-fine _ b ∙ or-else-fine _ a ∙ sym lists-is
