@@ -1,0 +1,36 @@
+-- What the writer refuses, in which order, and what it writes. 02, One: "from a names section, nodes and records into lent bytes, refused
+-- by the reader's own numbers and in its order". `s` are the bytes of the names section, `ns` the numbers of the nodes, `rs` the records.
+-- Definitions only: promises/specs/Writer proves that exactly these are refused and written. Assumes nothing.
+use Prim.Native.Nat.{ℕ, _≤_}
+use mathlib.Core.List.{List, [], _∷_, _++_}
+use mathlib.Core.Path.{_≡_}
+use lib.Dec.{ltb}
+use lib.ListN.{length}
+use Rattle.flow.specs.Refusals.{ground, Round, lone}
+use Rattle.flow.specs.Earliest.{Nowhere}
+use Rattle.format.specs.Format.{Entry, names-section, File, encode}
+use Rattle.format.specs.Limits.{WithinLimits}
+use Rattle.format.specs.Contents.{file-order, lists-order}
+use Rattle.format.specs.NameFaults.{NamedRefuses}
+
+module _ (s ns rs : List ℕ) (room : ℕ) where
+  -- the file of these lists
+  abbrev pub file-of-lists : List Entry → File
+  file-of-lists es = record { names = es; nodes = ns; records = rs }
+
+  -- 1, 2, 3, 10, 11, then as the reader; 14, "lent room too short", last
+  abbrev pub write-order : List Entry → List Round
+  write-order es = lists-order (length es) ns rs ++ (lone (ground 14 0 (ltb room (length (encode (file-of-lists es))))) ∷ [])
+
+  abbrev pub WriteRefuses : ℕ → ℕ → Type 0
+  WriteRefuses = NamedRefuses s write-order
+
+  -- the lists are those of a file of the format within the limits, with nothing to refuse in its numbers, and there is room for it: such
+  -- lists are written
+  pub record Writable (f : File) : Type 0 where
+    pub names-lent : s ≡ names-section (f .names)
+    pub nodes-lent : ns ≡ f .nodes
+    pub records-lent : rs ≡ f .records
+    pub within : WithinLimits f
+    pub fine : Nowhere (file-order f)
+    pub room-enough : length (encode f) ≤ room
