@@ -16,13 +16,13 @@ pub use Rattle.format.specs.NameFaults.{RangeFault, cut-count, below, above, Na
 module _ (s : List ℕ) where
   -- of a section of numbers at an offset: the first i numbers stand whole, and the next does not
   pub data SectionFault (g : Range) (each at : ℕ) : ℕ → ℕ → Type 0 where
-    in-count : {k p : ℕ} → RangeFault g 2 number-bytes at k p → SectionFault g each at k p
+    in-count : {k p : ℕ} → RangeFault s g 2 number-bytes at k p → SectionFault g each at k p
     cut-number : (n i : ℕ) → Stands s at (number-bytes n) → InRange g n → i < each * n → at + 2 + 2 * i ≤ length s → length s < at + 2 + 2 * i + 2
         → SectionFault g each at 15 (at + 2 + 2 * i)
 
   -- of the three sections, up to the last record
   pub data LayoutFault : ℕ → ℕ → Type 0 where
-    in-names : {k p : ℕ} → NamesFault k p → LayoutFault k p
+    in-names : {k p : ℕ} → NamesFault s k p → LayoutFault k p
     in-nodes : {k p : ℕ} (es : List Entry) → GoodNames es → Stands s 0 (names-section es)
         → SectionFault node-count 3 (length (names-section es)) k p → LayoutFault k p
     in-records : {k p : ℕ} (es : List Entry) (ns : List ℕ) → GoodNames es → GoodNumbers node-count 3 ns → Stands s 0 (names-section es ++ numbers-section 3 ns)
