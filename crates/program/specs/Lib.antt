@@ -1,2 +1,6 @@
+-- Definitions, in the order a reader needs them.
 pub mod Program
+-- Definitions that need not be believed.
+pub mod Rewriting
+-- Theorems on the way to the code.
 pub mod ProgramLaws
