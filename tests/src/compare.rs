@@ -69,7 +69,7 @@ fn compare_cases<I: Iterator<Item = Made>>(
     let mut totals = Totals::default();
     let mut difference = None;
     for made in made {
-        let expected = made.case.line(made.answer);
+        let expected = made.line();
         let got = lines.recv_timeout(PATIENCE).unwrap_or("(no line)".into());
         if got != expected {
             let case = format!("case {}, {}", totals.cases, made.family);
@@ -120,12 +120,12 @@ fn compare_empty(replay: &[&str]) -> Result<(), String> {
 /// A good case is answered, the malformed one is called bad, and nothing after it is answered.
 fn compare_malformed(replay: &[&str], malformed: &Malformed) -> Result<(), String> {
     let good = good_case();
-    let answer = good.answer(9).expect("two states");
+    let reply = good.reply(9).expect("two states");
     let mut input = [good.bytes(), malformed.bytes.clone()].concat();
     if !malformed.cut {
         input.extend(good.bytes());
     }
-    let expected = vec![good.line(answer), "bad case".to_string()];
+    let expected = vec![good.line(&reply), "bad case".to_string()];
     let lines = all_lines(replay, &input)?;
     if lines == expected {
         return Ok(());

@@ -1,12 +1,12 @@
 //! Flow files as they are put together for the tests: three sections and the items they consist of.
-//! What is refused is decided in reader.rs; nothing here is checked, so that any damage can be written.
+//! What is refused is decided in reader.rs and writer.rs; nothing here is checked, so that any damage can be written.
 
 use crate::term::DONE;
 
 /// A step name and a machine name.
 pub type Entry = (Vec<u8>, Vec<u8>);
 
-#[derive(Clone, Debug)]
+#[derive(Clone, PartialEq, Eq, Debug)]
 pub struct FlowFile {
     pub names: Vec<Entry>,
     pub nodes: Vec<u16>,
@@ -39,6 +39,15 @@ pub fn entry(step: &str, machine: &str) -> Entry {
 impl FlowFile {
     pub fn bytes(&self) -> Vec<u8> {
         self.items().into_iter().flat_map(|item| item.bytes).collect()
+    }
+
+    /// The bytes of the first section, its count included.
+    pub fn names_section(&self) -> Vec<u8> {
+        self.names_items().into_iter().flat_map(|item| item.bytes).collect()
+    }
+
+    pub fn names_items(&self) -> Vec<Item> {
+        self.items().into_iter().take_while(|item| item.kind < ItemKind::NodeCount).collect()
     }
 
     /// The items in file order. A machine name of no bytes is none.

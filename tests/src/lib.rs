@@ -1,10 +1,10 @@
-//! Document 01 a second time, in plain Rust, to test the proved judge and reader against. It is written from
-//! the document and the decisions on its open points, and shares no code with them.
+//! Document 01 and what has landed of document 02 a second time, in plain Rust, to test the proved judge, reader and writer against.
+//! It is written from the documents and the decisions on their open points, and shares no code with them.
 //!
 //! What is here, from the bottom up:
 //! - `term`: terms, closings, states; `refusals`: the checks 1 to 14.
 //! - `rules`: the rules as plain lists, sentence by sentence; `guided`: the same successors one at a time.
-//! - `judge`: the counted search and the answer; `reader`: the flow file and the program's line.
+//! - `judge`: the counted search and the answer; `reader`: the flow file and the program's line; `writer`: the flow file written.
 //! - `traces`: the published trace semantics as explicit sets; `laws`: the laws of demand 3.
 //! - `selfcheck`: `judge` against `traces`, `guided` against `rules`, with and without a memory, the laws against `judge`.
 //! - `cases`: cases for `replay`; `compare`: its lines against ours; `samples`, `measured`: flow files to try and to measure.
@@ -28,3 +28,4 @@ pub mod samples;
 pub mod selfcheck;
 pub mod term;
 pub mod traces;
+pub mod writer;

@@ -29,9 +29,7 @@ pub fn read(bytes: &[u8]) -> Result<FlowFile, Refusal> {
     let names = read_names(&mut cursor)?;
     let nodes = read_numbers(&mut cursor, 3, MOST_NODES, [1, 3])?;
     let records = read_numbers(&mut cursor, 1, MOST_RECORDS, [10, 11])?;
-    if cursor.at < bytes.len() {
-        return refuse(21, cursor.at);
-    }
+    cursor.is_at_the_end()?;
     node_table(&nodes)?;
     record_list(&nodes, &records)?;
     events_have_names(&nodes, &records, names.len())?;
@@ -55,6 +53,14 @@ impl<'a> Cursor<'a> {
         }
     }
 
+    /// 21 at the first byte too many.
+    fn is_at_the_end(&self) -> Check {
+        if self.at < self.bytes.len() {
+            return refuse(21, self.at);
+        }
+        Ok(())
+    }
+
     fn number(&mut self) -> Result<u16, Refusal> {
         let item = self.item(2)?;
         Ok(u16::from_le_bytes([item[0], item[1]]))
@@ -69,6 +75,14 @@ impl<'a> Cursor<'a> {
         }
         Ok(self.item(length as usize)?.to_vec())
     }
+}
+
+/// A names section and nothing else: 15 to 18, then 21 right after its last entry.
+pub fn names_section(bytes: &[u8]) -> Result<Vec<Entry>, Refusal> {
+    let mut cursor = Cursor { bytes, at: 0 };
+    let names = read_names(&mut cursor)?;
+    cursor.is_at_the_end()?;
+    Ok(names)
 }
 
 /// 15 to 18.
@@ -110,7 +124,7 @@ fn read_numbers(
 }
 
 /// 19, then 20.
-fn events_have_names(nodes: &[u16], records: &[u16], names: usize) -> Check {
+pub fn events_have_names(nodes: &[u16], records: &[u16], names: usize) -> Check {
     let nameless = |event: u16| event as usize > names;
     if let Some(i) = nodes.chunks(3).position(|n| n[0] == kind::EVENT && nameless(n[1])) {
         return refuse(19, i);

@@ -1,5 +1,5 @@
-//! The refusals of the judge, 1 to 14, in the order of document 01. Those of the reader alone, 15 to 21,
-//! are in reader.rs, which calls the checks from here in between.
+//! The refusals of the judge, 1 to 14, in the order of document 01. Those of flow files, 15 to 21, are in reader.rs;
+//! the reader and the writer call the checks from here in between.
 
 use crate::term::{is_event, kind, sort_of, Closing, Sort};
 
@@ -37,7 +37,7 @@ pub fn judge_checks(nodes: &[u16], records: &[u16], work_len: usize) -> Check {
 }
 
 /// 1, 2, 3.
-fn node_count(nodes: &[u16]) -> Check {
+pub fn node_count(nodes: &[u16]) -> Check {
     if nodes.is_empty() {
         refuse(1, 0)
     } else if !nodes.len().is_multiple_of(3) {
@@ -105,7 +105,7 @@ fn children_of(kind: u16, first: u16, second: u16) -> Option<(Vec<usize>, Sort)>
 }
 
 /// 10, 11.
-fn record_count(records: &[u16]) -> Check {
+pub fn record_count(records: &[u16]) -> Check {
     if records.is_empty() {
         refuse(10, 0)
     } else if records.len() > MOST_RECORDS {

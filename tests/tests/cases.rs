@@ -1,12 +1,16 @@
 //! The stream of cases covers what it is to cover, is the same for the same seed, and gives the gate's stored run.
 
 use oracle::by_hand;
+use oracle::cases::calling::{Call, WRITE};
 use oracle::cases::malformed::malformed;
-use oracle::cases::{Case, Made, Run, Stream, Totals, MOST_NUMBERS, MOST_WORK, STORED_CASES, STORED_SEED};
+use oracle::cases::{
+    Case, Made, Reply, Run, Stream, Totals, MOST_NUMBERS, MOST_ROOM, MOST_WORK, STORED_CASES, STORED_SEED,
+};
 use oracle::judge::{effort_allowed, with_deep_stack, Answer};
-use oracle::reader::read;
+use oracle::reader::{read, NODE_ROOM, RECORD_ROOM};
 use oracle::refusals::work_wanted;
-use oracle::term::{sort_of, Sort};
+use oracle::term::{sort_of, Sort, DONE};
+use oracle::writer::file_of;
 use std::path::PathBuf;
 use std::sync::OnceLock;
 
@@ -27,19 +31,79 @@ fn the_stored_run_is_up_to_date() {
         stored("stdout") == run.stdout.as_bytes(),
         "crates/replay/stdout is not what the generator makes"
     );
+    assert!(run.stdout.len() < 1_000_000, "too many long files are written");
+}
+
+fn totals(cases: &[Made]) -> Totals {
+    let mut totals = Totals::default();
+    cases.iter().for_each(|made| totals.count(made));
+    totals
 }
 
 #[test]
 fn every_answer_comes_often() {
-    let mut totals = Totals::default();
-    cases().iter().for_each(|made| totals.count(made));
+    let totals = totals(cases());
     for number in 1..=21 {
-        assert!(totals.of_refusal(number) >= 25, "refusal {number}\n{}", totals.show());
+        let judging = totals.of_refusal("program", number) + totals.of_refusal("judge", number);
+        assert!(judging >= 25, "refusal {number} of judging\n{}", totals.show());
+        assert!(
+            totals.of_refusal("writer", number) >= 10,
+            "refusal {number} of the writer\n{}",
+            totals.show()
+        );
     }
     for word in ["accepted", "rejected", "undecided", "refused"] {
         assert!(totals.of_word(word) >= 300, "{word}\n{}", totals.show());
     }
+    for word in ["read", "written"] {
+        assert!(totals.of_word(word) >= 100, "{word}\n{}", totals.show());
+    }
     assert!(totals.states > 2_000_000, "{}", totals.show());
+}
+
+/// Every refusal of the reader, which has no 2, and of the writer is among the fixed cases, so that it is in every stream.
+#[test]
+fn no_refusal_of_reader_and_writer_is_left_to_chance() {
+    let fixed: Vec<Made> = with_deep_stack(|| {
+        let calls = oracle::cases::fixed::cases().into_iter().filter(|(_, case)| case.asked() != "judge");
+        calls.filter_map(|(family, case)| Made::within(u32::MAX, family, case)).collect()
+    });
+    let totals = totals(&fixed);
+    for number in 1..=21 {
+        assert!(totals.of_refusal("writer", number) > 0, "{}", totals.show());
+        assert!(totals.of_refusal("reader", number) > 0 || number == 2, "{}", totals.show());
+    }
+}
+
+/// One byte of room less than a file that is written wants, just as many, one more.
+#[test]
+fn rooms_of_the_writer_meet_the_one_wanted_from_both_sides() {
+    let mut seen = [0; 3];
+    for made in cases() {
+        let Case::Call(call) = &made.case else { continue };
+        let wanted = file_of(&call.names, &call.nodes, &call.records).len() as u32;
+        if made.reply.refusal().is_none_or(|refusal| refusal.number == 14) {
+            (0..3).for_each(|i| seen[i] += (call.room + 1 == wanted + i as u32) as u32);
+        }
+    }
+    assert!(seen.iter().all(|n| *n >= 5), "{seen:?}");
+}
+
+/// Tables lent to the reader: a number less than it needs, just as many, one more, and far more.
+#[test]
+fn rooms_of_the_reader_meet_the_ones_needed_from_both_sides() {
+    let (mut for_nodes, mut for_records) = ([0; 4], [0; 4]);
+    for made in cases() {
+        let Case::Read { node_room, record_room, .. } = &made.case else { continue };
+        let step = |room: u16, needed: usize| match room as usize + 1 {
+            n if n < needed => None,
+            n if n - needed < 3 => Some(n - needed),
+            _ => Some(3),
+        };
+        step(*node_room, NODE_ROOM).into_iter().for_each(|i| for_nodes[i] += 1);
+        step(*record_room, RECORD_ROOM).into_iter().for_each(|i| for_records[i] += 1);
+    }
+    assert!(for_nodes.iter().chain(&for_records).all(|n| *n >= 10), "{for_nodes:?} {for_records:?}");
 }
 
 /// For both sorts of root: allowed one state less than the count, just the count, none at all.
@@ -48,11 +112,12 @@ fn allowances_meet_the_count_from_both_sides() {
     let mut seen = [[0; 3]; 2];
     for made in cases() {
         let Case::Judge { allowance, nodes, .. } = &made.case else { continue };
-        if let Answer::Refused(_) = made.answer {
+        let Reply::Judged(answer) = made.reply else { continue };
+        if let Answer::Refused(_) = answer {
             continue;
         }
         let root = (sort_of(nodes[nodes.len() - 3]) == Sort::Compensable) as usize;
-        match made.answer {
+        match answer {
             Answer::Accepted { count, .. } | Answer::Rejected { count, .. } => {
                 seen[root][1] += (count == *allowance) as u32;
             }
@@ -68,8 +133,8 @@ fn is_decided_by_one_more(case: &Case) -> bool {
     if let Case::Judge { allowance, .. } = &mut case {
         *allowance += 1;
     }
-    let answer = with_deep_stack(move || case.answer(u32::MAX));
-    !matches!(answer, Some(Answer::Undecided { .. }))
+    let reply = with_deep_stack(move || case.reply(u32::MAX));
+    !matches!(reply, Some(Reply::Judged(Answer::Undecided { .. })))
 }
 
 /// Searches that enter many states of which few differ, and searches with more different states than a judge may remember.
@@ -107,13 +172,19 @@ fn every_case_is_one_for_replay() {
                 assert!(*work_len <= MOST_WORK);
                 assert!(nodes.len() <= MOST_NUMBERS && records.len() <= MOST_NUMBERS);
             }
+            Case::Read { file, .. } => assert!(file.len() <= u16::MAX as usize),
+            Case::Call(call) => {
+                assert!(call.function == WRITE && call.names_lent == 1 && call.sets.is_empty());
+                assert!(call.room as usize <= MOST_ROOM && call.names.len() <= u16::MAX as usize);
+                assert!(call.nodes.len() <= MOST_NUMBERS && call.records.len() <= MOST_NUMBERS);
+            }
         }
     }
 }
 
 #[test]
 fn the_hand_cases_come_first() {
-    let lines = cases().iter().take(17).map(|made| made.case.line(made.answer));
+    let lines = cases().iter().take(17).map(Made::line);
     let expected = by_hand::table().into_iter().map(|case| format!("{} clean", case.line));
     assert!(lines.eq(expected));
 }
@@ -145,5 +216,29 @@ fn names_have_every_byte() {
 
 #[test]
 fn malformed_cases_are_not_empty() {
-    assert!(malformed().len() > 40 && malformed().iter().all(|case| !case.bytes.is_empty()));
+    assert!(malformed().len() > 100 && malformed().iter().all(|case| !case.bytes.is_empty()));
+}
+
+/// As `replay` is to read them and to print.
+#[test]
+fn reads_and_writes_look_as_agreed() {
+    let file = vec![0, 0, 1, 0, 2, 0, 0, 0, 0, 0, 1, 0, 1, 240];
+    let read = Case::Read { node_room: 192, record_room: 256, file: file.clone() };
+    assert_eq!(read.bytes(), [&[b'R', 192, 0, 0, 1, 14, 0], &file[..]].concat());
+    assert_eq!(read.line(&read.reply(0).unwrap()), "read 0 1 1 clean");
+    let short = Case::Read { node_room: 191, record_room: 65_535, file };
+    assert_eq!(short.bytes()[..5], [b'R', 191, 0, 255, 255]);
+    assert_eq!(short.line(&short.reply(0).unwrap()), "refused 14 0 clean");
+    let call = Call {
+        edition: 7,
+        allowance: 0x0403_0201,
+        work_len: 5,
+        ..Call::write(vec![0, 0], vec![2, 0, 0], vec![DONE])
+    };
+    let head = [b'C', 3, 7, 1, 1, 2, 3, 4, 5, 0, 0, 0, 14, 0, 0, 0, 2, 0, 3, 0, 1, 0, 0, 0];
+    let (write, lists) = (Case::Call(call.clone()), [0, 0, 2, 0, 0, 0, 0, 0, 1, 240]);
+    assert_eq!(write.bytes(), [&head[..], &lists].concat());
+    assert_eq!(write.line(&write.reply(0).unwrap()), "written 14 00000100020000000000010001f0 clean");
+    let long = Case::Call(Call { names: vec![0, 0, 9], ..call });
+    assert_eq!(long.line(&long.reply(0).unwrap()), "refused 21 2 clean");
 }

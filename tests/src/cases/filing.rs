@@ -1,8 +1,8 @@
-//! Flow files for the program: whole ones with names that are easily mixed up, files cut at every kind of
-//! item, damaged ones, and files at the limits.
+//! Flow files: whole ones with names that are easily mixed up, files cut at every kind of item, damaged ones,
+//! and files at the limits.
 
+use super::judging;
 use super::spoiling::spoil;
-use super::{judging, Case};
 use crate::flowfile::{Entry, FlowFile, Item, ItemKind};
 use crate::random::{self, TASTES};
 use crate::reader::MOST_NAMES;
@@ -11,11 +11,7 @@ use crate::rng::Rng;
 use crate::term::{is_event, kind, root, MOST_EVENT};
 
 /// A file that the reader takes, whatever comes of its judging.
-pub fn case(rng: &mut Rng) -> Case {
-    Case::File(whole(rng).bytes())
-}
-
-fn whole(rng: &mut Rng) -> FlowFile {
+pub fn whole(rng: &mut Rng) -> FlowFile {
     let most_names = if rng.once_in(40) { rng.between(1, MOST_NAMES) } else { rng.between(1, 6) };
     let (nodes, records) = judging::flow_and_records(rng, most_names);
     let needed = events(&nodes, &records).into_iter().max().unwrap_or(0) as usize;
@@ -90,7 +86,7 @@ fn long_entry(rng: &mut Rng) -> Entry {
 // ---- cuts ----
 
 /// A good file cut before or within an item of any kind.
-pub fn cut_case(rng: &mut Rng) -> Case {
+pub fn cut(rng: &mut Rng) -> Vec<u8> {
     let items = whole(rng).items();
     let kinds: Vec<ItemKind> = {
         let mut kinds: Vec<ItemKind> = items.iter().map(|item| item.kind).collect();
@@ -103,17 +99,17 @@ pub fn cut_case(rng: &mut Rng) -> Case {
     let at = *rng.pick(&of_kind);
     let mut file = bytes(&items[..at]);
     file.extend(&items[at].bytes[..rng.below(items[at].bytes.len())]);
-    Case::File(file)
+    file
 }
 
-fn bytes(items: &[Item]) -> Vec<u8> {
+pub fn bytes(items: &[Item]) -> Vec<u8> {
     items.iter().flat_map(|item| item.bytes.clone()).collect()
 }
 
 // ---- damages ----
 
 #[derive(Clone, Copy, PartialEq, Eq)]
-enum Damage {
+pub enum Damage {
     /// 4 to 9, 12, 13.
     Tables,
     /// 18.
@@ -154,20 +150,20 @@ const DAMAGES: [Damage; 19] = [
     Damage::MissingByte,
 ];
 
-/// A file with one or two damages: to its tables, to its items, or to its bytes.
-pub fn damaged_case(rng: &mut Rng) -> Case {
+/// A file with one or two damages: to its lists, to its items, or to its bytes.
+pub fn damaged(rng: &mut Rng) -> Vec<u8> {
     let mut file = whole(rng);
     let two = rng.once_in(3);
     let damages: Vec<Damage> = (0..if two { 2 } else { 1 }).map(|_| *rng.pick(&DAMAGES)).collect();
-    damages.iter().for_each(|&damage| damage_tables(rng, damage, &mut file));
+    damages.iter().for_each(|&damage| damage_lists(rng, damage, &mut file));
     let mut items = file.items();
     damages.iter().for_each(|&damage| damage_items(rng, damage, &mut items));
     let mut bytes = bytes(&items);
     damages.iter().for_each(|&damage| damage_bytes(rng, damage, &mut bytes));
-    Case::File(bytes)
+    bytes
 }
 
-fn damage_tables(rng: &mut Rng, damage: Damage, file: &mut FlowFile) {
+pub fn damage_lists(rng: &mut Rng, damage: Damage, file: &mut FlowFile) {
     match damage {
         Damage::Tables => {
             let number = *rng.pick(&[4, 5, 6, 7, 7, 8, 8, 9, 12, 13]);
@@ -194,19 +190,17 @@ fn damage_tables(rng: &mut Rng, damage: Damage, file: &mut FlowFile) {
     }
 }
 
-fn damage_items(rng: &mut Rng, damage: Damage, items: &mut [Item]) {
-    let kind = match damage {
-        Damage::OutOfRange(kind) => kind,
-        Damage::CountOffByOne => {
-            *rng.pick(&[ItemKind::NameCount, ItemKind::NodeCount, ItemKind::RecordCount])
-        }
+pub fn damage_items(rng: &mut Rng, damage: Damage, items: &mut [Item]) {
+    let kinds = match damage {
+        Damage::OutOfRange(kind) => vec![kind],
+        Damage::CountOffByOne => vec![ItemKind::NameCount, ItemKind::NodeCount, ItemKind::RecordCount],
         _ => return,
     };
-    let of_kind: Vec<usize> = (0..items.len()).filter(|&i| items[i].kind == kind).collect();
-    if of_kind.is_empty() {
+    let of_kinds: Vec<usize> = (0..items.len()).filter(|&i| kinds.contains(&items[i].kind)).collect();
+    if of_kinds.is_empty() {
         return;
     }
-    let bytes = &mut items[*rng.pick(&of_kind)].bytes;
+    let Item { kind, bytes } = &mut items[*rng.pick(&of_kinds)];
     if damage == Damage::CountOffByOne {
         bytes[0] = if rng.once_in(2) { bytes[0].wrapping_add(1) } else { bytes[0].wrapping_sub(1) };
         return;
@@ -222,24 +216,24 @@ fn damage_items(rng: &mut Rng, damage: Damage, items: &mut [Item]) {
     *bytes = rng.pick(values).to_le_bytes()[..length].to_vec();
 }
 
-fn damage_bytes(rng: &mut Rng, damage: Damage, file: &mut Vec<u8>) {
+pub fn damage_bytes(rng: &mut Rng, damage: Damage, bytes: &mut Vec<u8>) {
     match damage {
-        Damage::MoreBytes => (0..rng.between(1, 4)).for_each(|_| file.push(rng.byte())),
+        Damage::MoreBytes => (0..rng.between(1, 4)).for_each(|_| bytes.push(rng.byte())),
         Damage::ChangedBytes => {
             for _ in 0..rng.between(1, 3) {
-                let at = rng.below(file.len());
-                file[at] = if rng.once_in(2) { rng.byte() } else { file[at].wrapping_add(1) };
+                let at = rng.below(bytes.len());
+                bytes[at] = if rng.once_in(2) { rng.byte() } else { bytes[at].wrapping_add(1) };
             }
         }
-        Damage::MissingByte => drop(file.remove(rng.below(file.len()))),
+        Damage::MissingByte => drop(bytes.remove(rng.below(bytes.len()))),
         _ => {}
     }
 }
 
 // ---- limits ----
 
-/// 255 to 257 names, 63 to 65 nodes, 255 to 257 records, alone or together, and bytes after the end.
-pub fn case_at_limits(rng: &mut Rng) -> Case {
+/// 255 to 257 names, 63 to 65 nodes, 255 to 257 records, alone or together.
+pub fn at_limits(rng: &mut Rng) -> FlowFile {
     let (taste, sort) = (*rng.pick(&TASTES), random::sort(rng));
     let size = if rng.once_in(2) { rng.between(MOST_NODES - 1, MOST_NODES + 1) } else { rng.between(3, 20) };
     let nodes = random::drawing_of_size(rng, taste, sort, size, 3).table_in_any_order(rng);
@@ -251,10 +245,15 @@ pub fn case_at_limits(rng: &mut Rng) -> Case {
         }
     }
     let count = if rng.once_in(2) { rng.between(MOST_NAMES - 1, MOST_NAMES + 1) } else { 3 };
-    let mut file = FlowFile { names: names(rng, count), nodes, records }.bytes();
+    FlowFile { names: names(rng, count), nodes, records }
+}
+
+/// The same, now and then with bytes after the end.
+pub fn at_limits_or_longer(rng: &mut Rng) -> Vec<u8> {
+    let mut file = at_limits(rng).bytes();
     if rng.once_in(4) {
         let more = *rng.pick(&[1, 2, 1000, 30_000]);
         file.extend(vec![rng.byte(); more]);
     }
-    Case::File(file)
+    file
 }

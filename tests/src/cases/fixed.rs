@@ -1,14 +1,14 @@
 //! The cases that every stream begins with, whatever its seed: those of document 01 and one or more for
 //! each boundary that chance might miss.
 
-use super::{Case, MOST_WORK};
+use super::{reading, writing, Case, MOST_WORK};
 use crate::by_hand::{self, A, B, C, MILLION};
 use crate::drawing::*;
 use crate::flowfile::{self, entry, Entry, FlowFile};
 use crate::judge::effort_allowed;
 use crate::measured::{lines, seven, withdrawing};
 use crate::refusals::work_wanted;
-use crate::term::{is_event, DONE, FAILED, WITHDRAWN};
+use crate::term::{is_event, Sort, DONE, FAILED, WITHDRAWN};
 
 pub fn cases() -> Vec<(&'static str, Case)> {
     let mut all = vec![];
@@ -24,6 +24,8 @@ pub fn cases() -> Vec<(&'static str, Case)> {
     add("fixed: names", similar_names());
     add("fixed: names", missing_names());
     add("fixed: long files", long_files());
+    add("fixed: reading", reading::fixed());
+    add("fixed: writing", writing::fixed());
     all
 }
 
@@ -41,7 +43,7 @@ fn judged_by_hand() -> Vec<Case> {
     calls.chain(files).collect()
 }
 
-fn four_names() -> Vec<Entry> {
+pub fn four_names() -> Vec<Entry> {
     vec![entry("wash", "W1"), entry("wash", "W1,2"), entry("dry", ""), entry("2,wash", "W1")]
 }
 
@@ -51,7 +53,22 @@ fn file(names: Vec<Entry>, flow: &Drawing, records: &[u16]) -> Case {
 
 /// "64 nodes are judged, 65 refused 3; 256 records, 257 refused 11", as calls and as files.
 fn limits() -> Vec<Case> {
-    let flows = [
+    let mut all = vec![];
+    for flow in flows_at_the_limits() {
+        for length in [1, 32, 33, 34, 255, 256, 257, 258, 400] {
+            let records = records_of_length(&flow, length);
+            all.push(judge(&flow, &records, 1_000));
+            if length <= 258 {
+                all.push(file(four_names(), &flow, &records));
+            }
+        }
+    }
+    all
+}
+
+/// Of 63 to 65 nodes, of both sorts.
+pub fn flows_at_the_limits() -> Vec<Drawing> {
+    vec![
         seq(block(skipp()), tower(31, &skip(), seq)),
         tower(33, &skip(), seq),
         tower(32, &event(A), seq),
@@ -59,18 +76,24 @@ fn limits() -> Vec<Case> {
         block(tower(32, &throww(), parallel)),
         tower(32, &yieldd(), seq),
         tower(33, &yieldd(), seq),
-    ];
-    let mut all = vec![];
-    for flow in &flows {
-        let closings: &[u16] = if flow.kind < 10 { &[DONE] } else { &[DONE, DONE] };
-        for count in [0, 31, 32, 33, 254, 255, 256, 257, 399] {
-            let mut records = vec![A; (count + 1_usize).saturating_sub(closings.len())];
-            records.extend(closings);
-            all.push(judge(flow, &records, 1_000));
-            if count <= 257 {
-                all.push(file(four_names(), flow, &records));
-            }
-        }
+    ]
+}
+
+/// Events, and as many closings as the flow needs.
+pub fn records_of_length(flow: &Drawing, length: usize) -> Vec<u16> {
+    let closings = if flow.sort() == Sort::Standard { 1 } else { 2 };
+    [vec![A; length.saturating_sub(closings)], vec![DONE; closings]].concat()
+}
+
+/// As many entries as there may be, one less and one more; and names as long as they may be, longer, and shorter.
+pub fn names_at_the_limits() -> Vec<Vec<Entry>> {
+    let different = |i: usize| (vec![i as u8], vec![b'x'; i / 256]);
+    let mut all: Vec<Vec<Entry>> =
+        [0, 1, 255, 256, 257].map(|count| (0..count).map(different).collect()).into();
+    for (step, machine) in
+        [(0, 0), (1, 0), (39, 39), (40, 40), (40, 0), (1, 40), (41, 40), (40, 41), (41, 41), (255, 255)]
+    {
+        all.push(vec![(vec![b's'; step], vec![b'm'; machine])]);
     }
     all
 }
@@ -294,13 +317,17 @@ fn missing_names() -> Vec<Case> {
     all
 }
 
-/// The longest file there is, one byte more, many bytes more, and one cut near its end.
-fn long_files() -> Vec<Case> {
+/// The longest file there is.
+pub fn longest() -> FlowFile {
     let long_name = |i: usize| ([&[i as u8][..], &[b'x'; 39]].concat(), vec![b','; 40]);
-    let names: Vec<Entry> = (0..256).map(long_name).collect();
     let flow = seq(block(skipp()), tower(31, &event(256), seq));
     let records = [vec![256; 255], vec![DONE]].concat();
-    let Case::File(longest) = file(names, &flow, &records) else { unreachable!() };
+    FlowFile { names: (0..256).map(long_name).collect(), nodes: flow.table(), records }
+}
+
+/// The longest file, one byte more, many bytes more, and one cut near its end.
+fn long_files() -> Vec<Case> {
+    let longest = longest().bytes();
     assert_eq!(longest.len(), 21_894);
     let with = |more: usize| Case::File([&longest[..], &vec![7; more]].concat());
     let cut = |less: usize| Case::File(longest[..longest.len() - less].to_vec());

@@ -81,21 +81,21 @@ pub fn around_the_count(rng: &mut Rng, patience: u32, nodes: Vec<u16>, records: 
         },
         _ => rng.below(patience as usize) as u32,
     };
-    Case::Judge { allowance, work_len: near(rng, wanted), nodes, records }
+    Case::Judge { allowance, work_len: near(rng, wanted, MOST_WORK), nodes, records }
 }
 
-/// Mostly the length wanted, one less or one more; also none, half or all that `replay` has.
-pub fn near(rng: &mut Rng, wanted: usize) -> usize {
+/// Mostly the length wanted, one less or one more; also none, half or the most that `replay` has.
+pub fn near(rng: &mut Rng, wanted: usize, most: usize) -> usize {
     let length = match rng.below(40) {
         0 | 1 => wanted - 1,
         2 => wanted / 2,
         3 => 0,
         4..=9 => wanted + 1,
         10 => wanted + rng.below(2_000),
-        11 => MOST_WORK,
+        11 => most,
         _ => wanted,
     };
-    length.min(MOST_WORK)
+    length.min(most)
 }
 
 /// 63 to 65 nodes, or 255 to 257 records, or both, and the most numbers that `replay` takes.

@@ -1,34 +1,39 @@
 //! Cases for the program `replay`, each with the line it has to print. This file says what a case is and
 //! what it looks like on the way; the other files here make cases:
-//! - `fixed`: the same two thousand in every stream: hand cases, limits, every kind of node, every cut of the
-//!   worked file.
+//! - `fixed`: the same three thousand in every stream: hand cases, limits, every kind of node, every cut of the
+//!   worked file, and those that `reading` and `writing` begin with.
 //! - `judging`: flows and records for the judge; `undoing`: small flows that are all about compensations;
 //!   `wide`: families with many runs or many compensations; `repeating`: flows of equal parts.
 //! - `spoiling`: one damage for each refusal number; `filing`: flow files, whole, cut and damaged.
-//! - `malformed`: what is no case at all.
+//! - `reading`: files for the reader itself; `writing`: calls of the writer; `calling`: what such a call looks like.
+//! - `malformed`: what is no case at all; `showing`: a case as a person reads it.
 
+pub mod calling;
 pub mod filing;
 pub mod fixed;
 pub mod judging;
 pub mod malformed;
+pub mod reading;
 pub mod repeating;
+pub mod showing;
 pub mod spoiling;
 pub mod undoing;
 pub mod wide;
+pub mod writing;
 
+use self::calling::Call;
 use self::malformed::malformed;
-use crate::drawing::{self, show_event};
 use crate::judge::{judge_within, Answer};
-use crate::reader::program_within;
-use crate::refusals::node_table;
+use crate::reader::{program_within, read_into};
+use crate::refusals::Refusal;
 use crate::rng::Rng;
-use crate::term::{DONE, FAILED, WITHDRAWN};
 use std::collections::{BTreeMap, VecDeque};
-use std::fmt::Write;
+use std::fmt::{self, Write};
 
 /// The most that `replay` takes.
 pub const MOST_WORK: usize = 40_000;
 pub const MOST_NUMBERS: usize = 400;
+pub const MOST_ROOM: usize = 70_000;
 
 #[derive(Clone, PartialEq, Eq, Debug)]
 pub enum Case {
@@ -36,26 +41,90 @@ pub enum Case {
     File(Vec<u8>),
     /// A call of the judge.
     Judge { allowance: u32, work_len: usize, nodes: Vec<u16>, records: Vec<u16> },
+    /// A call of the reader, lent tables of so many numbers.
+    Read { node_room: u16, record_room: u16, file: Vec<u8> },
+    /// A call with everything that may be lent.
+    Call(Call),
 }
 
-/// A case, where it comes from, and the answer to it.
+/// What comes back.
+#[derive(Clone, PartialEq, Eq, Debug)]
+pub enum Reply {
+    /// From the program and the judge.
+    Judged(Answer),
+    /// From the reader: its counts.
+    Read { names: usize, nodes: usize, records: usize },
+    /// From the writer: the file.
+    Written(Vec<u8>),
+    /// From the reader and the writer.
+    Refused(Refusal),
+}
+
+impl fmt::Display for Reply {
+    fn fmt(&self, f: &mut fmt::Formatter) -> fmt::Result {
+        match self {
+            Reply::Judged(answer) => answer.fmt(f),
+            Reply::Read { names, nodes, records } => write!(f, "read {names} {nodes} {records}"),
+            Reply::Written(file) => {
+                write!(f, "written {} ", file.len())?;
+                file.iter().try_for_each(|byte| write!(f, "{byte:02x}"))
+            }
+            Reply::Refused(r) => write!(f, "refused {} {}", r.number, r.place),
+        }
+    }
+}
+
+impl Reply {
+    fn word(&self) -> &'static str {
+        match self {
+            Reply::Judged(Answer::Accepted { .. }) => "accepted",
+            Reply::Judged(Answer::Rejected { .. }) => "rejected",
+            Reply::Judged(Answer::Undecided { .. }) => "undecided",
+            Reply::Read { .. } => "read",
+            Reply::Written(_) => "written",
+            Reply::Judged(Answer::Refused(_)) | Reply::Refused(_) => "refused",
+        }
+    }
+
+    /// States that a search has entered.
+    fn states(&self) -> u64 {
+        match self {
+            Reply::Judged(Answer::Accepted { count, .. } | Answer::Rejected { count, .. }) => *count as u64,
+            Reply::Judged(Answer::Undecided { allowance }) => *allowance as u64,
+            _ => 0,
+        }
+    }
+
+    pub fn refusal(&self) -> Option<Refusal> {
+        match self {
+            Reply::Judged(Answer::Refused(refusal)) | Reply::Refused(refusal) => Some(*refusal),
+            _ => None,
+        }
+    }
+}
+
+/// A case, where it comes from, and the reply to it.
 pub struct Made {
     pub family: &'static str,
     pub case: Case,
-    pub answer: Answer,
+    pub reply: Reply,
 }
 
 impl Made {
-    /// None where more states than `patience` would have to be entered to know the answer.
+    /// None where more states than `patience` would have to be entered to know the reply.
     pub fn within(patience: u32, family: &'static str, case: Case) -> Option<Made> {
-        let answer = case.answer(patience)?;
-        Some(Made { family, case, answer })
+        let reply = case.reply(patience)?;
+        Some(Made { family, case, reply })
+    }
+
+    pub fn line(&self) -> String {
+        self.case.line(&self.reply)
     }
 }
 
 impl Case {
-    /// As `replay` reads it: `F`, a length, the file; or `J`, allowance, work length, the two counts, the
-    /// numbers. All little-endian.
+    /// As `replay` reads it: `F`, a length, the file; `J`, allowance, work length, the two counts, the numbers; `R`, the two rooms,
+    /// a length, the file; or `C` and what calling.rs says. All little-endian.
     pub fn bytes(&self) -> Vec<u8> {
         match self {
             Case::File(file) => [b"F", &(file.len() as u16).to_le_bytes()[..], file].concat(),
@@ -68,109 +137,52 @@ impl Case {
                 all.extend(nodes.iter().chain(records).flat_map(|n| n.to_le_bytes()));
                 all
             }
+            Case::Read { node_room, record_room, file } => {
+                let head = [*node_room, *record_room, file.len() as u16].map(u16::to_le_bytes);
+                [b"R", &head.concat()[..], file].concat()
+            }
+            Case::Call(call) => call.bytes(),
         }
     }
 
-    /// The answer; None where more states than `patience` would have to be entered to know.
-    pub fn answer(&self, patience: u32) -> Option<Answer> {
+    /// The reply; None where more states than `patience` would have to be entered to know.
+    pub fn reply(&self, patience: u32) -> Option<Reply> {
         match self {
-            Case::File(file) => program_within(patience, file),
+            Case::File(file) => program_within(patience, file).map(Reply::Judged),
             Case::Judge { allowance, work_len, nodes, records } => {
-                judge_within(patience, nodes, records, *work_len, *allowance)
+                judge_within(patience, nodes, records, *work_len, *allowance).map(Reply::Judged)
             }
+            Case::Read { node_room, record_room, file } => {
+                Some(match read_into(*node_room as usize, *record_room as usize, file) {
+                    Ok(file) => Reply::Read {
+                        names: file.names.len(),
+                        nodes: file.nodes.len() / 3,
+                        records: file.records.len(),
+                    },
+                    Err(refusal) => Reply::Refused(refusal),
+                })
+            }
+            Case::Call(call) => Some(call.reply()),
         }
     }
 
-    /// The line that `replay` has to print for an answer: work bytes are always as promised.
-    pub fn line(&self, answer: Answer) -> String {
+    /// The line that `replay` has to print for a reply: what is lent is always left as promised.
+    pub fn line(&self, reply: &Reply) -> String {
         match self {
-            Case::File(_) => answer.to_string(),
-            Case::Judge { .. } => format!("{answer} clean"),
+            Case::File(_) => reply.to_string(),
+            _ => format!("{reply} clean"),
         }
     }
 
-    /// For a reader: what the case is, and its bytes.
-    pub fn show(&self) -> String {
-        let mut text = match self {
-            Case::File(file) => format!("a flow file of {} bytes\n{}", file.len(), show_file(file)),
-            Case::Judge { allowance, work_len, nodes, records } => {
-                let mut text = format!("judge, allowance {allowance}, {work_len} work bytes\n");
-                show_flow(&mut text, nodes, records);
-                text
-            }
-        };
-        text.push_str("bytes of the case:\n");
-        for line in self.bytes().chunks(32) {
-            line.iter().for_each(|byte| write!(text, "{byte:02x}").unwrap());
-            text.push('\n');
+    /// Whose answer it asks for.
+    pub fn asked(&self) -> &'static str {
+        match self {
+            Case::File(_) => "program",
+            Case::Judge { .. } => "judge",
+            Case::Read { .. } => "reader",
+            Case::Call(call) => call.asked(),
         }
-        text
     }
-}
-
-fn show_flow(text: &mut String, nodes: &[u16], records: &[u16]) {
-    let readable = !nodes.is_empty() && nodes.len().is_multiple_of(3) && node_table(nodes).is_ok();
-    if readable {
-        writeln!(text, "flow {}", drawing::of_table(nodes).show()).unwrap();
-    }
-    writeln!(text, "{} node numbers", nodes.len()).unwrap();
-    for (i, node) in nodes.chunks(3).enumerate() {
-        writeln!(text, "  node {i}: {node:?}").unwrap();
-    }
-    let shown: Vec<String> = records.iter().map(|r| show_record(*r)).collect();
-    writeln!(text, "{} records: {}", records.len(), shown.join(" ")).unwrap();
-}
-
-fn show_record(record: u16) -> String {
-    match record {
-        DONE => "✓".into(),
-        WITHDRAWN => "?".into(),
-        FAILED => "!".into(),
-        event => show_event(event),
-    }
-}
-
-/// The file item by item with offsets, as far as it can be followed.
-fn show_file(file: &[u8]) -> String {
-    let mut text = String::new();
-    let mut at = 0;
-    let mut walk = || -> Option<()> {
-        let number = |at: usize| Some(u16::from_le_bytes([*file.get(at)?, *file.get(at + 1)?]));
-        let count = number(at)?;
-        writeln!(text, "  {at}: {count} names").ok()?;
-        at += 2;
-        for event in 1..=count {
-            let place = at;
-            let mut shown = vec![];
-            for _ in 0..2 {
-                let length = *file.get(at)? as usize;
-                let name = file.get(at + 1..at + 1 + length)?;
-                shown.push(format!("({length}) \"{}\"", name.escape_ascii()));
-                at += 1 + length;
-            }
-            writeln!(text, "  {place}: entry {event}: {}", shown.join(" ")).ok()?;
-        }
-        let count = number(at)?;
-        writeln!(text, "  {at}: {count} nodes").ok()?;
-        at += 2;
-        for i in 0..count {
-            writeln!(text, "  {at}: node {i}: {} {} {}", number(at)?, number(at + 2)?, number(at + 4)?)
-                .ok()?;
-            at += 6;
-        }
-        let count = number(at)?;
-        writeln!(text, "  {at}: {count} records").ok()?;
-        at += 2;
-        for i in 0..count {
-            writeln!(text, "  {at}: record {i}: {}", show_record(number(at)?)).ok()?;
-            at += 2;
-        }
-        Some(())
-    };
-    if walk().is_none() || at < file.len() {
-        writeln!(text, "  {at}: {} bytes more", file.len() - at).unwrap();
-    }
-    text
 }
 
 /// Cases without end: the fixed ones first, then random ones.
@@ -189,7 +201,7 @@ impl Stream {
     /// A random case of a random family, or some that belong together; none if it asks for too many states.
     fn random(&mut self) -> VecDeque<Made> {
         let rng = &mut self.rng;
-        let (family, case) = match rng.below(100) {
+        let (family, case) = match rng.below(120) {
             0..=21 => ("judge", judging::case(rng)),
             22..=39 => ("judge, undoing", undoing::case(rng)),
             40..=46 => ("judge, wide flow", wide::case(rng)),
@@ -199,10 +211,14 @@ impl Stream {
             }
             55..=68 => ("judge, damaged", spoiling::judge_case(rng)),
             69..=71 => ("judge, at the limits", judging::case_at_limits(rng)),
-            72..=79 => ("file", filing::case(rng)),
-            80..=86 => ("file, cut", filing::cut_case(rng)),
-            87..=98 => ("file, damaged", filing::damaged_case(rng)),
-            _ => ("file, at the limits", filing::case_at_limits(rng)),
+            72..=79 => ("file", Case::File(filing::whole(rng).bytes())),
+            80..=86 => ("file, cut", Case::File(filing::cut(rng))),
+            87..=98 => ("file, damaged", Case::File(filing::damaged(rng))),
+            99 => ("file, at the limits", Case::File(filing::at_limits_or_longer(rng))),
+            100..=105 => ("read", reading::case(rng)),
+            106..=109 => ("write", writing::case(rng)),
+            110..=118 => ("write, damaged", writing::damaged_case(rng)),
+            _ => ("write, at the limits", writing::case_at_limits(rng)),
         };
         Made::within(PATIENCE, family, case).into_iter().collect()
     }
@@ -227,7 +243,7 @@ impl Iterator for Stream {
 }
 
 /// The gate's stored run, `crates/replay/stdin` and `stdout`: so many cases of this seed.
-pub const STORED_CASES: usize = 6_000;
+pub const STORED_CASES: usize = 7_000;
 pub const STORED_SEED: u64 = 1;
 
 /// A run of `replay`: its input, and the lines that it has to print.
@@ -242,7 +258,7 @@ impl Run {
         let mut run = Run { stdin: vec![], stdout: String::new() };
         for made in cases {
             run.stdin.extend(made.case.bytes());
-            writeln!(run.stdout, "{}", made.case.line(made.answer)).unwrap();
+            writeln!(run.stdout, "{}", made.line()).unwrap();
         }
         let bad = malformed();
         run.stdin.extend(&bad[seed as usize % bad.len()].bytes);
@@ -251,41 +267,29 @@ impl Run {
     }
 }
 
-/// How often which answer was given.
+/// How often which reply was given.
 #[derive(Default)]
 pub struct Totals {
     pub cases: u64,
     pub states: u64,
     families: BTreeMap<&'static str, BTreeMap<&'static str, u64>>,
-    refusals: BTreeMap<u32, u64>,
+    /// By who was asked, then by number.
+    refusals: BTreeMap<&'static str, BTreeMap<u32, u64>>,
 }
 
 impl Totals {
     pub fn count(&mut self, made: &Made) {
         self.cases += 1;
-        let word = match made.answer {
-            Answer::Accepted { count, .. } => {
-                self.states += count as u64;
-                "accepted"
-            }
-            Answer::Rejected { count, .. } => {
-                self.states += count as u64;
-                "rejected"
-            }
-            Answer::Undecided { allowance } => {
-                self.states += allowance as u64;
-                "undecided"
-            }
-            Answer::Refused(refusal) => {
-                *self.refusals.entry(refusal.number).or_default() += 1;
-                "refused"
-            }
-        };
-        *self.families.entry(made.family).or_default().entry(word).or_default() += 1;
+        self.states += made.reply.states();
+        if let Some(refusal) = made.reply.refusal() {
+            let of_asked = self.refusals.entry(made.case.asked()).or_default();
+            *of_asked.entry(refusal.number).or_default() += 1;
+        }
+        *self.families.entry(made.family).or_default().entry(made.reply.word()).or_default() += 1;
     }
 
-    pub fn of_refusal(&self, number: u32) -> u64 {
-        *self.refusals.get(&number).unwrap_or(&0)
+    pub fn of_refusal(&self, asked: &str, number: u32) -> u64 {
+        *self.refusals.get(asked).and_then(|of_asked| of_asked.get(&number)).unwrap_or(&0)
     }
 
     pub fn of_word(&self, word: &str) -> u64 {
@@ -293,7 +297,7 @@ impl Totals {
     }
 
     pub fn show(&self) -> String {
-        let words = ["accepted", "rejected", "undecided", "refused"];
+        let words = ["accepted", "rejected", "undecided", "read", "written", "refused"];
         let mut text = format!("{:24}", "");
         words.iter().for_each(|word| write!(text, "{word:>11}").unwrap());
         for (family, counts) in &self.families {
@@ -302,8 +306,10 @@ impl Totals {
         }
         write!(text, "\n{:24}", "all").unwrap();
         words.iter().for_each(|word| write!(text, "{:>11}", self.of_word(word)).unwrap());
-        let refusals: Vec<String> = self.refusals.iter().map(|(no, n)| format!("{no}: {n}")).collect();
-        write!(text, "\nrefusals {}", refusals.join(", ")).unwrap();
+        for (asked, refusals) in &self.refusals {
+            let refusals: Vec<String> = refusals.iter().map(|(no, n)| format!("{no}: {n}")).collect();
+            write!(text, "\nrefusals of the {asked} {}", refusals.join(", ")).unwrap();
+        }
         write!(text, "\n{} cases, {} states entered\n", self.cases, self.states).unwrap();
         text
     }

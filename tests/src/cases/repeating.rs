@@ -2,7 +2,7 @@
 //! through, and brings back a wrong count or a wrong place, or what belongs to another state, place or record list, is found out here.
 
 use super::judging::near;
-use super::Case;
+use super::{Case, MOST_WORK};
 use crate::by_hand::{A, B, C, D};
 use crate::drawing::*;
 use crate::judge::{effort, Effort};
@@ -79,7 +79,7 @@ fn call(rng: &mut Rng, nodes: &[u16], records: &[u16], effort: Effort) -> Case {
         _ => u32::MAX,
     };
     let wanted = work_wanted(nodes, records);
-    let work_len = if rng.once_in(8) { near(rng, wanted) } else { wanted };
+    let work_len = if rng.once_in(8) { near(rng, wanted, MOST_WORK) } else { wanted };
     Case::Judge { allowance, work_len, nodes: nodes.to_vec(), records: records.to_vec() }
 }
 
