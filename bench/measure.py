@@ -39,7 +39,7 @@ NOTE = f"""
 - independent: the implementation in `tests/`, plain Rust, going through equal states again, timed inside itself (`oracle bench FILE`).
 - Prolog: the transition rules as published, in SWI-Prolog (`rules.pl`), one run, timed inside itself.
 - other, where it is there: one more program that was named to `bench/run`, timed inside itself.
-- stored: all cases of `crates/replay/stdin`, and a call is all of them. small: those of them that enter {FEW} states or fewer.
+- stored: all cases of `crates/replay/stdin` that are judged, and a call is all of them. small: those of them that enter {FEW} states or fewer.
 - `throww` is allowed {FLOWS["throww"]:,} states, all others {MOST:,}. A dash: over {LIMIT} seconds, or not tried: what goes through equal
   states again is not asked for more than {WORTH_TRYING:,}, and Prolog for none that stays undecided.
 
@@ -79,12 +79,13 @@ def case(nodes, records, allowance):
 
 def split(stdin):
     """The cases of an input of `replay`, up to the first that is none."""
+    # Where a case of a kind has its counts, how many there are, and how many bytes each counts; the bytes follow.
+    counts = {b"F": (1, [1]), b"R": (5, [1]), b"J": (9, [2, 2]), b"C": (16, [1, 2, 2, 1])}
     cases, at = [], 0
-    while stdin[at : at + 1] in (b"F", b"J"):
-        if stdin[at : at + 1] == b"F":
-            end = at + 3 + struct.unpack_from("<H", stdin, at + 1)[0]
-        else:
-            end = at + 13 + 2 * sum(struct.unpack_from("<HH", stdin, at + 9))
+    while stdin[at : at + 1] in counts:
+        first, sizes = counts[stdin[at : at + 1]]
+        numbers = struct.unpack_from(f"<{len(sizes)}H", stdin, at + first)
+        end = at + first + 2 * len(sizes) + sum(n * size for n, size in zip(numbers, sizes))
         if end > len(stdin): break
         cases.append(stdin[at:end])
         at = end
@@ -197,11 +198,11 @@ def flows():
 
 
 def stored():
-    """The stored cases of `replay`: all, and those that enter few states."""
+    """The stored cases of `replay` that are judged: all, and those that enter few states."""
     folder = HOME / "crates" / "replay"
     cases, lines = split((folder / "stdin").read_bytes()), (folder / "stdout").read_text().splitlines()
     assert len(cases) + 1 == len(lines)  # the last is no case
-    both = list(zip(cases, lines))
+    both = [(c, l) for c, l in zip(cases, lines) if c[:1] in (b"F", b"J")]
     few = [(c, l) for c, l in both if not l.startswith("refused") and int(l.split()[3]) <= FEW]
     for name, some in [("stored", both), ("small", few)]:
         yield f"{name}: {len(some):,} cases", Input([c for c, _ in some], [l for _, l in some])
