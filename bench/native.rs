@@ -1,4 +1,5 @@
-// The cases of `replay` in plain Rust, for measuring: `native.py` puts the judge and the reader beside this as modules.
+// The cases of `replay` that are judged (F and J), in plain Rust, for measuring: `native.py` puts the judge and the reader beside this as
+// modules.
 //
 // native [TIMES]: reads cases from standard input as `replay` does (tests/README.md says how they are written), judges each so many times,
 // once if nothing is said, and prints its line. Time is taken outside.
