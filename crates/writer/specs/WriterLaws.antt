@@ -1,5 +1,5 @@
 -- What a caller knows of an answer of the writer, and what the code learns on its way to it. Assumes nothing.
-use Prim.Native.Nat.{ℕ, _+_, _*_, _<_, _≤_}
+use Prim.Native.Nat.{ℕ, _<_, _≤_}
 use mathlib.Core.Bool.{Bool, true, false}
 use mathlib.Core.List.{List, [], _∷_, _++_}
 use mathlib.Core.Path.{_≡_, refl, sym, ap, _∙_, subst}
@@ -19,9 +19,9 @@ use Rattle.format.specs.Sections.{names}
 use Rattle.format.specs.SectionLaws.{names-there}
 use Rattle.format.specs.Contents.{content-order, lists-order}
 use Rattle.format.specs.Told.{at-front}
-use Rattle.format.specs.ItemLaws.{got-next, got-not-bad}
+use Rattle.format.specs.ItemLaws.{got-not-bad}
 use Rattle.format.specs.ListChecks.{section-alone, by-entries, named-check, lists-check}
-use Rattle.format.specs.ListLaws.{alone-bad, alone-longer, alone-got, section-refused}
+use Rattle.format.specs.ListLaws.{alone-bad, alone-longer, section-refused}
 use Rattle.writer.specs.declared.Extent.{Extent}
 use Rattle.writer.specs.declared.Writing.{Writing}
 use Rattle.writer.specs.declared.Writing.the-variants.{Written, Refused}
@@ -38,7 +38,7 @@ pub record WrittenLists (s ns rs : List ℕ) (room : ℕ) (e : Extent) : Type 0 
 
 ---- Lists that are not refused are short ----
 
--- lists with nothing to refuse: how long they are at most, and how long their file is
+-- how long lists are at most in which nothing is refused
 pub record FineLists (s ns rs : List ℕ) : Type 0 where
   pub names-few : length s ≤ 20994
   pub nodes-few : length ns ≤ 192
@@ -73,51 +73,58 @@ module _ (s ns rs : List ℕ) where
 ---- The check in two parts ----
 
 module _ (s ns rs : List ℕ) (room : ℕ) where
+  abbrev short-of-room : Bool
+  short-of-room = ltb room (length (lists-bytes s ns rs))
+
   -- 14
-  room-check : Check
-  room-check = first (ground 14 0 (ltb room (length (lists-bytes s ns rs))) ∷ [])
+  abbrev room-check : Check
+  room-check = first (ground 14 0 short-of-room ∷ [])
 
   check-parts : write-check s ns rs room ≡ or-else-check (lists-check s ns rs) room-check
-  unfolding write-check lists-check named-check by-entries room-check or-else-check
+  unfolding write-check lists-check named-check by-entries or-else-check
   check-parts = by (section-alone s)
     where
       by : (x : Ran (List Entry)) → by-entries (order-by-bytes s ns rs room) x ≡ or-else-check (by-entries (λ es. lists-order (length es) ns rs) x) room-check
-      by (got es at) = orders-append (lists-order (length es) ns rs) (lone (ground 14 0 (ltb room (length (lists-bytes s ns rs)))) ∷ [])
+      by (got es at) = orders-append (lists-order (length es) ns rs) (lone (ground 14 0 short-of-room) ∷ [])
       by (bad n p) = refl
 
   pub lists-refused : {r : Refusal} → lists-check s ns rs ≡ check.Refused r → write-check s ns rs room ≡ check.Refused r
   lists-refused e = check-parts ∙ sym (or-else-refused room-check e) ∙ e
 
   room-fine : room-check ≡ check.Fine → length (lists-bytes s ns rs) ≤ room
-  unfolding room-check
-  room-fine e = by (ltb room (length (lists-bytes s ns rs))) refl
+  room-fine e = by short-of-room refl
     where
-      by : (b : Bool) → ltb room (length (lists-bytes s ns rs)) ≡ b → length (lists-bytes s ns rs) ≤ room
-      by true h = absurd (subst is-fine (sym e ∙ single-held 14 0 (ltb room (length (lists-bytes s ns rs))) h) tt)
+      by : (b : Bool) → short-of-room ≡ b → length (lists-bytes s ns rs) ≤ room
+      by true h = absurd (subst is-fine (sym e ∙ single-held 14 0 short-of-room h) tt)
       by false h = ltb-false room (length (lists-bytes s ns rs)) h
 
   module _ (f : lists-check s ns rs ≡ check.Fine) where
     pub room-refused : room < length (lists-bytes s ns rs) → write-check s ns rs room ≡ refused 14 0
-    unfolding room-check
-    room-refused h = check-parts ∙ sym (or-else-fine room-check f) ∙ single-held 14 0 _ (lt-ltb _ _ h)
+    room-refused h = check-parts ∙ sym (or-else-fine room-check f) ∙ single-held 14 0 short-of-room (lt-ltb room (length (lists-bytes s ns rs)) h)
 
     pub room-enough : length (lists-bytes s ns rs) ≤ room → write-check s ns rs room ≡ check.Fine
-    unfolding room-check
-    room-enough h = check-parts ∙ sym (or-else-fine room-check f) ∙ single-passed 14 0 _ (le-ltb _ _ h)
+    room-enough h = check-parts ∙ sym (or-else-fine room-check f) ∙ single-passed 14 0 short-of-room (le-ltb room (length (lists-bytes s ns rs)) h)
 
 ---- What the code answers ----
 
 module _ (s ns rs file : List ℕ) where
+  left : {c : Check} → write-check s ns rs (length file) ≡ c → at-front (bytes-first s ns rs (length file)) file ≡ at-front (put-first (lists-bytes s ns rs) c) file
+  left e = ap (λ (x : Check). at-front (put-first (lists-bytes s ns rs) x) file) e
+
   pub refused-as : {r : Refusal} → write-check s ns rs (length file) ≡ check.Refused r → WrittenAs s ns rs file file (Refused r)
   unfolding wrote put-first
-  refused-as e = record { answer = sym (ap (wrote (lists-bytes s ns rs)) e); file-after = sym (ap (λ (c : Check). at-front (put-first (lists-bytes s ns rs) c) file) e) }
+  refused-as e = record { answer = sym (ap (wrote (lists-bytes s ns rs)) e); file-after = sym (left e) }
 
   pub written-as : {file′ : List ℕ} {n : ℕ} → write-check s ns rs (length file) ≡ check.Fine → n ≡ length (lists-bytes s ns rs) → file′ ≡ at-front (lists-bytes s ns rs) file
       → WrittenAs s ns rs file file′ (Written (record { length = n }))
   unfolding wrote put-first
-  written-as e en ef = record { answer = ap (λ (k : ℕ). Written (record { length = k })) en ∙ sym (ap (wrote (lists-bytes s ns rs)) e); file-after = ef ∙ sym (ap (λ (c : Check). at-front (put-first (lists-bytes s ns rs) c) file) e) }
+  written-as e en ef = record { answer = ap (λ (k : ℕ). Written (record { length = k })) en ∙ sym (ap (wrote (lists-bytes s ns rs)) e); file-after = ef ∙ sym (left e) }
 
 ---- What a caller knows ----
+
+-- what is written is not refused
+not-both : {A : Type 0} {e : Extent} {r : Refusal} → Written e ≡ Refused r → A
+not-both h = let z : _≡_ {A = ℕ} 0 1 = cc in absurd (omega arith)
 
 module _ (s ns rs : List ℕ) (room : ℕ) where
   pub written-lists : {e : Extent} → writing s ns rs room ≡ Written e → WrittenLists s ns rs room e
@@ -135,12 +142,12 @@ module _ (s ns rs : List ℕ) (room : ℕ) where
             fits = omega (arith, sized, room-fine s ns rs room (fine .1));
             short = omega (arith, sized, lists-length s ns rs, few .names-few, few .nodes-few, few .records-few);
           }
-      by (check.Refused r) q = let w = sym h ∙ ap (wrote (lists-bytes s ns rs)) q in let z : _≡_ {A = ℕ} 0 1 = cc in absurd (omega arith)
+      by (check.Refused r) q = not-both (sym h ∙ ap (wrote (lists-bytes s ns rs)) q)
 
   pub refused-lists : {r : Refusal} → writing s ns rs room ≡ Refused r → bytes-first s ns rs room ≡ []
   unfolding wrote put-first
   refused-lists {r} h = by (write-check s ns rs room) refl
     where
       by : (c : Check) → write-check s ns rs room ≡ c → bytes-first s ns rs room ≡ []
-      by check.Fine q = let w = sym h ∙ ap (wrote (lists-bytes s ns rs)) q in let z : _≡_ {A = ℕ} 0 1 = cc in absurd (omega arith)
+      by check.Fine q = not-both (sym (ap (wrote (lists-bytes s ns rs)) q) ∙ h)
       by (check.Refused r) q = ap (put-first (lists-bytes s ns rs)) q

@@ -1,10 +1,10 @@
 -- `writer::put_lists` meets its contract: the names as they are, and two sections behind them. Assumes nothing.
-use Prim.Native.Nat.{ℕ, _+_, _*_}
+use Prim.Native.Nat.{ℕ}
 use mathlib.Core.List.{List, _++_, append-assoc}
-use mathlib.Core.Path.{_≡_, refl, ap, _∙_}
+use mathlib.Core.Path.{refl, ap, _∙_}
 use native.Mathlib.Omega.{arith}
 use denote.Ref.{now}
-use lib.ListN.{length, length-append}
+use lib.ListN.{length-append}
 use Rattle.format.specs.Format.{numbers-section}
 use Rattle.format.specs.Told.{at-front}
 use Rattle.writer.specs.Writing.{lists-bytes}
@@ -62,9 +62,8 @@ returns c =
     let t = now (a .file) in
     let names-there = copied-front s t (copied .ensures .1) in
     let nodes-there = front-then s ns t names-there (copied .ensures .0) refl (c .before .before .before .before .before .before .put-section .ensures) in
-    let behind : copied .result + 2 + 2 * length (now (a .nodes)) ≡ length (s ++ ns) = omega (arith, copied .ensures .0, length-append s ns, section-length 3 (now (a .nodes))) in
-    let records-there = front-then (s ++ ns) (numbers-section 1 (now (a .records))) t nodes-there behind refl (c .before .before .put-section2 .ensures) in
-    records-there ∙ ap (λ (bs : List ℕ). at-front bs t) (append-assoc s ns (numbers-section 1 (now (a .records))))
+    front-then (s ++ ns) (numbers-section 1 (now (a .records))) t nodes-there (omega (arith, copied .ensures .0, length-append s ns, section-length 3 (now (a .nodes)))) refl (c .before .before .put-section2 .ensures)
+    ∙ ap (λ (bs : List ℕ). at-front bs t) (append-assoc s ns (numbers-section 1 (now (a .records))))
 
 pub put-lists-spec : {M : Type 1} → statement M
 put-lists-spec =

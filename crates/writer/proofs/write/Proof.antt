@@ -1,66 +1,73 @@
+-- `writer::write` meets its contract: the checks on the lists, then on the room, and then what is put. Assumes nothing.
+use Prim.Native.Nat.{_<_, _≤_}
+use mathlib.Core.Path.{ap, sym, _∙_}
+use native.Mathlib.Omega.{arith}
+use denote.Ref.{now}
+use lib.ListN.{length}
+use Rattle.flow.specs.declared.Check.the-variants as check
+use Rattle.writer.specs.Writing.{lists-bytes}
+use Rattle.writer.specs.Fronts.{lists-length}
+use Rattle.writer.specs.WriterLaws.{fine-lists, lists-refused, room-refused, room-enough, refused-as, written-as}
 use borrow.Author.Needs.{needs}
 use Rattle.writer.proofs.write.Statement.{statement}
 use Rattle.writer.proofs.write.Tie as tie
-use Rattle.writer.proofs.write.Reads as reads
-use Rattle.writer.proofs.write.Lts as lts
-use Rattle.format.proofs.check_lists.Reads as check-lists-reads
-use Rattle.format.proofs.refusal.Reads as refusal-reads
-use Rattle.writer.proofs.put_lists.Reads as put-lists-reads
 
--- src/lib.rt:70:9
 check-lists-requires : tie.Need-check-lists-requires
 check-lists-requires c κs = search needs
 
--- src/lib.rt:71:27
 enum-known-check : tie.Need-enum-known-check
 enum-known-check c = search needs
 
--- src/lib.rt:72:9
 returns : tie.Need-returns
-returns c = ?
+returns c = refused-as _ _ _ _ (lists-refused _ _ _ _ (sym (c .before .before .before .check-lists .ensures) ∙ c .before .check .given .1))
 
 enum-told : tie.Need-enum-told
 enum-told c = search needs
 
--- src/lib.rt:74:15
 add-end : tie.Need-add-end
 add-end c = search needs
 
--- src/lib.rt:74:38
 add-end-2 : tie.Need-add-end-2
 add-end-2 c = search needs
 
--- src/lib.rt:74:33
 mul-end : tie.Need-mul-end
 mul-end c = search needs
 
--- src/lib.rt:74:15
 add-end-3 : tie.Need-add-end-3
-add-end-3 c = ?
+add-end-3 c =
+    let few = fine-lists _ _ _ (sym (c .before .before .check-lists .ensures) ∙ c .enum-told .given .1) in
+    omega (arith, few .names-few, few .nodes-few, few .records-few)
 
--- src/lib.rt:76:33
 refusal-requires : tie.Need-refusal-requires
 refusal-requires c κs = search needs
 
--- src/lib.rt:76:9
 returns-2 : tie.Need-returns-2
-returns-2 c = ?
+returns-2 c =
+    let s = c .before .before .before .before .before .before .before .before .before .args in
+    let f = sym (c .before .before .before .before .check-lists .ensures) ∙ c .before .before .enum-told .given .1 in
+    let short : length (now (s .file)) < length (lists-bytes (now (s .names)) (now (s .nodes)) (now (s .records))) = omega (arith, lists-length (now (s .names)) (now (s .nodes)) (now (s .records))) in
+    refused-as _ _ _ _ (room-refused _ _ _ _ f short ∙ sym (ap check.Refused (c .refusal .ensures)))
 
--- src/lib.rt:78:5
 put-lists-requires : tie.Need-put-lists-requires
-put-lists-requires c κs = ?
+put-lists-requires c κs =
+    let few = fine-lists _ _ _ (sym (c .before .before .before .before .check-lists .ensures) ∙ c .before .before .enum-told .given .1) in
+    (omega (arith, few .nodes-few), few .records-few, omega arith)
 
--- src/lib.rt:79:39
 cast-t19 : tie.Need-cast-t19
-cast-t19 c = ?
+cast-t19 c =
+    let few = fine-lists _ _ _ (sym (c .before .before .before .before .before .before .before .check-lists .ensures) ∙ c .before .before .before .before .before .enum-told .given .1) in
+    omega (arith, few .names-few, few .nodes-few, few .records-few)
 
--- src/lib.rt:67:1
 same-length : tie.Need-same-length
 same-length c = search needs
 
--- src/lib.rt:67:1
 returns-3 : tie.Need-returns-3
-returns-3 c = ?
+returns-3 c =
+    let s = c .before .before .before .before .before .before .before .before .before .before .before .before .args in
+    let f = sym (c .before .before .before .before .before .before .before .check-lists .ensures) ∙ c .before .before .before .before .before .enum-told .given .1 in
+    let sized = lists-length (now (s .names)) (now (s .nodes)) (now (s .records)) in
+    let enough : length (lists-bytes (now (s .names)) (now (s .nodes)) (now (s .records))) ≤ length (now (s .file)) = omega (arith, sized) in
+    written-as _ _ _ _ (room-enough _ _ _ _ f enough) (sym sized) (c .before .before .put-lists .ensures)
 
 pub write-spec : {M : Type 1} → statement M
 write-spec =
