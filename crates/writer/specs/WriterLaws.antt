@@ -1,12 +1,33 @@
 -- What a caller knows of an answer of the writer, and what the code learns on its way to it. Assumes nothing.
-use Prim.Native.Nat.{ℕ, _≤_}
-use mathlib.Core.List.{List, []}
-use mathlib.Core.Path.{_≡_}
+use Prim.Native.Nat.{ℕ, _<_, _≤_}
+use mathlib.Core.Bool.{Bool, true, false}
+use mathlib.Core.List.{List, [], _∷_, _++_}
+use mathlib.Core.Path.{_≡_, refl, sym, ap, _∙_, subst}
+use native.Mathlib.Omega.{arith}
+use borrow.Author.Tests.{lt-ltb, le-ltb, ltb-true, ltb-false}
+use lib.Dec.{ltb}
 use lib.ListN.{length}
 use Rattle.flow.specs.declared.Refusal.{Refusal}
+use Rattle.flow.specs.declared.Check.{Check}
+use Rattle.flow.specs.declared.Check.the-variants as check
+use Rattle.flow.specs.Refusals.{ground, lone, table-length-order, records-length-order}
+use Rattle.flow.specs.Checks.{refused, first, grounds, or-else-check, table-length-check, records-length-check}
+use Rattle.flow.specs.FirstRefusal.{is-fine, both-fine, or-else-refused, or-else-fine, orders-append, single-held, single-passed, fine-length, fine-records-length}
+use Rattle.format.specs.Format.{Entry}
+use Rattle.format.specs.Plan.{Ran, got, bad, run}
+use Rattle.format.specs.Sections.{names}
+use Rattle.format.specs.SectionLaws.{names-there}
+use Rattle.format.specs.Contents.{content-order, lists-order}
+use Rattle.format.specs.Told.{at-front}
+use Rattle.format.specs.ItemLaws.{got-not-bad}
+use Rattle.format.specs.ListChecks.{section-alone, by-entries, named-check, lists-check}
+use Rattle.format.specs.ListLaws.{alone-bad, alone-longer, section-refused}
 use Rattle.writer.specs.declared.Extent.{Extent}
+use Rattle.writer.specs.declared.Writing.{Writing}
 use Rattle.writer.specs.declared.Writing.the-variants.{Written, Refused}
-use Rattle.writer.specs.Writing.{lists-bytes, writing, bytes-first}
+use Rattle.writer.specs.Told.{writing-told}
+use Rattle.writer.specs.Writing.{lists-bytes, order-by-bytes, write-check, wrote, put-first, writing, bytes-first, WrittenAs}
+use Rattle.writer.specs.Fronts.{lists-length}
 
 -- lists that are written: what stands first then, how long it is, and that there is room for it
 pub record WrittenLists (s ns rs : List ℕ) (room : ℕ) (e : Extent) : Type 0 where
@@ -15,9 +36,118 @@ pub record WrittenLists (s ns rs : List ℕ) (room : ℕ) (e : Extent) : Type 0 
   pub fits : e .length ≤ room
   pub short : e .length ≤ 21894
 
+---- Lists that are not refused are short ----
+
+-- how long lists are at most in which nothing is refused
+pub record FineLists (s ns rs : List ℕ) : Type 0 where
+  pub names-few : length s ≤ 20994
+  pub nodes-few : length ns ≤ 192
+  pub records-few : length rs ≤ 256
+
+-- a names section that stands alone has its entries, and ends where they do
+alone-short : (s : List ℕ) {es : List Entry} {at : ℕ} → section-alone s ≡ got es at → length s ≤ 20994
+alone-short s {es} {at} e = by-run (run s 0 names) refl
+  where
+    by-end : {ds : List Entry} {end : ℕ} → run s 0 names ≡ got ds end → (b : Bool) → ltb end (length s) ≡ b → length s ≤ 20994
+    by-end {ds} {end} r true h = got-not-bad e (alone-longer s r (ltb-true end (length s) h))
+    by-end {ds} {end} r false h = let there = names-there s r in omega (arith, ltb-false end (length s) h, there .near, there .few)
+
+    by-run : (x : Ran (List Entry)) → run s 0 names ≡ x → length s ≤ 20994
+    by-run (got ds end) r = by-end r (ltb end (length s)) refl
+    by-run (bad n p) r = got-not-bad e (alone-bad s r)
+
+module _ (s ns rs : List ℕ) where
+  pub fine-lists : lists-check s ns rs ≡ check.Fine → FineLists s ns rs
+  unfolding lists-check named-check by-entries table-length-check records-length-check
+  fine-lists f = by (section-alone s) refl
+    where
+      by : (x : Ran (List Entry)) → section-alone s ≡ x → FineLists s ns rs
+      by (got es at) e =
+          let order = lists-order (length es) ns rs in
+          let f₁ : first (grounds order) ≡ check.Fine = sym (ap (by-entries (λ ds. lists-order (length ds) ns rs)) e) ∙ f in
+          let tables = both-fine _ _ (sym (orders-append (table-length-order ns) (records-length-order rs ++ content-order (length es) ns rs)) ∙ f₁) in
+          let lists = both-fine _ _ (sym (orders-append (records-length-order rs) (content-order (length es) ns rs)) ∙ tables .1) in
+          record { names-few = alone-short s e; nodes-few = fine-length ns (tables .0) .few; records-few = fine-records-length rs (lists .0) .1 }
+      by (bad n p) e = absurd (subst is-fine (sym f ∙ section-refused s ns rs e) tt)
+
+---- The check in two parts ----
+
+module _ (s ns rs : List ℕ) (room : ℕ) where
+  abbrev short-of-room : Bool
+  short-of-room = ltb room (length (lists-bytes s ns rs))
+
+  -- 14
+  abbrev room-check : Check
+  room-check = first (ground 14 0 short-of-room ∷ [])
+
+  check-parts : write-check s ns rs room ≡ or-else-check (lists-check s ns rs) room-check
+  unfolding write-check lists-check named-check by-entries or-else-check
+  check-parts = by (section-alone s)
+    where
+      by : (x : Ran (List Entry)) → by-entries (order-by-bytes s ns rs room) x ≡ or-else-check (by-entries (λ es. lists-order (length es) ns rs) x) room-check
+      by (got es at) = orders-append (lists-order (length es) ns rs) (lone (ground 14 0 short-of-room) ∷ [])
+      by (bad n p) = refl
+
+  pub lists-refused : {r : Refusal} → lists-check s ns rs ≡ check.Refused r → write-check s ns rs room ≡ check.Refused r
+  lists-refused e = check-parts ∙ sym (or-else-refused room-check e) ∙ e
+
+  room-fine : room-check ≡ check.Fine → length (lists-bytes s ns rs) ≤ room
+  room-fine e = by short-of-room refl
+    where
+      by : (b : Bool) → short-of-room ≡ b → length (lists-bytes s ns rs) ≤ room
+      by true h = absurd (subst is-fine (sym e ∙ single-held 14 0 short-of-room h) tt)
+      by false h = ltb-false room (length (lists-bytes s ns rs)) h
+
+  module _ (f : lists-check s ns rs ≡ check.Fine) where
+    pub room-refused : room < length (lists-bytes s ns rs) → write-check s ns rs room ≡ refused 14 0
+    room-refused h = check-parts ∙ sym (or-else-fine room-check f) ∙ single-held 14 0 short-of-room (lt-ltb room (length (lists-bytes s ns rs)) h)
+
+    pub room-enough : length (lists-bytes s ns rs) ≤ room → write-check s ns rs room ≡ check.Fine
+    room-enough h = check-parts ∙ sym (or-else-fine room-check f) ∙ single-passed 14 0 short-of-room (le-ltb room (length (lists-bytes s ns rs)) h)
+
+---- What the code answers ----
+
+module _ (s ns rs file : List ℕ) where
+  left : {c : Check} → write-check s ns rs (length file) ≡ c → at-front (bytes-first s ns rs (length file)) file ≡ at-front (put-first (lists-bytes s ns rs) c) file
+  left e = ap (λ (x : Check). at-front (put-first (lists-bytes s ns rs) x) file) e
+
+  pub refused-as : {r : Refusal} → write-check s ns rs (length file) ≡ check.Refused r → WrittenAs s ns rs file file (Refused r)
+  unfolding wrote put-first
+  refused-as e = record { answer = sym (ap (wrote (lists-bytes s ns rs)) e); file-after = sym (left e) }
+
+  pub written-as : {file′ : List ℕ} {n : ℕ} → write-check s ns rs (length file) ≡ check.Fine → n ≡ length (lists-bytes s ns rs) → file′ ≡ at-front (lists-bytes s ns rs) file
+      → WrittenAs s ns rs file file′ (Written (record { length = n }))
+  unfolding wrote put-first
+  written-as e en ef = record { answer = ap (λ (k : ℕ). Written (record { length = k })) en ∙ sym (ap (wrote (lists-bytes s ns rs)) e); file-after = ef ∙ sym (left e) }
+
+---- What a caller knows ----
+
+-- what is written is not refused
+not-both : {A : Type 0} {e : Extent} {r : Refusal} → Written e ≡ Refused r → A
+not-both h = let z : _≡_ {A = ℕ} 0 1 = cc in absurd (omega arith)
+
 module _ (s ns rs : List ℕ) (room : ℕ) where
   pub written-lists : {e : Extent} → writing s ns rs room ≡ Written e → WrittenLists s ns rs room e
-  written-lists h = ?
+  unfolding wrote put-first writing-told
+  written-lists {e} h = by (write-check s ns rs room) refl
+    where
+      by : (c : Check) → write-check s ns rs room ≡ c → WrittenLists s ns rs room e
+      by check.Fine q =
+          let fine = both-fine _ _ (sym (check-parts s ns rs room) ∙ q) in
+          let few = fine-lists s ns rs (fine .0) in
+          let sized : e .length ≡ length (lists-bytes s ns rs) = ap (λ (w : Writing). writing-told w .length) (sym h ∙ ap (wrote (lists-bytes s ns rs)) q) in
+          record {
+            first = ap (put-first (lists-bytes s ns rs)) q;
+            sized = sized;
+            fits = omega (arith, sized, room-fine s ns rs room (fine .1));
+            short = omega (arith, sized, lists-length s ns rs, few .names-few, few .nodes-few, few .records-few);
+          }
+      by (check.Refused r) q = not-both (sym h ∙ ap (wrote (lists-bytes s ns rs)) q)
 
   pub refused-lists : {r : Refusal} → writing s ns rs room ≡ Refused r → bytes-first s ns rs room ≡ []
-  refused-lists h = ?
+  unfolding wrote put-first
+  refused-lists {r} h = by (write-check s ns rs room) refl
+    where
+      by : (c : Check) → write-check s ns rs room ≡ c → bytes-first s ns rs room ≡ []
+      by check.Fine q = not-both (sym (ap (wrote (lists-bytes s ns rs)) q) ∙ h)
+      by (check.Refused r) q = ap (put-first (lists-bytes s ns rs)) q

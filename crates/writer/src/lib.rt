@@ -54,7 +54,7 @@ fn put_section(numbers: &[u16], each: usize, room: &mut [u8])
 
 // The three sections: the names as they are lent, with their count, then nodes and records.
 fn put_lists(names: &[u8], nodes: &[u16], records: &[u16], file: &mut [u8])
-    requires { ⌜ (length (now nodes) ≤ 256) × (length (now records) ≤ 256) × (length (lists-bytes (now names) (now nodes) (now records)) ≤ length (now file)) ⌝ }
+    requires { ⌜ (length (now nodes) ≤ 256) × (length (now records) ≤ 256) × (length (now names) + 4 + 2 * (length (now nodes) + length (now records)) ≤ length (now file)) ⌝ }
     ensures { λ _. ⌜ now (file .exit) ≡ at-front (lists-bytes (now (names .entry)) (now (nodes .entry)) (now (records .entry))) (now (file .entry)) ⌝ }
 {
     let from = bytes::copy(names, file);
