@@ -20,6 +20,7 @@ pub mod Reads
 pub mod Cuts
 pub mod Collide
 pub mod Worked
+pub mod WriterRuledOut
 -- The program.
 pub mod Once
 pub mod Files
