@@ -2,5 +2,7 @@
 pub mod Program
 -- Definitions that need not be believed.
 pub mod Rewriting
+pub mod Copying
 -- Theorems on the way to the code.
 pub mod ProgramLaws
+pub mod RewritingLaws

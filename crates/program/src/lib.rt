@@ -1,13 +1,17 @@
-// A flow file judged as the program judges it, and the line that the program prints. What both are is defined in
-// specs/Program.antt.
+// A flow file judged as the program judges it, and the line that the program prints: specs/Program.antt defines both. A flow file read
+// and written again: what comes of it is defined in specs/Rewriting.antt.
+use format::Item;
 use judge::Answer;
 use line::Line;
 use line::VerdictWord;
 use reader::Reading;
+use writer::Writing;
 ghost use mathlib.Core.Path.{_≡_};
 ghost use Rattle.io.specs.Counts.{Counts};
 ghost use Rattle.judge.specs.Judged.{judged};
 ghost use Rattle.program.specs.Program.{states-allowed, work-lent, FileAnswered, AnswerTold, FilePrinted};
+ghost use Rattle.program.specs.Rewriting.{FileRewritten};
+ghost use Rattle.program.specs.Copying.{TablesRewritten, WithinRoom};
 
 // "allows 1,000,000 states"
 const ALLOWANCE: u32 = 1000000;
@@ -80,4 +84,33 @@ pub fn write_file_line(file: &[u8], out: &mut [u8; 64]) -> usize
     ensures { λ r. ⌜ Counts r (now (out .exit)) ⌝ }
 {
     line::write_line(line_for(judge_file(file)), out)
+}
+
+// The file's own names section with these nodes and records, written into the lent bytes.
+fn rewrite_tables(file: &[u8], nodes: &[u16], records: &[u16], out: &mut [u8]) -> Writing
+    ensures { λ r. ⌜ TablesRewritten (now (file .entry)) (now (nodes .entry)) (now (records .entry)) (now (out .entry)) (now (out .exit)) r ⌝ }
+{
+    let names = format::scan_names(file);
+    let Item::Has(got) = names else {
+        return Writing::Refused(format::refusal_in(names));
+    };
+    let at = got.next.at;
+    writer::write(&file[..at], nodes, records, out)
+}
+
+// Reads the file, and writes what it holds at the front of the lent bytes, whose rest stays; or a refusal, and all stay.
+pub fn rewrite_file(file: &[u8], out: &mut [u8]) -> Writing
+    ensures { λ r. ⌜ FileRewritten (now (file .entry)) (now (out .entry)) (now (out .exit)) r ⌝ }
+    ensures { λ r. ⌜ WithinRoom (now (out .exit)) r ⌝ }
+{
+    let mut nodes = [0u16; 192];
+    let mut records = [0u16; 256];
+    match reader::read(file, &mut nodes, &mut records) {
+        Reading::Read(counts) => {
+            let n = 3 * wide(counts.nodes);
+            let k = wide(counts.records);
+            rewrite_tables(file, &nodes[..n], &records[..k], out)
+        }
+        Reading::Refused(r) => Writing::Refused(r),
+    }
 }

@@ -1,14 +1,10 @@
 -- `program::judge_file` meets its contract: what is read stands first in the two tables, and is judged. Assumes nothing.
 use Prim.Native.Nat.{ℕ, _*_}
-use native.Mathlib.Omega.{arith}
-use mathlib.Core.Path.{refl, sym, ap₂, _∙_}
-use lib.ListN.{take}
+use mathlib.Core.Path.{refl, sym, ap, _∙_}
 use lib.Seq.{length-take-le}
 use borrow.Author.Needs.{needs}
 use denote.Ref.{now}
-use Rattle.program.specs.Program.{states-allowed, work-lent}
-use Rattle.program.specs.ProgramLaws.{Held, file-refused, file-read}
-use Rattle.judge.specs.Judged.{judged}
+use Rattle.program.specs.ProgramLaws.{Held, file-refused, file-read, refused-answered, held-answered}
 use Rattle.program.proofs.judge_file.Statement.{statement}
 use Rattle.program.proofs.judge_file.Tie as tie
 use Rattle.program.proofs.judge_file.Reads as reads
@@ -19,8 +15,8 @@ use Rattle.reader.proofs.read.Reads as read-reads
 
 -- the tables hold what the reader read
 held : (c : lts.After-wide2 (read-reads.Asked, read-reads.Learnt, wide-reads.Asked, wide-reads.Learnt, judge-tables-reads.Asked, judge-tables-reads.Learnt) reads.Pre reads.Post)
-    → Held (now (c .before .before .before .before .before .before .before .before .before .before .before .args .file)) (c .before .before .before .before .before .before .before .read .last .1 .0) (c .before .before .before .before .before .before .before .read .last .1 .1 .0) (c .before .before .before .counts .given .0 .0)
-held c = file-read refl refl (c .before .before .before .before .before .before .before .read .ensures) (c .before .before .before .counts .given .1)
+    → Held (now (c .before .before .before .before .before .before .before .before .before .before .before .args .file)) (c .before .before .before .before .before .before .before .read .last .1 .0) (c .before .before .before .before .before .before .before .read .last .1 .1 .0) (3 * c .before .wide .result) (c .wide2 .result)
+held c = file-read refl refl (c .before .before .before .before .before .before .before .read .ensures) (c .before .before .before .counts .given .1) (ap (λ (n : ℕ). 3 * n) (c .before .wide .ensures)) (c .wide2 .ensures)
 
 slice-aggregate-read : tie.Need-slice-aggregate-read
 slice-aggregate-read c = search needs
@@ -44,16 +40,16 @@ wide-requires-2 : tie.Need-wide-requires-2
 wide-requires-2 c κs = search needs
 
 array-share-prefix-nodes : tie.Need-array-share-prefix-nodes
-array-share-prefix-nodes c = omega (arith, held c .nodes-inside, c .before .wide .ensures)
+array-share-prefix-nodes c = held c .nodes-inside
 
 slice-aggregate-judge-tables : tie.Need-slice-aggregate-judge-tables
-slice-aggregate-judge-tables c = sym (length-take-le _ _ (omega (arith, held (c .before) .nodes-inside, c .before .before .wide .ensures)))
+slice-aggregate-judge-tables c = sym (length-take-le _ _ (held (c .before) .nodes-inside))
 
 array-share-prefix-records : tie.Need-array-share-prefix-records
-array-share-prefix-records c = omega (arith, held (c .before) .records-inside, c .before .wide2 .ensures)
+array-share-prefix-records c = held (c .before) .records-inside
 
 slice-aggregate-judge-tables-2 : tie.Need-slice-aggregate-judge-tables-2
-slice-aggregate-judge-tables-2 c = sym (length-take-le _ _ (omega (arith, held (c .before .before) .records-inside, c .before .before .wide2 .ensures)))
+slice-aggregate-judge-tables-2 c = sym (length-take-le _ _ (held (c .before .before) .records-inside))
 
 judge-tables-requires : tie.Need-judge-tables-requires
 judge-tables-requires c κs = search needs
@@ -62,14 +58,10 @@ enum-known-r : tie.Need-enum-known-r
 enum-known-r c = search needs
 
 returns : tie.Need-returns
-returns c =
-    let r = c .before .before .before .before .before .before .before .before .before .before .read in
-    c .judge-tables .ensures
-    ∙ ap₂ (λ (n k : ℕ). judged (take (3 * n) (r .last .1 .0)) (take k (r .last .1 .1 .0)) work-lent states-allowed) (c .before .before .before .before .wide .ensures) (c .before .before .before .wide2 .ensures)
-    ∙ held (c .before .before .before) .answer
+returns c = c .judge-tables .ensures ∙ held-answered _ (held (c .before .before .before))
 
 returns-2 : tie.Need-returns-2
-returns-2 c = file-refused refl refl (c .before .before .before .before .before .read .ensures) (c .before .r .given .1)
+returns-2 c = refused-answered _ (file-refused refl refl (c .before .before .before .before .before .read .ensures) (c .before .r .given .1))
 
 pub judge-file-spec : {M : Type 1} → statement M
 judge-file-spec =

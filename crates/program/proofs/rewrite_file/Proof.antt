@@ -1,0 +1,93 @@
+-- `program::rewrite_file` meets its contract: what is read stands first in the two tables, and is written. Assumes nothing.
+use Prim.Native.Nat.{ℕ, _*_}
+use mathlib.Core.Path.{refl, sym, ap}
+use lib.Seq.{length-take-le}
+use borrow.Author.Needs.{needs}
+use denote.Ref.{now}
+use Rattle.program.specs.ProgramLaws.{Held, file-refused, file-read}
+use Rattle.program.specs.RewritingLaws.{refused-rewritten, held-rewritten, rewritten-within}
+use Rattle.program.proofs.rewrite_file.Statement.{statement}
+use Rattle.program.proofs.rewrite_file.Tie as tie
+use Rattle.program.proofs.rewrite_file.Reads as reads
+use Rattle.program.proofs.rewrite_file.Lts as lts
+use Rattle.program.proofs.rewrite_tables.Reads as rewrite-tables-reads
+use Rattle.program.proofs.wide.Reads as wide-reads
+use Rattle.reader.proofs.read.Reads as read-reads
+
+-- the tables hold what the reader read
+held : (c : lts.After-wide2 (read-reads.Asked, read-reads.Learnt, wide-reads.Asked, wide-reads.Learnt, rewrite-tables-reads.Asked, rewrite-tables-reads.Learnt) reads.Pre reads.Post)
+    → Held (now (c .before .before .before .before .before .before .before .before .before .before .before .before .args .file)) (c .before .before .before .before .before .before .before .read .last .1 .0) (c .before .before .before .before .before .before .before .read .last .1 .1 .0) (3 * c .before .wide .result) (c .wide2 .result)
+held c = file-read refl refl (c .before .before .before .before .before .before .before .read .ensures) (c .before .before .before .counts .given .1) (ap (λ (n : ℕ). 3 * n) (c .before .wide .ensures)) (c .wide2 .ensures)
+
+slice-aggregate-read : tie.Need-slice-aggregate-read
+slice-aggregate-read c = search needs
+
+slice-aggregate-read-2 : tie.Need-slice-aggregate-read-2
+slice-aggregate-read-2 c = search needs
+
+read-requires : tie.Need-read-requires
+read-requires c κs = search needs
+
+enum-known-counts : tie.Need-enum-known-counts
+enum-known-counts c = search needs
+
+wide-requires : tie.Need-wide-requires
+wide-requires c κs = search needs
+
+mul-n : tie.Need-mul-n
+mul-n c = search needs
+
+wide-requires-2 : tie.Need-wide-requires-2
+wide-requires-2 c κs = search needs
+
+array-share-prefix-nodes : tie.Need-array-share-prefix-nodes
+array-share-prefix-nodes c = held c .nodes-inside
+
+slice-aggregate-rewrite-tables : tie.Need-slice-aggregate-rewrite-tables
+slice-aggregate-rewrite-tables c = sym (length-take-le _ _ (held (c .before) .nodes-inside))
+
+array-share-prefix-records : tie.Need-array-share-prefix-records
+array-share-prefix-records c = held (c .before) .records-inside
+
+slice-aggregate-rewrite-tables-2 : tie.Need-slice-aggregate-rewrite-tables-2
+slice-aggregate-rewrite-tables-2 c = sym (length-take-le _ _ (held (c .before .before) .records-inside))
+
+rewrite-tables-requires : tie.Need-rewrite-tables-requires
+rewrite-tables-requires c κs = search needs
+
+enum-known-r : tie.Need-enum-known-r
+enum-known-r c = search needs
+
+same-length : tie.Need-same-length
+same-length c = search needs
+
+returns : tie.Need-returns
+returns c =
+    let h = held-rewritten (held (c .before .before .before .before .before .before)) (c .before .before .rewrite-tables .ensures) in
+    (h, rewritten-within h)
+
+returns-2 : tie.Need-returns-2
+returns-2 c =
+    let h = refused-rewritten (file-refused refl refl (c .before .before .before .before .before .read .ensures) (c .before .r .given .1)) in
+    (h, rewritten-within h)
+
+pub rewrite-file-spec : {M : Type 1} → statement M
+rewrite-file-spec =
+    tie.close
+    (tie.spec
+    slice-aggregate-read
+    slice-aggregate-read-2
+    read-requires
+    enum-known-counts
+    wide-requires
+    mul-n
+    wide-requires-2
+    array-share-prefix-nodes
+    slice-aggregate-rewrite-tables
+    array-share-prefix-records
+    slice-aggregate-rewrite-tables-2
+    rewrite-tables-requires
+    enum-known-r
+    same-length
+    returns
+    returns-2)
