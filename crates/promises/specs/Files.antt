@@ -2,22 +2,19 @@
 -- refused by the judge: the reader's checks are the judge's, and the program lends work bytes enough. So the program refuses exactly
 -- what the reader refuses; and demand 2 for files, of the flow that the file's nodes mean and the records that it holds.
 -- Theorems only. Assumes nothing.
-use Prim.Native.Nat.{ℕ, _+_, _*_, _%_, _<_, _≤_}
+use Prim.Native.Nat.{ℕ, _+_, _*_, _<_, _≤_}
 use native.Mathlib.Nat.{mul-le-mul}
 use native.Mathlib.Omega.{arith}
-use mathlib.Core.Bool.{Bool, false, not}
 use mathlib.Core.List.{List}
 use mathlib.Core.Logic.{_↔_}
 use mathlib.Core.Path.{_≡_, refl, sym, ap, _∙_, subst}
-use borrow.Author.Tests.{eq-eqb, ne-eqb, le-ltb}
-use lib.Dec.{T}
 use lib.ListN.{length}
 use Rattle.calculus.specs.Records.{Record, State, Complete, InTraces}
 use Rattle.calculus.specs.Search.{visit}
 use Rattle.flow.specs.declared.Refusal.{Refusal}
 use Rattle.flow.specs.declared.Check.the-variants.{Fine}
 use Rattle.flow.specs.Records.{records}
-use Rattle.flow.specs.Refusals.{count, no-nodes, not-whole, too-many-nodes, no-records, too-many-records, table-order, records-order}
+use Rattle.flow.specs.Refusals.{count, table-order, records-order}
 use Rattle.flow.specs.Checks.{table-check, records-check}
 use Rattle.flow.specs.Earliest.{Nowhere, end, not-lone, not-sweep}
 use Rattle.flow.specs.Drawn.{flow-of}
@@ -35,14 +32,13 @@ use Rattle.program.specs.Program.{states-allowed, work-lent, answered, answer-o
 use Rattle.promises.specs.Stated.{Rejection}
 use Rattle.promises.specs.ExactlyWhen.{nowhere-exactly, passes-exactly}
 use Rattle.promises.specs.Verdicts.{records-decide}
+use Rattle.promises.specs.ListRefusals.{nowhere-both}
+use Rattle.promises.specs.Writer.{table-length-good, records-length-good}
 use Rattle.promises.specs.Demands as demand
 use Rattle.promises.specs.Reader.{Readable, readable-read, read-readable, report-refused}
 use Rattle.promises.specs.ReaderRefusals.{refused-when}
 
 ---- What the reader lets pass, the judge does ----
-
-fails : {b : Bool} → b ≡ false → T (not b)
-fails e = subst (λ (x : Bool). T (not x)) (sym e) tt
 
 module _ (f : File) (within : WithinLimits f) (fine : Nowhere (file-order f)) where
   abbrev ns : List ℕ
@@ -51,36 +47,14 @@ module _ (f : File) (within : WithinLimits f) (fine : Nowhere (file-order f)) wh
   abbrev rs : List ℕ
   rs = f .records
 
-  -- 1, 2 and 3, 10 and 11: what the two counts of the file say
-  not-none : no-nodes ns ≡ false
-  unfolding no-nodes
-  not-none = ne-eqb (length ns) 0 (λ e. omega (arith, within .nodes .whole, within .nodes .counted .low))
-
-  whole : not-whole ns ≡ false
-  unfolding not-whole
-  whole = ap not (eq-eqb (length ns % 3) 0 (omega (arith, within .nodes .whole)))
-
-  not-many : too-many-nodes ns ≡ false
-  unfolding too-many-nodes
-  not-many = le-ltb 64 (count ns) (omega (arith, within .nodes .whole, within .nodes .counted .high))
-
-  not-empty : no-records rs ≡ false
-  unfolding no-records
-  not-empty = ne-eqb (length rs) 0 (λ e. omega (arith, within .records .whole, within .records .counted .low))
-
-  not-long : too-many-records rs ≡ false
-  unfolding too-many-records
-  not-long = le-ltb 256 (length rs) (omega (arith, within .records .whole, within .records .counted .high))
-
-  -- with 4 to 9
+  -- 1 to 3 and 10, 11 by the two counts of the file; with 4 to 9
   table-passes : Nowhere (file-order f) → Nowhere (table-order ns)
-  table-passes (not-sweep nodes (not-sweep children rest)) =
-      not-lone (fails not-none) (not-lone (fails whole) (not-lone (fails not-many) (not-sweep nodes (not-sweep children end))))
+  table-passes (not-sweep nodes (not-sweep children rest)) = nowhere-both (table-length-good ns .1 (within .nodes)) (not-sweep nodes (not-sweep children end))
 
   -- with 12 and 13; 19 and 20 the judge does not know
   records-pass : Nowhere (file-order f) → Nowhere (records-order ns rs)
   records-pass (not-sweep nodes (not-sweep children (not-sweep values (not-lone closings rest)))) =
-      not-lone (fails not-empty) (not-lone (fails not-long) (not-sweep values (not-lone closings end)))
+      nowhere-both (records-length-good rs .1 (within .records)) (not-sweep values (not-lone closings end))
 
   table-fine : table-check ns ≡ Fine
   unfolding table-check

@@ -2,6 +2,7 @@
 pub mod Plain
 pub mod Stated
 pub mod FileItems
+pub mod Returned
 -- Theorems about the contracts of the crates below.
 -- Tables and the judge.
 pub mod ExactlyWhen
@@ -17,6 +18,9 @@ pub mod Reader
 pub mod ContentRefusals
 pub mod ReaderRefusals
 pub mod Reads
+pub mod ListRefusals
+pub mod Writer
+pub mod RoundTrip
 pub mod Cuts
 pub mod Collide
 pub mod Worked
@@ -24,4 +28,5 @@ pub mod WriterRuledOut
 -- The program.
 pub mod Once
 pub mod Files
+pub mod Rewritten
 pub mod ProgramRuledOut

@@ -2,7 +2,7 @@
 -- contract leaves one possible outcome: the result and each lent byte. That uniqueness is itself a proved fact."
 -- An outcome is the answer with all that was lent to be written, as it is after the call. Here: the general lemma, and the entry points
 -- of `line` and `program`. The others have theirs beside their promises: `judge-unique` (Demands), `read-once` and `scan-names-once`
--- (Reader).
+-- (Reader), `write-once` (Writer), `rewrite-once` (Rewritten).
 -- Theorems only. Assumes nothing.
 use Prim.Native.Nat.{ℕ, _+_}
 use mathlib.Core.List.{List, _++_}

@@ -1,0 +1,169 @@
+-- The round trip. 02, One: "What it writes the reader reads back as the same three lists, and writing what was read gives the same
+-- bytes." For every input, by the contracts of `write`, `read` and `scan_names`; and the files that are written are exactly those that
+-- are read. What it is stated with is in Returned. Assumes nothing.
+use Prim.Native.Nat.{ℕ, zero, suc, _*_, _≤_}
+use mathlib.Core.List.{List, [], _∷_, _++_}
+use mathlib.Core.Logic.{_↔_}
+use mathlib.Core.Path.{_≡_, refl, ap, sym, _∙_, subst}
+use native.Mathlib.Omega.{arith}
+use lib.ListN.{length, getD, take, drop}
+use lib.Seq.{take-at}
+use Rattle.format.specs.Format.{names-section, numbers-section, File, encode}
+use Rattle.format.specs.Limits.{Bytes, Stands}
+use Rattle.format.specs.Told.{ItemTold, item-told, item-found, at-front}
+use Rattle.reader.specs.declared.Counts.{Counts}
+use Rattle.reader.specs.declared.Reading.{Reading}
+use Rattle.reader.specs.Report.{reported, read-report, counts-of}
+use Rattle.reader.specs.Faults.{Readable}
+use Rattle.reader.specs.Reading.{Outcome, read-outcome, reading, ReadAs}
+use Rattle.writer.specs.declared.Writing.{Writing}
+use Rattle.writer.specs.Told.{writing-told, writing-written}
+use Rattle.writer.specs.Writes.{Writable}
+use Rattle.writer.specs.Writing.{writing, bytes-first, WrittenAs}
+use Rattle.promises.specs.Returned.{ReadBack, WrittenFor}
+use Rattle.promises.specs.FileStands.{stands-left, stands-take}
+use Rattle.promises.specs.Reader.{readable-read, scanned, names-scanned}
+use Rattle.promises.specs.Reads.{read-counts, read-fills}
+use Rattle.promises.specs.ListRefusals.{whole-stands}
+use Rattle.promises.specs.Writer.{writable-some, write-tells, write-fills, write-writes}
+
+---- What stands first ----
+
+-- numbers that stand first are what is taken from there
+front-taken : (xs table : List ℕ) {n : ℕ} {after : List ℕ} → after ≡ at-front xs table → n ≡ length xs → take n after ≡ xs
+front-taken xs table {n} e h = ap (take n) e ∙ take-at xs (drop (length xs) table) n (sym h)
+
+-- a file's first bytes are its names section
+module _ {t : List ℕ} (f : File) (e : t ≡ encode f) where
+  pub names-first : Stands t 0 (names-section (f .names))
+  unfolding encode
+  names-first = stands-left t 0 (names-section (f .names)) (numbers-section 3 (f .nodes) ++ numbers-section 1 (f .records)) (whole-stands e)
+
+  pub names-taken : take (length (names-section (f .names))) t ≡ names-section (f .names)
+  names-taken = stands-take t 0 (names-section (f .names)) names-first
+
+---- Written, then read ----
+
+-- the file of lists that are writable is readable
+writable-readable : {s ns rs t : List ℕ} {room nr rr : ℕ} {f : File} → Writable s ns rs room f → t ≡ encode f → 192 ≤ nr → 256 ≤ rr → Readable t nr rr f
+writable-readable w e h l = record { node-room = h; record-room = l; encoded = e; within = w .within; fine = w .fine }
+
+module _ {s ns rs file file′ : List ℕ} {w : Writing} (bytes : Bytes s) (written : WrittenAs s ns rs file file′ w) (n : ℕ) (some : 1 ≤ n)
+    (told : writing-told w ≡ writing-written n) where
+  -- the file whose length is told stands first
+  written-file : (f : File) × Writable s ns rs (length file) f × (take n file′ ≡ encode f)
+  written-file =
+      let x = write-writes written bytes n some .0 told in
+      (x .0, x .1, front-taken (encode (x .0)) file (write-fills written (x .1)) (x .2))
+
+  -- "What it writes the reader reads back as the same three lists"
+  pub written-read : {nodes records nodes′ records′ : List ℕ} {a : Reading} → 192 ≤ length nodes → 256 ≤ length records
+      → ReadAs (take n file′) nodes records nodes′ records′ a → ReadBack s ns rs (take n file′) nodes records nodes′ records′ a
+  unfolding reported
+  written-read {nodes} {records} h l ensured =
+      let t = take n file′ in
+      let f = written-file .0 in
+      let v = written-file .1 in
+      let e : reading t (length nodes) (length records) ≡ read-outcome f =
+      readable-read t (length nodes) (length records) f (writable-readable v (written-file .2) h l) in
+      record {
+        entries = f .names;
+        names-lent = v .names-lent;
+        names-back = subst (λ (xs : List ℕ). take (length xs) t ≡ xs) (sym (v .names-lent)) (names-taken f (written-file .2));
+        nodes-back =
+            ensured .nodes-after ∙ ap (λ (o : Outcome). at-front (o .nodes) nodes) e
+            ∙ ap (λ (xs : List ℕ). at-front xs nodes) (sym (v .nodes-lent));
+        records-back =
+            ensured .records-after ∙ ap (λ (o : Outcome). at-front (o .records) records) e
+            ∙ ap (λ (xs : List ℕ). at-front xs records) (sym (v .records-lent));
+        counted =
+            ap reported (ensured .answer ∙ ap (λ (o : Outcome). o .answer) e)
+            ∙ (λ i. read-report (counts-of (record { names = f .names; nodes = sym (v .nodes-lent) i; records = sym (v .records-lent) i })));
+      }
+
+---- Read, then written ----
+
+-- the parts of a readable file, with room for it, are writable
+pub readable-writable : {t s ns rs : List ℕ} {nr rr room : ℕ} {f : File} → Readable t nr rr f → length t ≤ room
+    → s ≡ names-section (f .names) → ns ≡ f .nodes → rs ≡ f .records → Writable s ns rs room f
+readable-writable r h a b c =
+    record {
+      names-lent = a;
+      nodes-lent = b;
+      records-lent = c;
+      within = r .within;
+      fine = r .fine;
+      room-enough = omega (arith, ap length (r .encoded));
+    }
+
+-- and written as the file
+pub parts-written : {t s ns rs file file′ : List ℕ} {f : File} {w : Writing} → t ≡ encode f → Writable s ns rs (length file) f
+    → WrittenAs s ns rs file file′ w → (writing-told w ≡ writing-written (length t)) × (file′ ≡ at-front t file)
+parts-written {file} e v written = (
+  write-tells written v ∙ ap (λ (xs : List ℕ). writing-written (length xs)) (sym e),
+  write-fills written v ∙ ap (λ (xs : List ℕ). at-front xs file) (sym e),
+)
+
+-- "writing what was read gives the same bytes": from the file's first bytes, up to where a scan ends, and the numbers that were read
+pub read-written : {t nodes records nodes′ records′ file file′ : List ℕ} {a : Reading} {c : Counts} {k at : ℕ} {w : Writing} → Bytes t
+    → ReadAs t nodes records nodes′ records′ a → reported a ≡ read-report c → 1 ≤ c .nodes → item-told (scanned t) ≡ item-found k at
+    → WrittenAs (take at t) (take (3 * c .nodes) nodes′) (take (c .records) records′) file file′ w → length t ≤ length file
+    → (writing-told w ≡ writing-written (length t)) × (file′ ≡ at-front t file)
+read-written {t} {nodes} {records} {c} {at} bytes ensured told some scan written room =
+    let x = read-counts bytes ensured c some .0 told in
+    let f = x .0 in
+    let r = x .1 in
+    let counted = x .2 in
+    let tables = read-fills bytes ensured f r in
+    let ends : at ≡ length (names-section (f .names)) =
+    ap (λ (i : ItemTold). i .next) (sym scan ∙ names-scanned t (r .within .names) (names-first f (r .encoded))) in
+    let nodes-many : 3 * c .nodes ≡ length (f .nodes) = omega (arith, ap (λ (c′ : Counts). c′ .nodes) counted, r .within .nodes .whole) in
+    let records-many : c .records ≡ length (f .records) = ap (λ (c′ : Counts). c′ .records) counted in
+    parts-written (r .encoded)
+    (readable-writable r room (ap (λ (n : ℕ). take n t) ends ∙ names-taken f (r .encoded)) (front-taken (f .nodes) nodes (tables .0) nodes-many)
+    (front-taken (f .records) records (tables .1) records-many))
+    written
+
+---- The same files ----
+
+-- the first of a file's bytes are bytes
+taken-low : (n : ℕ) (t : List ℕ) (i : ℕ) → getD (take n t) i 0 ≤ getD t i 0
+taken-low zero t i = omega arith
+taken-low (suc n) [] i = omega arith
+taken-low (suc n) (x ∷ t) zero = omega arith
+taken-low (suc n) (x ∷ t) (suc i) = taken-low n t i
+
+bytes-taken : (n : ℕ) (t : List ℕ) → Bytes t → Bytes (take n t)
+bytes-taken n t b i = omega (arith, b i, taken-low n t i)
+
+-- the files that are written for some lists are exactly those that are read
+pub written-exactly-read : (t : List ℕ) → Bytes t → WrittenFor t ↔ ((f : File) × Readable t 192 256 f)
+written-exactly-read t bytes = (λ x. there x, λ x. back (x .0) (x .1))
+  where
+    there : WrittenFor t → (f : File) × Readable t 192 256 f
+    there x =
+        let y = written-file (x .bytes) (x .written) (length t) (x .some) (x .told) in
+        (y .0, writable-readable (y .1) (sym (x .stands) ∙ y .2) (omega arith) (omega arith))
+
+    -- written from its parts, where a file as long is lent
+    back : (f : File) → Readable t 192 256 f → WrittenFor t
+    back f r =
+        let s = names-section (f .names) in
+        let v : Writable s (f .nodes) (f .records) (length t) f = readable-writable r (omega arith) refl refl refl in
+        let after = at-front (bytes-first s (f .nodes) (f .records) (length t)) t in
+        let answer = writing s (f .nodes) (f .records) (length t) in
+        let w : WrittenAs s (f .nodes) (f .records) t after answer = record { answer = refl; file-after = refl } in
+        let same = parts-written (r .encoded) v w in
+        record {
+          s = s;
+          ns = f .nodes;
+          rs = f .records;
+          file = t;
+          file′ = after;
+          answer = answer;
+          bytes = subst Bytes (names-taken f (r .encoded)) (bytes-taken (length s) t bytes);
+          written = w;
+          some = omega (arith, ap length (r .encoded), writable-some s (f .nodes) (f .records) (length t) v);
+          told = same .0;
+          stands = front-taken t t (same .1) refl;
+        }

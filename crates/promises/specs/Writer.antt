@@ -1,0 +1,233 @@
+-- What `write` does, for every names section, nodes, records and room, by its contract: what it writes and what it refuses is told by
+-- the format alone (`format`, Format, Limits, Contents, NameFaults; `writer`, Told, Writes), so how it is computed (`writer`, Writing)
+-- need not be believed. Theorems only. Assumes nothing.
+use Prim.Native.Nat.{ℕ, _/_, _%_, _≤_}
+use mathlib.Core.Bool.{Bool, false, not}
+use mathlib.Core.List.{List, [], _∷_, _++_}
+use mathlib.Core.Logic.{_⊎_, inl, inr, _↔_}
+use mathlib.Core.Path.{_≡_, refl, ap, sym, _∙_, subst}
+use native.Mathlib.Omega.{arith}
+use borrow.Author.Tests.{eq-eqb, ne-eqb, le-ltb, ltb-false}
+use lib.Dec.{T, ltb}
+use lib.ListN.{length, length-append}
+use Rattle.flow.specs.Tests.{is-false}
+use Rattle.flow.specs.declared.Check.{Check}
+use Rattle.flow.specs.declared.Check.the-variants as check
+use Rattle.flow.specs.Refusals.{ground, Round, lone, count, no-nodes, not-whole, too-many-nodes, no-records, too-many-records, table-length-order, records-length-order}
+use Rattle.flow.specs.Checks.{table-length-check, records-length-check}
+use Rattle.flow.specs.Earliest.{Nowhere, end, not-lone}
+use Rattle.flow.specs.FirstRefusal.{fine-length, fine-records-length}
+use Rattle.format.specs.Format.{number-bytes, numbers-bytes, Entry, names-section, numbers-section, File, encode}
+use Rattle.format.specs.Limits.{node-count, record-count, GoodNames, GoodNumbers, Bytes}
+use Rattle.format.specs.Contents.{content-order, lists-order}
+use Rattle.format.specs.Told.{refusal-of, at-front}
+use Rattle.writer.specs.declared.Writing.{Writing}
+use Rattle.writer.specs.Told.{WritingTold, writing-told, writing-written, writing-refused}
+use Rattle.writer.specs.Writes.{file-of-lists, write-order, WriteRefuses, Writable}
+use Rattle.writer.specs.Writing.{lists-bytes, order-by-bytes, write-check, wrote, put-first, WrittenAs}
+use Rattle.promises.specs.ExactlyWhen.{nowhere-exactly}
+use Rattle.promises.specs.FileExact.{number-bytes-length}
+use Rattle.promises.specs.ListRefusals.{fine-not-refused, nowhere-both, nowhere-parts, named-refused, named-passes, named-exactly, named-fine, named-once, named-order}
+
+---- Lists of good numbers ----
+
+fails : {b : Bool} → b ≡ false → T (not b)
+fails e = subst (λ (x : Bool). T (not x)) (sym e) tt
+
+-- 1, 2 and 3 say that there are whole nodes, as many as there may be
+pub table-length-good : (ns : List ℕ) → Nowhere (table-length-order ns) ↔ GoodNumbers node-count 3 ns
+unfolding table-length-check no-nodes not-whole too-many-nodes
+table-length-good ns = (
+  λ n. let f = fine-length ns (nowhere-exactly (table-length-order ns) .1 n) in
+      record { n = count ns; whole = f .whole; counted = record { low = omega (arith, f .some); high = omega (arith, f .few) } },
+  λ g. let none : no-nodes ns ≡ false = ne-eqb (length ns) 0 (λ e. omega (arith, g .whole, g .counted .low)) in
+      let whole : not-whole ns ≡ false = ap not (eq-eqb (length ns % 3) 0 (omega (arith, g .whole))) in
+      let many : too-many-nodes ns ≡ false = le-ltb 64 (count ns) (omega (arith, g .whole, g .counted .high)) in
+      not-lone (fails none) (not-lone (fails whole) (not-lone (fails many) end)),
+)
+
+-- 10 and 11 say the same of the records
+pub records-length-good : (rs : List ℕ) → Nowhere (records-length-order rs) ↔ GoodNumbers record-count 1 rs
+unfolding records-length-check no-records too-many-records
+records-length-good rs = (
+  λ n. let f = fine-records-length rs (nowhere-exactly (records-length-order rs) .1 n) in
+      record { n = length rs; whole = omega arith; counted = record { low = f .0; high = f .1 } },
+  λ g. let none : no-records rs ≡ false = ne-eqb (length rs) 0 (λ e. omega (arith, g .whole, g .counted .low)) in
+      let many : too-many-records rs ≡ false = le-ltb 256 (length rs) (omega (arith, g .whole, g .counted .high)) in
+      not-lone (fails none) (not-lone (fails many) end),
+)
+
+-- nothing is refused of lists exactly if they are good numbers and hold nothing that is refused of a file
+pub writable-lists : (names : ℕ) (ns rs : List ℕ)
+    → Nowhere (lists-order names ns rs) ↔ (GoodNumbers node-count 3 ns × GoodNumbers record-count 1 rs × Nowhere (content-order names ns rs))
+writable-lists names ns rs = (
+  λ n. let a = nowhere-parts (table-length-order ns) (records-length-order rs ++ content-order names ns rs) n in
+      let b = nowhere-parts (records-length-order rs) (content-order names ns rs) (a .1) in
+      (table-length-good ns .0 (a .0), records-length-good rs .0 (b .0), b .1),
+  λ x. nowhere-both (table-length-good ns .1 (x .0)) (nowhere-both (records-length-good rs .1 (x .1)) (x .2)),
+)
+
+---- What is written ----
+
+-- a file that is written has bytes
+lists-some : (s ns rs : List ℕ) → 1 ≤ length (lists-bytes s ns rs)
+unfolding lists-bytes numbers-section
+lists-some s ns rs =
+    let a = numbers-section 3 ns in
+    let b = numbers-section 1 rs in
+    omega (arith, length-append s (a ++ b), length-append a b, length-append (number-bytes (length ns / 3)) (numbers-bytes ns), number-bytes-length s (length ns / 3))
+
+module _ (s ns rs : List ℕ) (room : ℕ) where
+  -- the bytes of the lists are those of their file
+  lists-encoded : (es : List Entry) → s ≡ names-section es → lists-bytes s ns rs ≡ encode (file-of-lists s ns rs room es)
+  unfolding lists-bytes encode
+  lists-encoded es e = ap (λ (xs : List ℕ). xs ++ (numbers-section 3 ns ++ numbers-section 1 rs)) e
+
+  -- 14, by the bytes
+  abbrev room-order : List Round
+  room-order = lone (ground 14 0 (ltb room (length (lists-bytes s ns rs)))) ∷ []
+
+  same-order : (es : List Entry) → s ≡ names-section es → order-by-bytes s ns rs room es ≡ write-order s ns rs room es
+  same-order es e =
+      ap (λ (xs : List ℕ). lists-order (length es) ns rs ++ (lone (ground 14 0 (ltb room (length xs))) ∷ [])) (lists-encoded es e)
+
+  -- lists that are writable are the bytes of their file, and nothing is refused of them
+  pub writable-bytes : {f : File} → Writable s ns rs room f → lists-bytes s ns rs ≡ encode f
+  unfolding lists-bytes encode
+  writable-bytes w =
+      λ i. w .names-lent i ++ (numbers-section 3 (w .nodes-lent i) ++ numbers-section 1 (w .records-lent i))
+
+  pub writable-some : {f : File} → Writable s ns rs room f → 1 ≤ length (encode f)
+  writable-some w = subst (λ (xs : List ℕ). 1 ≤ length xs) (writable-bytes w) (lists-some s ns rs)
+
+  pub writable-fine : {f : File} → Writable s ns rs room f → write-check s ns rs room ≡ check.Fine
+  unfolding write-check
+  writable-fine {f} w =
+      let n : GoodNumbers node-count 3 ns = subst (GoodNumbers node-count 3) (sym (w .nodes-lent)) (w .within .nodes) in
+      let k : GoodNumbers record-count 1 rs = subst (GoodNumbers record-count 1) (sym (w .records-lent)) (w .within .records) in
+      let c : Nowhere (content-order (length (f .names)) ns rs) =
+      subst Nowhere (λ i. content-order (length (f .names)) (sym (w .nodes-lent) i) (sym (w .records-lent) i)) (w .fine) in
+      let l : length (lists-bytes s ns rs) ≤ room = omega (arith, w .room-enough, ap length (writable-bytes w)) in
+      let r : Nowhere room-order = not-lone (fails (le-ltb room (length (lists-bytes s ns rs)) l)) end in
+      named-passes s (order-by-bytes s ns rs room) (f .names) (w .within .names) (w .names-lent)
+      (nowhere-both (writable-lists (length (f .names)) ns rs .1 (n, k, c)) r)
+
+  -- and only of such
+  pub fine-writable : Bytes s → write-check s ns rs room ≡ check.Fine → (f : File) × Writable s ns rs room f
+  unfolding write-check
+  fine-writable bytes e = by (named-fine s (order-by-bytes s ns rs room) bytes .0 e)
+    where
+      by-room : (es : List Entry) → GoodNames es → s ≡ names-section es → Nowhere (lists-order (length es) ns rs)
+          → Nowhere room-order → (f : File) × Writable s ns rs room f
+      by-room es g d n (not-lone t end) =
+          let x = writable-lists (length es) ns rs .0 n in
+          let l = ltb-false room (length (lists-bytes s ns rs)) (is-false (ltb room (length (lists-bytes s ns rs))) t) in (
+            file-of-lists s ns rs room es,
+            record {
+              names-lent = d;
+              nodes-lent = refl;
+              records-lent = refl;
+              within = record { names = g; nodes = x .0; records = x .1 };
+              fine = x .2;
+              room-enough = omega (arith, l, ap length (lists-encoded es d));
+            },
+          )
+
+      by : ((es : List Entry) × GoodNames es × (s ≡ names-section es) × Nowhere (order-by-bytes s ns rs room es)) → (f : File) × Writable s ns rs room f
+      by x =
+          let n = nowhere-parts (lists-order (length (x .0)) ns rs) room-order (x .3) in
+          by-room (x .0) (x .1) (x .2) (n .0) (n .1)
+
+  -- each way of a refusal is answered so, and every refusal is one of these ways
+  pub refuses-checked : {k p : ℕ} → WriteRefuses s ns rs room k p → write-check s ns rs room ≡ check.Refused (refusal-of k p)
+  unfolding write-check
+  refuses-checked x = named-refused s (order-by-bytes s ns rs room) (named-order (λ es e. sym (same-order es e)) x)
+
+  pub checked-refuses : Bytes s → (k p : ℕ) → write-check s ns rs room ≡ check.Refused (refusal-of k p) → WriteRefuses s ns rs room k p
+  unfolding write-check
+  checked-refuses bytes k p e = named-order same-order (named-exactly s (order-by-bytes s ns rs room) bytes k p .0 e)
+
+  ---- Every input ----
+
+  -- all lists are writable or refused
+  pub written-or-refused : Bytes s → ((f : File) × Writable s ns rs room f) ⊎ ((k : ℕ) × (p : ℕ) × WriteRefuses s ns rs room k p)
+  written-or-refused bytes = by (write-check s ns rs room) refl
+    where
+      by : (c : Check) → write-check s ns rs room ≡ c → ((f : File) × Writable s ns rs room f) ⊎ ((k : ℕ) × (p : ℕ) × WriteRefuses s ns rs room k p)
+      by check.Fine e = inl (fine-writable bytes e)
+      by (check.Refused r) e = inr (r .number, r .place, checked-refuses bytes (r .number) (r .place) e)
+
+  -- and not both
+  pub writable-not-refused : {f : File} {k p : ℕ} → Writable s ns rs room f → WriteRefuses s ns rs room k p → ⊥
+  writable-not-refused w x = fine-not-refused (sym (writable-fine w) ∙ refuses-checked x)
+
+  -- nor refused in two ways: the number and the place are told by what is lent
+  pub refused-one-way : {k p j q : ℕ} → WriteRefuses s ns rs room k p → WriteRefuses s ns rs room j q → (k ≡ j) × (p ≡ q)
+  refused-one-way = named-once s (write-order s ns rs room)
+
+---- What is answered ----
+
+-- by what is told, what the check came to
+module _ (bytes : List ℕ) where
+  told-refused : 1 ≤ length bytes → (c : Check) (k p : ℕ) → writing-told (wrote bytes c) ≡ writing-refused k p → c ≡ check.Refused (refusal-of k p)
+  unfolding writing-told wrote
+  told-refused h check.Fine k p e = absurd (omega (arith, ap (λ (t : WritingTold). t .length) e))
+  told-refused h (check.Refused r) k p e = λ i. check.Refused (refusal-of (e i .number) (e i .place))
+
+  told-written : (c : Check) (n : ℕ) → 1 ≤ n → writing-told (wrote bytes c) ≡ writing-written n → (c ≡ check.Fine) × (n ≡ length bytes)
+  unfolding writing-told wrote
+  told-written check.Fine n h e = (refl, sym (ap (λ (t : WritingTold). t .length) e))
+  told-written (check.Refused r) n h e = absurd (omega (arith, ap (λ (t : WritingTold). t .length) e))
+
+module _ {s ns rs file file′ : List ℕ} {r : Writing} (ensured : WrittenAs s ns rs file file′ r) where
+  abbrev room : ℕ
+  room = length file
+
+  -- what is told, and the bytes, by what the check came to
+  told-by : {c : Check} → write-check s ns rs room ≡ c → writing-told r ≡ writing-told (wrote (lists-bytes s ns rs) c)
+  told-by e = ap writing-told (ensured .answer ∙ ap (wrote (lists-bytes s ns rs)) e)
+
+  file-by : {c : Check} → write-check s ns rs room ≡ c → file′ ≡ at-front (put-first (lists-bytes s ns rs) c) file
+  file-by e = ensured .file-after ∙ ap (λ (c : Check). at-front (put-first (lists-bytes s ns rs) c) file) e
+
+  -- lists that are writable are written: the length is told, and the file stands first in the lent bytes
+  pub write-tells : {f : File} → Writable s ns rs room f → writing-told r ≡ writing-written (length (encode f))
+  unfolding writing-told wrote
+  write-tells w = told-by (writable-fine s ns rs room w) ∙ ap (λ (xs : List ℕ). writing-written (length xs)) (writable-bytes s ns rs room w)
+
+  pub write-fills : {f : File} → Writable s ns rs room f → file′ ≡ at-front (encode f) file
+  unfolding put-first
+  write-fills w = file-by (writable-fine s ns rs room w) ∙ ap (λ (xs : List ℕ). at-front xs file) (writable-bytes s ns rs room w)
+
+  -- lists that are refused are told so, and change nothing
+  pub refuse-tells : {k p : ℕ} → WriteRefuses s ns rs room k p → writing-told r ≡ writing-refused k p
+  unfolding writing-told wrote
+  refuse-tells x = told-by (refuses-checked s ns rs room x)
+
+  pub write-keeps : {k p : ℕ} → WriteRefuses s ns rs room k p → file′ ≡ file
+  unfolding put-first
+  write-keeps x = file-by (refuses-checked s ns rs room x)
+
+  module _ (bytes : Bytes s) where
+    -- a refusal is told exactly when one of its ways holds
+    pub write-refuses : (k p : ℕ) → (writing-told r ≡ writing-refused k p) ↔ WriteRefuses s ns rs room k p
+    write-refuses k p = (
+      λ e. checked-refuses s ns rs room bytes k p
+          (told-refused (lists-bytes s ns rs) (lists-some s ns rs) (write-check s ns rs room) k p (sym (told-by refl) ∙ e)),
+      refuse-tells,
+    )
+
+    -- a length is told exactly if it is that of a file that is writable
+    pub write-writes : (n : ℕ) → 1 ≤ n → (writing-told r ≡ writing-written n) ↔ ((f : File) × Writable s ns rs room f × (n ≡ length (encode f)))
+    write-writes n h = (
+      λ e. let c = told-written (lists-bytes s ns rs) (write-check s ns rs room) n h (sym (told-by refl) ∙ e) in
+          let w = fine-writable s ns rs room bytes (c .0) in
+          (w .0, w .1, c .1 ∙ ap length (writable-bytes s ns rs room (w .1))),
+      λ x. write-tells (x .1) ∙ ap writing-written (sym (x .2)),
+    )
+
+---- One outcome ----
+
+-- the contract of `write` leaves one answer and one content of the lent bytes
+pub write-once : {s ns rs file f1 f2 : List ℕ} {a b : Writing} → WrittenAs s ns rs file f1 a → WrittenAs s ns rs file f2 b → (a ≡ b) × (f1 ≡ f2)
+write-once x y = (x .answer ∙ sym (y .answer), x .file-after ∙ sym (y .file-after))
