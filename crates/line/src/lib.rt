@@ -42,8 +42,8 @@ fn put_word(word: VerdictWord, out: &mut [u8]) -> usize
     }
 }
 
-// A space and the number in decimal.
-fn put_number(n: u32, out: &mut [u8], at: usize) -> usize
+// Puts a space and the number in decimal at an offset of the room, leaves the rest, and answers the offset behind them.
+pub fn put_number(n: u32, out: &mut [u8], at: usize) -> usize
     requires { ⌜ at + 11 ≤ length (now out) ⌝ }
     ensures { λ r. ⌜ Put (spaced n) (now (out .entry)) at (now (out .exit)) r ⌝ }
     ensures { λ r. ⌜ r ≤ at + 11 ⌝ }

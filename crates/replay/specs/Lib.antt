@@ -1,3 +1,13 @@
+-- Definitions.
 pub mod Fetched
+pub mod Filler
+pub mod Text
 pub mod Promised
+pub mod ReadLine
+pub mod WriteLine
+-- Theorems about them.
+pub mod FillerLaws
+pub mod TextLaws
 pub mod PromisedLaws
+pub mod ReadLineLaws
+pub mod WriteLineLaws

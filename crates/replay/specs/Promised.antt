@@ -2,14 +2,15 @@
 -- "After any verdict but a refusal the first 2 × nodes × (records + 1) are zero and the others unchanged. After a refusal all are
 -- unchanged." Definitions only: PromisedLaws has that the judge leaves them clean. Assumes nothing.
 use Prim.Native.Nat.{ℕ, _+_, _-_, _*_, _/_}
-use mathlib.Core.Bool.{Bool, true, false, _&&_}
-use mathlib.Core.List.{List, [], _∷_, _++_}
-use lib.Dec.{eqb, leb}
-use lib.ListN.{length, take, drop, replicate}
+use mathlib.Core.Bool.{Bool, _&&_}
+use mathlib.Core.List.{List, _++_}
+use lib.ListN.{take, replicate}
 use Rattle.judge.specs.declared.Answer.{Answer}
 use Rattle.judge.specs.declared.Answer.the-variants.{Accepted, Rejected, Undecided, Refused}
 use Rattle.line.specs.Line.{text-of}
 use Rattle.program.specs.Program.{line-for}
+use Rattle.replay.specs.Filler.{filler, all-are, kept}
+use Rattle.replay.specs.Text.{noted}
 
 -- so many node numbers and records want so many work bytes
 unfoldable pub work-wanted : ℕ → ℕ → ℕ
@@ -24,24 +25,14 @@ zeros-after (Refused r) numbers records = 0
 
 -- the promised bytes, of so many in all
 abbrev pub promised : ℕ → ℕ → List ℕ
-promised zeros length = replicate zeros 0 ++ replicate (length - zeros) 165
-
--- whether every byte is b
-unfoldable pub all-are : ℕ → List ℕ → Bool
-all-are b [] = true
-all-are b (x ∷ xs) = eqb x b && all-are b xs
+promised zeros length = replicate zeros 0 ++ replicate (length - zeros) filler
 
 -- whether so many bytes are zero and the others 165
 unfoldable pub is-clean : ℕ → List ℕ → Bool
-unfolding all-are
-is-clean zeros work = leb zeros (length work) && (all-are 0 (take zeros work) && all-are 165 (drop zeros work))
+unfolding all-are kept
+is-clean zeros work = kept filler zeros work && all-are 0 (take zeros work)
 
 ---- The line ----
-
--- " clean" or " dirty" and a line feed, in ASCII
-unfoldable pub noted : Bool → List ℕ
-noted true = 32 ∷ 99 ∷ 108 ∷ 101 ∷ 97 ∷ 110 ∷ 10 ∷ []
-noted false = 32 ∷ 100 ∷ 105 ∷ 114 ∷ 116 ∷ 121 ∷ 10 ∷ []
 
 -- what the answer tells, and whether the work bytes are clean
 unfoldable pub case-line : Answer → Bool → List ℕ

@@ -22,6 +22,18 @@ pub fn fetch(room: &mut [u8], n: usize) -> bool
     io::read_full(STDIN_FILENO, &mut room[..n]) == n
 }
 
+// Reads so many numbers of two bytes to the front of a table, and answers whether they were there.
+pub fn fetch_numbers(table: &mut [u16], n: usize) -> bool
+    requires { ⌜ n ≤ 400 ⌝ }
+    requires { ⌜ n ≤ length (now table) ⌝ }
+    ensures { λ r. ⌜ Fetched n (now (table .entry)) (now (table .exit)) r ⌝ }
+{
+    let mut bytes = [0u8; 800];
+    let there = fetch(&mut bytes, 2 * n);
+    format::fill(&bytes, 0, n, table);
+    there
+}
+
 // Says that this is no case; there is no going on after it.
 pub fn bad_case() -> bool
     ensures { λ r. ⌜ r ≡ false ⌝ }

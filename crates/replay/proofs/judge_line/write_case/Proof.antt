@@ -4,7 +4,7 @@ use mathlib.Core.Path.{sym}
 use borrow.Author.Needs.{needs}
 use Rattle.line.specs.LineLaws.{put-length, put-then}
 use Rattle.replay.specs.Promised.{case-line}
-use Rattle.replay.specs.PromisedLaws.{noted-length}
+use Rattle.replay.specs.TextLaws.{noted-length}
 use Rattle.replay.proofs.judge_line.write_case.Statement.{statement}
 use Rattle.replay.proofs.judge_line.write_case.Tie as tie
 

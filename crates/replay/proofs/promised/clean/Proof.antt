@@ -1,50 +1,32 @@
--- `replay::promised::clean` meets its contract: the length, and then the two parts. Assumes nothing.
-use native.Mathlib.Omega.{arith}
-use mathlib.Core.Path.{sym}
+-- `replay::promised::clean` meets its contract: what stays, and then what is zero. Assumes nothing.
+use mathlib.Core.Path.{sym, _∙_}
 use lib.Seq.{length-take-le}
-use borrow.Author.Needs.{needs}
 use denote.Ref.{now}
-use Rattle.replay.specs.PromisedLaws.{unclean-short, unclean-front, clean-front}
+use borrow.Author.Needs.{needs}
+use Rattle.replay.specs.Filler.{filler}
+use Rattle.replay.specs.Promised.{is-clean}
+use Rattle.replay.specs.FillerLaws.{kept-exactly, both-stop, both-go}
 use Rattle.replay.proofs.promised.clean.Statement.{statement}
 use Rattle.replay.proofs.promised.clean.Tie as tie
 
-returns : tie.Need-returns
-returns c = unclean-short _ _ (c .if1 .taken)
+bytes-kept-requires : tie.Need-bytes-kept-requires
+bytes-kept-requires c κs = search needs
 
 slice-aggregate-all-are : tie.Need-slice-aggregate-all-are
-slice-aggregate-all-are c = sym (length-take-le _ _ (c .before .if1 .left))
+slice-aggregate-all-are c = sym (length-take-le _ _ (kept-exactly filler (c .before .before .before .before .args .zeros) (now (c .before .before .before .before .args .work)) .0 (sym (c .before .before .bytes-kept .ensures) ∙ c .before .if1 .taken) .there))
 
 all-are-requires : tie.Need-all-are-requires
 all-are-requires c κs = search needs
 
-sub-all-are : tie.Need-sub-all-are
-sub-all-are c = search needs
-
-part-all-are-start : tie.Need-part-all-are-start
-part-all-are-start c = search needs
-
-part-all-are-end : tie.Need-part-all-are-end
-part-all-are-end c = search needs
-
-all-are-requires-2 : tie.Need-all-are-requires-2
-all-are-requires-2 c κs = search needs
+returns : tie.Need-returns
+unfolding is-clean
+returns c = both-go (c .before .before .before .bytes-kept .ensures) _ (c .before .before .if1 .taken) (c .all-are .ensures)
 
 returns-2 : tie.Need-returns-2
-returns-2 c = clean-front (c .before .before .before .before .before .before .before .args .zeros) (now (c .before .before .before .before .before .before .before .args .work)) (omega arith) (c .before .before .before .all-are .ensures) (c .before .before .if2 .taken) (c .all-are2 .ensures)
-
-returns-3 : tie.Need-returns-3
-returns-3 c = unclean-front (c .before .before .before .before .before .args .zeros) (now (c .before .before .before .before .before .args .work)) (omega arith) (c .before .all-are .ensures) (c .if2 .left)
+unfolding is-clean
+returns-2 c = both-stop (c .before .bytes-kept .ensures) _ (c .if1 .left)
 
 pub clean-spec : {M : Type 1} → statement M
 clean-spec =
     tie.close
-    (tie.spec
-    returns
-    slice-aggregate-all-are
-    all-are-requires
-    sub-all-are
-    part-all-are-start
-    part-all-are-end
-    all-are-requires-2
-    returns-2
-    returns-3)
+    (tie.spec bytes-kept-requires slice-aggregate-all-are all-are-requires returns returns-2)

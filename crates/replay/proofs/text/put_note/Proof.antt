@@ -1,8 +1,8 @@
--- `replay::promised::put_note` meets its contract: one of the two words. Assumes nothing.
+-- `replay::text::put_note` meets its contract: one of the two words. Assumes nothing.
 use borrow.Author.Needs.{needs}
-use Rattle.replay.specs.Promised.{noted}
-use Rattle.replay.proofs.promised.put_note.Statement.{statement}
-use Rattle.replay.proofs.promised.put_note.Tie as tie
+use Rattle.replay.specs.Text.{noted}
+use Rattle.replay.proofs.text.put_note.Statement.{statement}
+use Rattle.replay.proofs.text.put_note.Tie as tie
 
 slice-aggregate-put : tie.Need-slice-aggregate-put
 slice-aggregate-put c = search needs

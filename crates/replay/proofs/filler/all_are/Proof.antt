@@ -1,13 +1,13 @@
--- `replay::promised::all_are` meets its contract: the bytes passed were all b. Assumes nothing.
+-- `replay::filler::all_are` meets its contract: the bytes passed were all b. Assumes nothing.
 use Prim.Native.Nat.{_≤_, _-_}
 use native.Mathlib.Omega.{arith}
 use mathlib.Core.Path.{_≡_, refl, sym, _∙_}
 use lib.ListN.{length, drop}
 use denote.Ref.{now}
-use Rattle.replay.specs.Promised.{all-are}
-use Rattle.replay.specs.PromisedLaws.{all-more, all-stops, all-passed}
-use Rattle.replay.proofs.promised.all_are.Statement.{statement}
-use Rattle.replay.proofs.promised.all_are.Tie as tie
+use Rattle.replay.specs.Filler.{all-are}
+use Rattle.replay.specs.FillerLaws.{all-more, all-stops, all-passed}
+use Rattle.replay.proofs.filler.all_are.Statement.{statement}
+use Rattle.replay.proofs.filler.all_are.Tie as tie
 
 abbrev Inv-loop : tie.InvT-loop
 Inv-loop b part i₀ i = (i ≤ length part) × (all-are b part ≡ all-are b (drop i part))
