@@ -79,7 +79,7 @@ lists-some s ns rs =
 
 module _ (s ns rs : List ℕ) (room : ℕ) where
   -- the bytes of the lists are those of their file
-  lists-encoded : (es : List Entry) → s ≡ names-section es → lists-bytes s ns rs ≡ encode (file-of-lists s ns rs room es)
+  lists-encoded : (es : List Entry) → s ≡ names-section es → lists-bytes s ns rs ≡ encode (file-of-lists es ns rs)
   unfolding lists-bytes encode
   lists-encoded es e = ap (λ (xs : List ℕ). xs ++ (numbers-section 3 ns ++ numbers-section 1 rs)) e
 
@@ -87,7 +87,7 @@ module _ (s ns rs : List ℕ) (room : ℕ) where
   abbrev room-order : List Round
   room-order = lone (ground 14 0 (ltb room (length (lists-bytes s ns rs)))) ∷ []
 
-  same-order : (es : List Entry) → s ≡ names-section es → order-by-bytes s ns rs room es ≡ write-order s ns rs room es
+  same-order : (es : List Entry) → s ≡ names-section es → order-by-bytes s ns rs room es ≡ write-order ns rs room es
   same-order es e =
       ap (λ (xs : List ℕ). lists-order (length es) ns rs ++ (lone (ground 14 0 (ltb room (length xs))) ∷ [])) (lists-encoded es e)
 
@@ -122,7 +122,7 @@ module _ (s ns rs : List ℕ) (room : ℕ) where
       by-room es g d n (not-lone t end) =
           let x = writable-lists (length es) ns rs .0 n in
           let l = ltb-false room (length (lists-bytes s ns rs)) (is-false (ltb room (length (lists-bytes s ns rs))) t) in (
-            file-of-lists s ns rs room es,
+            file-of-lists es ns rs,
             record {
               names-lent = d;
               nodes-lent = refl;
@@ -163,7 +163,7 @@ module _ (s ns rs : List ℕ) (room : ℕ) where
 
   -- nor refused in two ways: the number and the place are told by what is lent
   pub refused-one-way : {k p j q : ℕ} → WriteRefuses s ns rs room k p → WriteRefuses s ns rs room j q → (k ≡ j) × (p ≡ q)
-  refused-one-way = named-once s (write-order s ns rs room)
+  refused-one-way = named-once s (write-order ns rs room)
 
 ---- What is answered ----
 

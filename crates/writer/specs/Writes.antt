@@ -13,17 +13,17 @@ use Rattle.format.specs.Limits.{WithinLimits}
 use Rattle.format.specs.Contents.{file-order, lists-order}
 use Rattle.format.specs.NameFaults.{NamedRefuses}
 
+-- the file of these lists
+abbrev pub file-of-lists : List Entry → List ℕ → List ℕ → File
+file-of-lists es ns rs = record { names = es; nodes = ns; records = rs }
+
+-- 1, 2, 3, 10, 11, then as the reader; 14, "lent room too short", last
+abbrev pub write-order : List ℕ → List ℕ → ℕ → List Entry → List Round
+write-order ns rs room es = lists-order (length es) ns rs ++ (lone (ground 14 0 (ltb room (length (encode (file-of-lists es ns rs))))) ∷ [])
+
 module _ (s ns rs : List ℕ) (room : ℕ) where
-  -- the file of these lists
-  abbrev pub file-of-lists : List Entry → File
-  file-of-lists es = record { names = es; nodes = ns; records = rs }
-
-  -- 1, 2, 3, 10, 11, then as the reader; 14, "lent room too short", last
-  abbrev pub write-order : List Entry → List Round
-  write-order es = lists-order (length es) ns rs ++ (lone (ground 14 0 (ltb room (length (encode (file-of-lists es))))) ∷ [])
-
   abbrev pub WriteRefuses : ℕ → ℕ → Type 0
-  WriteRefuses = NamedRefuses s write-order
+  WriteRefuses = NamedRefuses s (write-order ns rs room)
 
   -- the lists are those of a file of the format within the limits, with nothing to refuse in its numbers, and there is room for it: such
   -- lists are written
