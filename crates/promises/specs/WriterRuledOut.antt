@@ -22,15 +22,15 @@ use Rattle.promises.specs.Worked.{worked}
 ---- What is answered ----
 
 -- what is lent: a names section, nodes, records and so many bytes; and what is told
-pub record WriteLine : Type 0 where
+pub record WriterLine : Type 0 where
   pub names : List ℕ
   pub nodes : List ℕ
   pub records : List ℕ
   pub room : ℕ
   pub told : WritingTold
 
-abbrev write-line : List ℕ → List ℕ → List ℕ → ℕ → WritingTold → WriteLine
-write-line names nodes records room told = record { names = names; nodes = nodes; records = records; room = room; told = told }
+abbrev writer-line : List ℕ → List ℕ → List ℕ → ℕ → WritingTold → WriterLine
+writer-line names nodes records room told = record { names = names; nodes = nodes; records = records; room = room; told = told }
 
 abbrev section : List ℕ
 section = names-section (worked .names)
@@ -39,19 +39,19 @@ section = names-section (worked .names)
 -- the first two; one that gives 2 where there are no nodes, or 10 before 1, at the third; 3 before 2 at the fifth; 21 at another byte than
 -- the one behind the last entry at the eighth, and one that does not look there too; 15 at the length byte of a name that is cut at the ninth;
 -- one that looks for 19 among the records, or for room first, at the last two.
-unfoldable pub write-lines : List WriteLine
+unfoldable pub write-lines : List WriterLine
 write-lines =
-    write-line section (worked .nodes) (worked .records) 65 (writing-written 65)
-    ∷ write-line section (worked .nodes) (worked .records) 64 (writing-refused 14 0)
-    ∷ write-line section [] [] 65 (writing-refused 1 0)
-    ∷ write-line section (1 ∷ 1 ∷ 0 ∷ 1 ∷ []) (worked .records) 65 (writing-refused 2 0)
-    ∷ write-line section (replicate 200 0) (worked .records) 65 (writing-refused 2 0)
-    ∷ write-line section (replicate 195 0) (worked .records) 65 (writing-refused 3 0)
-    ∷ write-line section (worked .nodes) [] 65 (writing-refused 10 0)
-    ∷ write-line (section ++ (0 ∷ 0 ∷ [])) (worked .nodes) (worked .records) 65 (writing-refused 21 19)
-    ∷ write-line (take 10 section) (worked .nodes) (worked .records) 65 (writing-refused 15 8)
-    ∷ write-line section (1 ∷ 3 ∷ 0 ∷ []) (1 ∷ 61441 ∷ []) 65 (writing-refused 19 0)
-    ∷ write-line section (1 ∷ 1 ∷ 0 ∷ []) (3 ∷ 61441 ∷ []) 0 (writing-refused 20 0)
+    writer-line section (worked .nodes) (worked .records) 65 (writing-written 65)
+    ∷ writer-line section (worked .nodes) (worked .records) 64 (writing-refused 14 0)
+    ∷ writer-line section [] [] 65 (writing-refused 1 0)
+    ∷ writer-line section (1 ∷ 1 ∷ 0 ∷ 1 ∷ []) (worked .records) 65 (writing-refused 2 0)
+    ∷ writer-line section (replicate 200 0) (worked .records) 65 (writing-refused 2 0)
+    ∷ writer-line section (replicate 195 0) (worked .records) 65 (writing-refused 3 0)
+    ∷ writer-line section (worked .nodes) [] 65 (writing-refused 10 0)
+    ∷ writer-line (section ++ (0 ∷ 0 ∷ [])) (worked .nodes) (worked .records) 65 (writing-refused 21 19)
+    ∷ writer-line (take 10 section) (worked .nodes) (worked .records) 65 (writing-refused 15 8)
+    ∷ writer-line section (1 ∷ 3 ∷ 0 ∷ []) (1 ∷ 61441 ∷ []) 65 (writing-refused 19 0)
+    ∷ writer-line section (1 ∷ 1 ∷ 0 ∷ []) (3 ∷ 61441 ∷ []) 0 (writing-refused 20 0)
     ∷ []
 
 pub write-lines-told : map (λ l. writing-told (writing (l .names) (l .nodes) (l .records) (l .room))) write-lines ≡ map (λ l. l .told) write-lines
