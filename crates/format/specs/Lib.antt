@@ -12,6 +12,7 @@ pub mod ListChecks
 pub mod Items
 pub mod There
 -- Theorems on the way to the code.
+pub mod Lengths
 pub mod Plans
 pub mod ItemLaws
 pub mod SectionLaws

@@ -36,9 +36,9 @@ module _ (s : List ℕ) where
 ---- Lists ----
 
 module _ (s ns rs : List ℕ) where
-  pub section-refused : {n p : ℕ} → section-alone s ≡ bad n p → lists-check s ns rs ≡ refused n p
+  pub alone-refused : {n p : ℕ} → section-alone s ≡ bad n p → lists-check s ns rs ≡ refused n p
   unfolding lists-check named-check by-entries
-  section-refused e = ap (by-entries _) e
+  alone-refused e = ap (by-entries _) e
 
   module _ {es : List Entry} {at : ℕ} (e : section-alone s ≡ got es at) where
     contents : Check

@@ -15,6 +15,7 @@ use Rattle.format.specs.Format.{Entry, File, encode, number-bytes, numbers-byte
 use Rattle.format.specs.Plan.{Plan, done, refuse, place, item, _>>=_, got, bad, run}
 use Rattle.format.specs.Plans.{item-there, item-cut}
 use Rattle.format.specs.Sections.{byte, number, ranged, step-length, machine-length, name-count, node-count, record-count, name, entry, met, new-entry, entries, names, numbers, section, layout}
+use Rattle.format.specs.Lengths.{number-bytes-length}
 use Rattle.format.specs.Limits.{InRange, GoodEntries, no-entries, one-entry, GoodNames, WithinLimits, Stands}
 use Rattle.format.specs.ItemLaws.{le-or-lt, got-value, got-next, ranged-there, NameThere, name-there, length-got, entry-runs}
 use Rattle.format.specs.SectionLaws.{new-entry-got}
@@ -23,7 +24,7 @@ use Rattle.reader.specs.LayoutLaws.{file-of, with-nodes, with-names}
 use Rattle.reader.specs.ReaderLaws.{reading-laid}
 use Rattle.promises.specs.SameNames.{not-among}
 use Rattle.promises.specs.FileStands.{stands-all, stands-left, stands-right, stands-move, number-reads, entry-reads, name-sized}
-use Rattle.promises.specs.FileExact.{count-reads, numbers-read, number-bytes-length, nodes-whole, records-whole, layout-parts, layout-reads}
+use Rattle.promises.specs.FileExact.{count-reads, numbers-read, nodes-whole, records-whole, layout-parts, layout-reads}
 use Rattle.promises.specs.Reader.{refused-report}
 unfoldable pub use Rattle.promises.specs.FileItems.{item-of, entry-items, entries-items, number-items, file-items}
 
@@ -166,7 +167,7 @@ module _ (s : List ℕ) where
   section-sizes at g each ns w r h =
       let n = length ns / each in
       let a = stands-left s at (number-bytes n) (numbers-bytes ns) h in
-      let b = stands-move s (numbers-bytes ns) (ap (λ (k : ℕ). at + k) (number-bytes-length s n)) (stands-right s at (number-bytes n) (numbers-bytes ns) h) in
+      let b = stands-move s (numbers-bytes ns) (ap (λ (k : ℕ). at + k) (number-bytes-length n)) (stands-right s at (number-bytes n) (numbers-bytes ns) h) in
       sizes-bind s at (ranged g number) _ (count-reads s at g n a r)
       ∙ ap₂ _++_ (count-sizes at g (number-reads s at n a)) (ap (λ (k : ℕ). sizes s (at + 2) (numbers k)) (sym w) ∙ numbers-sizes (at + 2) ns b)
 

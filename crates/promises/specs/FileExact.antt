@@ -9,6 +9,7 @@ use Rattle.format.specs.declared.Range.{Range}
 use Rattle.format.specs.Format.{number-bytes, numbers-bytes, Entry, entry-bytes, entries-bytes, names-section, numbers-section, File, encode}
 use Rattle.format.specs.Plan.{Ran, got, bad, run}
 use Rattle.format.specs.Sections.{number, ranged, name-count, node-count, record-count, new-entry, entries, names, numbers, section, layout}
+use Rattle.format.specs.Lengths.{number-bytes-length, numbers-bytes-length}
 use Rattle.format.specs.Limits.{InRange, GoodEntries, no-entries, one-entry, GoodNames, GoodNumbers, WithinLimits, Bytes, Stands}
 use Rattle.format.specs.Items.{numbers-at, number-at}
 use Rattle.format.specs.ItemLaws.{got-value, got-next, got-not-bad, number-got, number-there, NumberThere, ranged-got, ranged-there}
@@ -86,11 +87,6 @@ module _ (s : List ℕ) where
 
   ---- Numbers ----
 
-  pub numbers-bytes-length : (ns : List ℕ) → length (numbers-bytes ns) ≡ 2 * length ns
-  unfolding numbers-bytes number-bytes
-  numbers-bytes-length [] = refl
-  numbers-bytes-length (n ∷ ns) = omega (arith, numbers-bytes-length ns)
-
   values-are : (at : ℕ) (ns : List ℕ) → Stands s at (numbers-bytes ns) → numbers-at s (length ns) at ≡ ns
   unfolding numbers-at numbers-bytes number-bytes
   values-are at [] h = refl
@@ -112,10 +108,6 @@ module _ (s : List ℕ) where
       (values-stand b k (at + 2) (omega arith))
 
   ---- The sections ----
-
-  pub number-bytes-length : (n : ℕ) → length (number-bytes n) ≡ 2
-  unfolding number-bytes
-  number-bytes-length n = refl
 
   -- a count that stands in s, in its range, is read
   pub count-reads : (at : ℕ) (g : Range) (v : ℕ) → Stands s at (number-bytes v) → InRange g v → run s at (ranged g number) ≡ got v (at + 2)

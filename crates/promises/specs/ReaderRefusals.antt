@@ -16,6 +16,7 @@ use Rattle.format.specs.Format.{number-bytes, Entry, name-bytes, entry-bytes, e
 use Rattle.format.specs.Plan.{Plan, Ran, got, bad, run}
 use Rattle.format.specs.Sections.{byte, number, ranged, step-length, machine-length, name-count, node-count, record-count, name, entry, met, new-entry, entries, names, section, layout}
 use Rattle.format.specs.Limits.{InRange, GoodEntry, GoodEntries, no-entries, one-entry, Bytes, Stands}
+use Rattle.format.specs.Lengths.{number-bytes-length}
 use Rattle.format.specs.Items.{refusal-of, number-at}
 use Rattle.format.specs.ItemLaws.{le-or-lt, got-not-bad, byte-cut, byte-got, number-cut, number-there, ranged-bad, ranged-few, ranged-many, ranged-got, ranged-there, name-length-bad, name-cut, name-whole, name-there, length-there, entry-step-bad, entry-machine-bad, entry-got}
 use Rattle.format.specs.SectionLaws.{names-bad, names-from, numbers-stop, numbers-got, new-entry-bad, new-entry-met, new-entry-got, new-entry-there, entries-bad, entries-more, section-count-bad, section-from}
@@ -26,7 +27,7 @@ use Rattle.reader.specs.LayoutLaws.{layout-names-bad, layout-nodes-bad, layout-
 use Rattle.reader.specs.ReaderLaws.{reading-short, reading-laid, laid-checked, Way, few-nodes, few-records, stopped, longer, faulty, whole, way, read-not-refused}
 use Rattle.promises.specs.SameNames.{met-among, among-met, not-met}
 use Rattle.promises.specs.FileStands.{stands-all, stands-left, stands-right, stands-join, stands-head, number-reads, number-stands, name-reads, name-stands, name-in-range, name-ends, entry-reads, entry-stands}
-use Rattle.promises.specs.FileExact.{entries-pass, count-reads, names-read, names-stand, nodes-read, nodes-stand, layout-reads, layout-stands, number-bytes-length}
+use Rattle.promises.specs.FileExact.{entries-pass, count-reads, names-read, names-stand, nodes-read, nodes-stand, layout-reads, layout-stands}
 use Rattle.promises.specs.ContentRefusals.{contents-exactly}
 use Rattle.promises.specs.Reader.{stands-whole, refused-report, report-refused}
 
@@ -214,7 +215,7 @@ module _ (s : List ℕ) where
       by-new rec (got g m) r =
           let v = new-entry-there s at es r in
           let u = entry-stands s at (v .read) in
-          let l = number-bytes-length s n in
+          let l = number-bytes-length n in
           let l₁ = length-append (number-bytes n) (entries-bytes es) in
           let l₂ = length-append es (g ∷ []) in
           let l₃ : length (entries-bytes (es ++ (g ∷ []))) ≡ length (entries-bytes es) + length (entry-bytes g) =

@@ -8,6 +8,7 @@ use mathlib.Core.Path.{_≡_, refl, ap, ap₂, sym, _∙_, subst}
 use native.Mathlib.Omega.{arith}
 use lib.ListN.{length, length-append}
 use Rattle.format.specs.Format.{number-bytes, Entry, entries-bytes, names-section, File}
+use Rattle.format.specs.Lengths.{number-bytes-length}
 use Rattle.format.specs.Limits.{GoodNames, Bytes, Stands}
 use Rattle.format.specs.Told.{ItemTold, item-told, item-found, item-refused, at-front}
 use Rattle.format.specs.Plan.{Ran, got, bad, run}
@@ -20,7 +21,7 @@ use Rattle.reader.specs.Report.{reported, counts-of, read-report, refused-repor
 use Rattle.reader.specs.Faults.{NamesFault, Refuses, Readable}
 use Rattle.reader.specs.Reading.{Outcome, reading, ReadAs}
 use Rattle.reader.specs.ReaderLaws.{read-not-refused}
-use Rattle.promises.specs.FileExact.{names-stand, number-bytes-length}
+use Rattle.promises.specs.FileExact.{names-stand}
 use Rattle.promises.specs.Reader.{readable-read, read-readable, read-exactly, scanned, names-scanned}
 use Rattle.promises.specs.ReaderRefusals.{names-refused, names-fault, refuses-refused, refused-refuses, refused-when}
 
@@ -73,7 +74,7 @@ module _ {s nodes records nodes′ records′ : List ℕ} {r : Reading} (bytes :
 -- names and their count take bytes
 names-some : (es : List Entry) → 2 ≤ length (names-section es)
 unfolding names-section
-names-some es = omega (arith, length-append (number-bytes (length es)) (entries-bytes es), number-bytes-length (entries-bytes es) (length es))
+names-some es = omega (arith, length-append (number-bytes (length es)) (entries-bytes es), number-bytes-length (length es))
 
 module _ (s : List ℕ) (bytes : Bytes s) where
   -- a refusal is told exactly when one of its ways holds

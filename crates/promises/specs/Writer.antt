@@ -1,7 +1,7 @@
 -- What `write` does, for every names section, nodes, records and room, by its contract: what it writes and what it refuses is told by
 -- the format alone (`format`, Format, Limits, Contents, NameFaults; `writer`, Told, Writes), so how it is computed (`writer`, Writing)
 -- need not be believed. Theorems only. Assumes nothing.
-use Prim.Native.Nat.{ℕ, _/_, _%_, _≤_}
+use Prim.Native.Nat.{ℕ, _%_, _≤_}
 use mathlib.Core.Bool.{Bool, false, not}
 use mathlib.Core.List.{List, [], _∷_, _++_}
 use mathlib.Core.Logic.{_⊎_, inl, inr, _↔_}
@@ -9,7 +9,7 @@ use mathlib.Core.Path.{_≡_, refl, ap, sym, _∙_, subst}
 use native.Mathlib.Omega.{arith}
 use borrow.Author.Tests.{eq-eqb, ne-eqb, le-ltb, ltb-false}
 use lib.Dec.{T, ltb}
-use lib.ListN.{length, length-append}
+use lib.ListN.{length}
 use Rattle.flow.specs.Tests.{is-false}
 use Rattle.flow.specs.declared.Check.{Check}
 use Rattle.flow.specs.declared.Check.the-variants as check
@@ -17,7 +17,7 @@ use Rattle.flow.specs.Refusals.{ground, Round, lone, count, no-nodes, not-whole
 use Rattle.flow.specs.Checks.{table-length-check, records-length-check}
 use Rattle.flow.specs.Earliest.{Nowhere, end, not-lone}
 use Rattle.flow.specs.FirstRefusal.{fine-length, fine-records-length}
-use Rattle.format.specs.Format.{number-bytes, numbers-bytes, Entry, names-section, numbers-section, File, encode}
+use Rattle.format.specs.Format.{Entry, names-section, numbers-section, File, encode}
 use Rattle.format.specs.Limits.{node-count, record-count, GoodNames, GoodNumbers, Bytes}
 use Rattle.format.specs.Contents.{content-order, lists-order}
 use Rattle.format.specs.Told.{refusal-of, at-front}
@@ -25,8 +25,8 @@ use Rattle.writer.specs.declared.Writing.{Writing}
 use Rattle.writer.specs.Told.{WritingTold, writing-told, writing-written, writing-refused}
 use Rattle.writer.specs.Writes.{file-of-lists, write-order, WriteRefuses, Writable}
 use Rattle.writer.specs.Writing.{lists-bytes, order-by-bytes, write-check, wrote, put-first, WrittenAs}
+use Rattle.writer.specs.Fronts.{lists-length}
 use Rattle.promises.specs.ExactlyWhen.{nowhere-exactly}
-use Rattle.promises.specs.FileExact.{number-bytes-length}
 use Rattle.promises.specs.ListRefusals.{fine-not-refused, nowhere-both, nowhere-parts, named-refused, named-passes, named-exactly, named-fine, named-once, named-order}
 
 ---- Lists of good numbers ----
@@ -71,11 +71,7 @@ writable-lists names ns rs = (
 
 -- a file that is written has bytes
 lists-some : (s ns rs : List ℕ) → 1 ≤ length (lists-bytes s ns rs)
-unfolding lists-bytes numbers-section
-lists-some s ns rs =
-    let a = numbers-section 3 ns in
-    let b = numbers-section 1 rs in
-    omega (arith, length-append s (a ++ b), length-append a b, length-append (number-bytes (length ns / 3)) (numbers-bytes ns), number-bytes-length s (length ns / 3))
+lists-some s ns rs = omega (arith, lists-length s ns rs)
 
 module _ (s ns rs : List ℕ) (room : ℕ) where
   -- the bytes of the lists are those of their file

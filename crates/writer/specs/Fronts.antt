@@ -1,4 +1,4 @@
--- Lists at the front of a room, one put behind another; and how long the sections are. Assumes nothing.
+-- Lists at the front of a room, one put behind another; and how long a file is. Assumes nothing.
 use Prim.Native.Nat.{ℕ, _+_, _*_, _-_, _/_, _%_, _<_, _≤_}
 use mathlib.Core.List.{List, [], _∷_, _++_, append-assoc, append-nil}
 use mathlib.Core.Path.{_≡_, refl, sym, ap, ap₂, _∙_}
@@ -8,6 +8,7 @@ use lib.ListN.{length, getD, take, drop, set, length-append, length-drop, drop-o
 use lib.Seq.{drop-drop, take-all, take-at, take-length, take-suc, drop-at}
 use Rattle.format.specs.Format.{number-bytes, numbers-bytes, numbers-section}
 use Rattle.format.specs.Told.{at-front}
+use Rattle.format.specs.Lengths.{section-length}
 use Rattle.writer.specs.Writing.{lists-bytes}
 
 ---- At the front of a room ----
@@ -50,11 +51,6 @@ number-front n [] h = absurd (omega arith)
 number-front n (a ∷ []) h = absurd (omega arith)
 number-front n (a ∷ b ∷ t) h = refl
 
-pub numbers-bytes-length : (ns : List ℕ) → length (numbers-bytes ns) ≡ 2 * length ns
-unfolding numbers-bytes number-bytes
-numbers-bytes-length [] = refl
-numbers-bytes-length (n ∷ ns) = omega (arith, numbers-bytes-length ns)
-
 numbers-bytes-more : (ns : List ℕ) (n : ℕ) → numbers-bytes (ns ++ (n ∷ [])) ≡ numbers-bytes ns ++ number-bytes n
 unfolding numbers-bytes number-bytes
 numbers-bytes-more [] n = refl
@@ -66,11 +62,7 @@ pub numbers-bytes-next : (ns : List ℕ) (i : ℕ) → i < length ns
 numbers-bytes-next ns i h =
     sym (ap (λ (k : ℕ). numbers-bytes (take k ns)) (add-one i) ∙ ap numbers-bytes (take-suc ns i 0 h) ∙ numbers-bytes-more (take i ns) (getD ns i 0))
 
----- Sections ----
-
-pub section-length : (each : ℕ) (ns : List ℕ) → length (numbers-section each ns) ≡ 2 + 2 * length ns
-unfolding numbers-section number-bytes
-section-length each ns = omega (arith, numbers-bytes-length ns)
+---- The three sections ----
 
 pub lists-length : (s ns rs : List ℕ) → length (lists-bytes s ns rs) ≡ length s + 4 + 2 * (length ns + length rs)
 unfolding lists-bytes

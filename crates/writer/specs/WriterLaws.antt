@@ -21,7 +21,7 @@ use Rattle.format.specs.Contents.{content-order, lists-order}
 use Rattle.format.specs.Told.{at-front}
 use Rattle.format.specs.ItemLaws.{got-not-bad}
 use Rattle.format.specs.ListChecks.{section-alone, by-entries, named-check, lists-check}
-use Rattle.format.specs.ListLaws.{alone-bad, alone-longer, section-refused}
+use Rattle.format.specs.ListLaws.{alone-bad, alone-longer, alone-refused}
 use Rattle.writer.specs.declared.Extent.{Extent}
 use Rattle.writer.specs.declared.Writing.{Writing}
 use Rattle.writer.specs.declared.Writing.the-variants.{Written, Refused}
@@ -68,7 +68,7 @@ module _ (s ns rs : List ℕ) where
           let tables = both-fine _ _ (sym (orders-append (table-length-order ns) (records-length-order rs ++ content-order (length es) ns rs)) ∙ f₁) in
           let lists = both-fine _ _ (sym (orders-append (records-length-order rs) (content-order (length es) ns rs)) ∙ tables .1) in
           record { names-few = alone-short s e; nodes-few = fine-length ns (tables .0) .few; records-few = fine-records-length rs (lists .0) .1 }
-      by (bad n p) e = absurd (subst is-fine (sym f ∙ section-refused s ns rs e) tt)
+      by (bad n p) e = absurd (subst is-fine (sym f ∙ alone-refused s ns rs e) tt)
 
 ---- The check in two parts ----
 
@@ -102,8 +102,8 @@ module _ (s ns rs : List ℕ) (room : ℕ) where
     pub room-refused : room < length (lists-bytes s ns rs) → write-check s ns rs room ≡ refused 14 0
     room-refused h = check-parts ∙ sym (or-else-fine room-check f) ∙ single-held 14 0 short-of-room (lt-ltb room (length (lists-bytes s ns rs)) h)
 
-    pub room-enough : length (lists-bytes s ns rs) ≤ room → write-check s ns rs room ≡ check.Fine
-    room-enough h = check-parts ∙ sym (or-else-fine room-check f) ∙ single-passed 14 0 short-of-room (le-ltb room (length (lists-bytes s ns rs)) h)
+    pub room-passes : length (lists-bytes s ns rs) ≤ room → write-check s ns rs room ≡ check.Fine
+    room-passes h = check-parts ∙ sym (or-else-fine room-check f) ∙ single-passed 14 0 short-of-room (le-ltb room (length (lists-bytes s ns rs)) h)
 
 ---- What the code answers ----
 
@@ -123,8 +123,8 @@ module _ (s ns rs file : List ℕ) where
 ---- What a caller knows ----
 
 -- what is written is not refused
-not-both : {A : Type 0} {e : Extent} {r : Refusal} → Written e ≡ Refused r → A
-not-both h = let z : _≡_ {A = ℕ} 0 1 = cc in absurd (omega arith)
+written-not-refused : {A : Type 0} {e : Extent} {r : Refusal} → Written e ≡ Refused r → A
+written-not-refused h = let z : _≡_ {A = ℕ} 0 1 = cc in absurd (omega arith)
 
 module _ (s ns rs : List ℕ) (room : ℕ) where
   pub written-lists : {e : Extent} → writing s ns rs room ≡ Written e → WrittenLists s ns rs room e
@@ -142,12 +142,12 @@ module _ (s ns rs : List ℕ) (room : ℕ) where
             fits = omega (arith, sized, room-fine s ns rs room (fine .1));
             short = omega (arith, sized, lists-length s ns rs, few .names-few, few .nodes-few, few .records-few);
           }
-      by (check.Refused r) q = not-both (sym h ∙ ap (wrote (lists-bytes s ns rs)) q)
+      by (check.Refused r) q = written-not-refused (sym h ∙ ap (wrote (lists-bytes s ns rs)) q)
 
   pub refused-lists : {r : Refusal} → writing s ns rs room ≡ Refused r → bytes-first s ns rs room ≡ []
   unfolding wrote put-first
   refused-lists {r} h = by (write-check s ns rs room) refl
     where
       by : (c : Check) → write-check s ns rs room ≡ c → bytes-first s ns rs room ≡ []
-      by check.Fine q = not-both (sym (ap (wrote (lists-bytes s ns rs)) q) ∙ h)
+      by check.Fine q = written-not-refused (sym (ap (wrote (lists-bytes s ns rs)) q) ∙ h)
       by (check.Refused r) q = ap (put-first (lists-bytes s ns rs)) q

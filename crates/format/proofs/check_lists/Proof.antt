@@ -3,7 +3,7 @@ use borrow.Author.Needs.{needs}
 use mathlib.Core.Path.{sym, _∙_}
 use Rattle.flow.specs.FirstRefusal.{fine-length, fine-records-length}
 use Rattle.format.specs.ItemLaws.{has-found, item-refusal}
-use Rattle.format.specs.ListLaws.{section-refused, table-length-refused, records-length-refused, contents-last}
+use Rattle.format.specs.ListLaws.{alone-refused, table-length-refused, records-length-refused, contents-last}
 use Rattle.format.proofs.check_lists.Statement.{statement}
 use Rattle.format.proofs.check_lists.Tie as tie
 
@@ -20,7 +20,7 @@ refusal-in-requires : tie.Need-refusal-in-requires
 refusal-in-requires c κs = search needs
 
 returns : tie.Need-returns
-returns c = sym (section-refused _ _ _ (item-refusal _ _ (c .before .before .before .scan-alone .ensures) (c .before .enum-told .given .1) (c .refusal-in .ensures)))
+returns c = sym (alone-refused _ _ _ (item-refusal _ _ (c .before .before .before .scan-alone .ensures) (c .before .enum-told .given .1) (c .refusal-in .ensures)))
 
 check-table-length-requires : tie.Need-check-table-length-requires
 check-table-length-requires c κs = search needs

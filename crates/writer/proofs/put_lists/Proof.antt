@@ -8,7 +8,8 @@ use lib.ListN.{length-append}
 use Rattle.format.specs.Format.{numbers-section}
 use Rattle.format.specs.Told.{at-front}
 use Rattle.writer.specs.Writing.{lists-bytes}
-use Rattle.writer.specs.Fronts.{copied-front, front-then, section-length}
+use Rattle.format.specs.Lengths.{section-length}
+use Rattle.writer.specs.Fronts.{copied-front, front-then}
 use borrow.Author.Needs.{needs}
 use Rattle.writer.proofs.put_lists.Statement.{statement}
 use Rattle.writer.proofs.put_lists.Tie as tie

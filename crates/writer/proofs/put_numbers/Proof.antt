@@ -10,7 +10,8 @@ use lib.ListN.{length, getD, take, length-take, length-drop}
 use lib.Seq.{length-take-le, take-all}
 use Rattle.format.specs.Format.{number-bytes, numbers-bytes}
 use Rattle.format.specs.Told.{at-front}
-use Rattle.writer.specs.Fronts.{front-length, front-then, numbers-bytes-length, numbers-bytes-next}
+use Rattle.format.specs.Lengths.{numbers-bytes-length}
+use Rattle.writer.specs.Fronts.{front-length, front-then, numbers-bytes-next}
 use Rattle.writer.proofs.put_numbers.Statement.{statement}
 use Rattle.writer.proofs.put_numbers.Tie as tie
 

@@ -7,7 +7,7 @@ use lib.ListN.{length}
 use Rattle.flow.specs.declared.Check.the-variants as check
 use Rattle.writer.specs.Writing.{lists-bytes}
 use Rattle.writer.specs.Fronts.{lists-length}
-use Rattle.writer.specs.WriterLaws.{fine-lists, lists-refused, room-refused, room-enough, refused-as, written-as}
+use Rattle.writer.specs.WriterLaws.{fine-lists, lists-refused, room-refused, room-passes, refused-as, written-as}
 use borrow.Author.Needs.{needs}
 use Rattle.writer.proofs.write.Statement.{statement}
 use Rattle.writer.proofs.write.Tie as tie
@@ -67,7 +67,7 @@ returns-3 c =
     let f = sym (c .before .before .before .before .before .before .before .check-lists .ensures) ∙ c .before .before .before .before .before .enum-told .given .1 in
     let sized = lists-length (now (s .names)) (now (s .nodes)) (now (s .records)) in
     let enough : length (lists-bytes (now (s .names)) (now (s .nodes)) (now (s .records))) ≤ length (now (s .file)) = omega (arith, sized) in
-    written-as _ _ _ _ (room-enough _ _ _ _ f enough) (sym sized) (c .before .before .put-lists .ensures)
+    written-as _ _ _ _ (room-passes _ _ _ _ f enough) (sym sized) (c .before .before .put-lists .ensures)
 
 pub write-spec : {M : Type 1} → statement M
 write-spec =
