@@ -3,7 +3,7 @@
 -- flow and no other. Definitions only. Assumes nothing.
 use Prim.Native.Nat.{ℕ}
 use mathlib.Core.List.{List}
-use Rattle.calculus.specs.Term.{Std, Cmp, leaf, ev, hnd, blk, pair}
+use Rattle.calculus.specs.Term.{Leaf, Std, Cmp, leaf, ev, hnd, blk, pair}
 use Rattle.calculus.specs.Records.{State, over, std, cmp}
 use Rattle.flow.specs.declared.Node.{Node}
 use Rattle.flow.specs.declared.Node.the-variants.{Event, Basic, Standard, Handler, Block, Pair, Compensable, Paired, Unknown}
@@ -22,21 +22,26 @@ of-cmp f over = over
 of-cmp f (std p) = over
 of-cmp f (cmp pp) = f pp
 
--- the part that a node makes of what its children draw
-unfoldable pub made : Node → (ℕ → State) → State
-made (Event e) at = std (ev (leaf e))
-made (Basic b) at = std (basic b)
-made (Standard o t) at = of-std (λ p. of-std (λ q. std (standard o p q)) (at (t .second))) (at (t .first))
-made (Handler t) at = of-std (λ p. of-std (λ q. std (hnd p q)) (at (t .second))) (at (t .first))
-made (Block c) at = of-cmp (λ pp. std (blk pp)) (at c)
-made (Pair t) at = of-std (λ p. of-std (λ q. cmp (pair p q)) (at (t .second))) (at (t .first))
-made (Compensable o t) at = of-cmp (λ pp. of-cmp (λ qq. cmp (compensable o pp qq)) (at (t .second))) (at (t .first))
-made (Paired b) at = cmp (paired b)
-made Unknown at = over
+module _ (leaves : ℕ → Leaf) where
+  -- the part that a node makes of what its children draw
+  unfoldable pub made : Node → (ℕ → State) → State
+  made (Event e) at = std (ev (leaves e))
+  made (Basic b) at = std (basic b)
+  made (Standard o t) at = of-std (λ p. of-std (λ q. std (standard o p q)) (at (t .second))) (at (t .first))
+  made (Handler t) at = of-std (λ p. of-std (λ q. std (hnd p q)) (at (t .second))) (at (t .first))
+  made (Block c) at = of-cmp (λ pp. std (blk pp)) (at c)
+  made (Pair t) at = of-std (λ p. of-std (λ q. cmp (pair p q)) (at (t .second))) (at (t .first))
+  made (Compensable o t) at = of-cmp (λ pp. of-cmp (λ qq. cmp (compensable o pp qq)) (at (t .second))) (at (t .first))
+  made (Paired b) at = cmp (paired b)
+  made Unknown at = over
 
-unfoldable pub drawn : List ℕ → ℕ → State
-drawn ns i = descend over (λ j at. made (node ns j) at) i
+  unfoldable pub drawn : List ℕ → ℕ → State
+  drawn ns i = descend over (λ j at. made (node ns j) at) i
 
--- the flow of the last node
-unfoldable pub flow-of : List ℕ → State
-flow-of ns = drawn ns (root ns)
+  -- the flow of the last node
+  unfoldable pub flow-by : List ℕ → State
+  flow-by ns = drawn ns (root ns)
+
+-- where no names are lent
+abbrev pub flow-of : List ℕ → State
+flow-of ns = flow-by leaf ns

@@ -1,9 +1,10 @@
--- The flow that a node table means. `Draws ns i s`: node i of the table draws the part s, one constructor to a form of node.
--- Definitions only: OneFlow proves that a table that is not refused draws exactly one flow, `flow-of` it (Drawn). Assumes nothing.
+-- The flow that a node table means. `Draws leaves ns i s`: node i of the table draws the part s, one constructor to a form of node, where
+-- `leaves` says which records an event's number takes: `leaf` of the calculus where no names are lent.
+-- Definitions only: OneFlow proves that a table that is not refused draws exactly one flow, `flow-by` it (Drawn). Assumes nothing.
 use Prim.Native.Nat.{ℕ}
 use mathlib.Core.Path.{_≡_}
 use mathlib.Core.List.{List}
-use Rattle.calculus.specs.Term.{Std, Cmp, leaf, ev, hnd, blk, pair}
+use Rattle.calculus.specs.Term.{Leaf, Std, Cmp, ev, hnd, blk, pair}
 use Rattle.calculus.specs.Records.{State, std, cmp}
 use Rattle.flow.specs.declared.Simple.{Simple}
 use Rattle.flow.specs.declared.Operator.{Operator}
@@ -11,9 +12,9 @@ use Rattle.flow.specs.declared.Two.{Two}
 use Rattle.flow.specs.declared.Node.the-variants.{Event, Basic, Standard, Handler, Block, Pair, Compensable, Paired}
 use Rattle.flow.specs.Kinds.{node, basic, paired, standard, compensable}
 
-module _ (ns : List ℕ) where
+module _ (leaves : ℕ → Leaf) (ns : List ℕ) where
   pub data Draws : ℕ → State → Type 0 where
-    at-event : {i e : ℕ} → node ns i ≡ Event e → Draws i (std (ev (leaf e)))
+    at-event : {i e : ℕ} → node ns i ≡ Event e → Draws i (std (ev (leaves e)))
     at-basic : {i : ℕ} {b : Simple} → node ns i ≡ Basic b → Draws i (std (basic b))
     at-standard : {i : ℕ} {o : Operator} {t : Two} {p q : Std} → node ns i ≡ Standard o t → Draws (t .first) (std p) → Draws (t .second) (std q) → Draws i (std (standard o p q))
     at-handler : {i : ℕ} {t : Two} {p q : Std} → node ns i ≡ Handler t → Draws (t .first) (std p) → Draws (t .second) (std q) → Draws i (std (hnd p q))

@@ -5,7 +5,7 @@ use mathlib.Core.Path.{_≡_}
 use mathlib.Core.Bool.{Bool, true, false}
 use mathlib.Core.List.{List}
 use lib.ListN.{length, getD}
-use Rattle.calculus.specs.Term.{Std, Cmp}
+use Rattle.calculus.specs.Term.{Leaf, Std, Cmp}
 use Rattle.calculus.specs.Records.{std, cmp}
 use Rattle.flow.specs.Refusals.{count, unknown-kind, wrong-field, not-lower, wrong-sort, child-taken, nobodys-child, most-records, no-record, closed, closings-wanted}
 use Rattle.flow.specs.Draws.{Draws}
@@ -39,6 +39,6 @@ pub record FineRecords (ns rs : List ℕ) : Type 0 where
   pub closings : closed rs (closings-wanted ns) ≡ true
 
 -- the part that node i draws is standard (true) or compensable (false)
-pub data Drawing (ns : List ℕ) (i : ℕ) : Bool → Type 0 where
-  standard-part : (p : Std) → Draws ns i (std p) → Drawing ns i true
-  compensable-part : (pp : Cmp) → Draws ns i (cmp pp) → Drawing ns i false
+pub data Drawing (leaves : ℕ → Leaf) (ns : List ℕ) (i : ℕ) : Bool → Type 0 where
+  standard-part : (p : Std) → Draws leaves ns i (std p) → Drawing leaves ns i true
+  compensable-part : (pp : Cmp) → Draws leaves ns i (cmp pp) → Drawing leaves ns i false

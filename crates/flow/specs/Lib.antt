@@ -8,6 +8,7 @@ pub mod Draws
 -- Definitions that need not be believed.
 pub mod Trees
 pub mod Drawn
+pub mod Cues
 pub mod Checks
 pub mod Forms
 pub mod Fine

@@ -1,4 +1,5 @@
--- A table that is not refused means exactly one flow, standard or compensable as its last node's kind is. Assumes nothing.
+-- A table that is not refused means exactly one flow, whatever records its leaves take, standard or compensable as its last node's kind
+-- is. Assumes nothing.
 use Prim.Native.Nat.{ℕ, zero, suc, _<_}
 use mathlib.Core.Path.{_≡_, refl, sym, ap, _∙_, subst}
 use mathlib.Core.Bool.{Bool, true, false}
@@ -6,7 +7,7 @@ use mathlib.Core.List.{List}
 use native.Mathlib.Omega.{arith}
 use lib.Dec.{T}
 use borrow.Author.Tests.{not-false}
-use Rattle.calculus.specs.Term.{Std, Cmp, blk}
+use Rattle.calculus.specs.Term.{Leaf, Std, Cmp, blk}
 use Rattle.calculus.specs.Records.{State, over, std, cmp}
 use Rattle.flow.specs.declared.Check.the-variants.{Fine}
 use Rattle.flow.specs.Shapes.{Kid}
@@ -19,22 +20,22 @@ use Rattle.flow.specs.NodeChildren.{one-kid, two-kids}
 use Rattle.flow.specs.Refusals.{count, root, unknown-kind}
 use Rattle.flow.specs.Checks.{table-check}
 use Rattle.flow.specs.Draws.{Draws, at-event, at-basic, at-standard, at-handler, at-block, at-pair, at-compensable, at-paired}
-use Rattle.flow.specs.Drawn.{made, drawn, flow-of}
+use Rattle.flow.specs.Drawn.{made, drawn, flow-by}
 use Rattle.flow.specs.FineTable.{FineTable, fine-table, fine-tree, kid-lower, kid-sort}
 pub use Rattle.flow.specs.Fine.{Drawing, standard-part, compensable-part}
 
 ---- What is drawn is what the function says ----
 
-module _ (ns : List ℕ) (tree : Tree (shape ns)) where
+module _ (leaves : ℕ → Leaf) (ns : List ℕ) (tree : Tree (shape ns)) where
   -- by what its children draw
-  drawn-at : (i : ℕ) {n : Node} → node ns i ≡ n → drawn ns i ≡ made n (below over i (drawn ns))
+  drawn-at : (i : ℕ) {n : Node} → node ns i ≡ n → drawn leaves ns i ≡ made leaves n (below over i (drawn leaves ns))
   unfolding drawn
-  drawn-at i e = descend-is over (λ j at. made (node ns j) at) i ∙ ap (λ z. made z (below over i (drawn ns))) e
+  drawn-at i e = descend-is over (λ j at. made leaves (node ns j) at) i ∙ ap (λ z. made leaves z (below over i (drawn leaves ns))) e
 
-  child-draws : {i c : ℕ} {s : State} → Kid (shape ns) i c → drawn ns c ≡ s → below over i (drawn ns) c ≡ s
-  child-draws {i} {c} k d = below-is over i (drawn ns) c (tree .lower i c k) ∙ d
+  child-draws : {i c : ℕ} {s : State} → Kid (shape ns) i c → drawn leaves ns c ≡ s → below over i (drawn leaves ns) c ≡ s
+  child-draws {i} {c} k d = below-is over i (drawn leaves ns) c (tree .lower i c k) ∙ d
 
-  drawn-is : {i : ℕ} {s : State} → Draws ns i s → drawn ns i ≡ s
+  drawn-is : {i : ℕ} {s : State} → Draws leaves ns i s → drawn leaves ns i ≡ s
   unfolding made
   drawn-is (at-event {i} e) = drawn-at i e
   drawn-is (at-basic {i} e) = drawn-at i e
@@ -47,22 +48,22 @@ module _ (ns : List ℕ) (tree : Tree (shape ns)) where
 
 ---- Every node of a table that is not refused draws a part ----
 
-module _ (ns : List ℕ) (fine : FineTable ns) where
-  module _ (i : ℕ) (within : i < count ns) (rec : (c : ℕ) → c < i → Drawing ns c (is-standard (node ns c))) where
+module _ (leaves : ℕ → Leaf) (ns : List ℕ) (fine : FineTable ns) where
+  module _ (i : ℕ) (within : i < count ns) (rec : (c : ℕ) → c < i → Drawing leaves ns c (is-standard (node ns c))) where
     -- what a child draws is of the sort that the node asks for
-    kid-part : (n : Node) → node ns i ≡ n → (c : ℕ) → Kid (shape ns) i c → Drawing ns c (form n .inner)
-    kid-part n e c k = subst (Drawing ns c) (kid-sort ns fine i c k ∙ ap (λ z. form z .inner) e) (rec c (kid-lower ns fine i c k))
+    kid-part : (n : Node) → node ns i ≡ n → (c : ℕ) → Kid (shape ns) i c → Drawing leaves ns c (form n .inner)
+    kid-part n e c k = subst (Drawing leaves ns c) (kid-sort ns fine i c k ∙ ap (λ z. form z .inner) e) (rec c (kid-lower ns fine i c k))
 
-    both-std : {b : Bool} (c d : ℕ) → ((p q : Std) → Draws ns c (std p) → Draws ns d (std q) → Drawing ns i b) → Drawing ns c true → Drawing ns d true → Drawing ns i b
+    both-std : {b : Bool} (c d : ℕ) → ((p q : Std) → Draws leaves ns c (std p) → Draws leaves ns d (std q) → Drawing leaves ns i b) → Drawing leaves ns c true → Drawing leaves ns d true → Drawing leaves ns i b
     both-std c d make (standard-part p x) (standard-part q y) = make p q x y
 
-    both-cmp : {b : Bool} (c d : ℕ) → ((pp qq : Cmp) → Draws ns c (cmp pp) → Draws ns d (cmp qq) → Drawing ns i b) → Drawing ns c false → Drawing ns d false → Drawing ns i b
+    both-cmp : {b : Bool} (c d : ℕ) → ((pp qq : Cmp) → Draws leaves ns c (cmp pp) → Draws leaves ns d (cmp qq) → Drawing leaves ns i b) → Drawing leaves ns c false → Drawing leaves ns d false → Drawing leaves ns i b
     both-cmp c d make (compensable-part pp x) (compensable-part qq y) = make pp qq x y
 
-    the-block : {c : ℕ} → node ns i ≡ Block c → Drawing ns c false → Drawing ns i true
+    the-block : {c : ℕ} → node ns i ≡ Block c → Drawing leaves ns c false → Drawing leaves ns i true
     the-block e (compensable-part pp d) = standard-part (blk pp) (at-block e d)
 
-    node-part : (n : Node) → node ns i ≡ n → Drawing ns i (is-standard n)
+    node-part : (n : Node) → node ns i ≡ n → Drawing leaves ns i (is-standard n)
     unfolding unknown-kind
     node-part (Event x) e = standard-part _ (at-event e)
     node-part (Basic b) e = standard-part _ (at-basic e)
@@ -75,56 +76,56 @@ module _ (ns : List ℕ) (fine : FineTable ns) where
     node-part Unknown e =
         absurd (subst (λ (n : Node). T (form n .known)) e (subst T (sym (not-false (form (node ns i) .known) (fine .node i within .known))) tt))
 
-  parts-below : (n i : ℕ) → i < n → i < count ns → Drawing ns i (is-standard (node ns i))
+  parts-below : (n i : ℕ) → i < n → i < count ns → Drawing leaves ns i (is-standard (node ns i))
   parts-below zero i h w = absurd (omega arith)
   parts-below (suc n) i h w = node-part i w (λ c l. parts-below n c (omega arith) (omega arith)) (node ns i) refl
 
-  pub part-of : (i : ℕ) → i < count ns → Drawing ns i (is-standard (node ns i))
+  pub part-of : (i : ℕ) → i < count ns → Drawing leaves ns i (is-standard (node ns i))
   part-of i w = parts-below (suc i) i (omega arith) w
 
 ---- "A table that is not refused means exactly one term" ----
 
-module _ (ns : List ℕ) (fine : FineTable ns) where
-  part-drawn : {b : Bool} (i : ℕ) → Drawing ns i b → Draws ns i (drawn ns i)
-  part-drawn i (standard-part p d) = subst (Draws ns i) (sym (drawn-is ns (fine-tree ns fine) d)) d
-  part-drawn i (compensable-part pp d) = subst (Draws ns i) (sym (drawn-is ns (fine-tree ns fine) d)) d
+module _ (leaves : ℕ → Leaf) (ns : List ℕ) (fine : FineTable ns) where
+  part-drawn : {b : Bool} (i : ℕ) → Drawing leaves ns i b → Draws leaves ns i (drawn leaves ns i)
+  part-drawn i (standard-part p d) = subst (Draws leaves ns i) (sym (drawn-is leaves ns (fine-tree ns fine) d)) d
+  part-drawn i (compensable-part pp d) = subst (Draws leaves ns i) (sym (drawn-is leaves ns (fine-tree ns fine) d)) d
 
   -- of any node
-  pub node-drawn : (i : ℕ) → i < count ns → Draws ns i (drawn ns i)
-  node-drawn i w = part-drawn i (part-of ns fine i w)
+  pub node-drawn : (i : ℕ) → i < count ns → Draws leaves ns i (drawn leaves ns i)
+  node-drawn i w = part-drawn i (part-of leaves ns fine i w)
 
-  pub node-only : (i : ℕ) (s : State) → Draws ns i s → s ≡ drawn ns i
-  node-only i s d = sym (drawn-is ns (fine-tree ns fine) d)
+  pub node-only : (i : ℕ) (s : State) → Draws leaves ns i s → s ≡ drawn leaves ns i
+  node-only i s d = sym (drawn-is leaves ns (fine-tree ns fine) d)
 
   -- of its sort
-  pub node-standard : (i : ℕ) → i < count ns → is-standard (node ns i) ≡ true → (p : Std) × (drawn ns i ≡ std p)
-  node-standard i w e = by (subst (Drawing ns i) e (part-of ns fine i w))
+  pub node-standard : (i : ℕ) → i < count ns → is-standard (node ns i) ≡ true → (p : Std) × (drawn leaves ns i ≡ std p)
+  node-standard i w e = by (subst (Drawing leaves ns i) e (part-of leaves ns fine i w))
     where
-      by : Drawing ns i true → (p : Std) × (drawn ns i ≡ std p)
-      by (standard-part p d) = (p, drawn-is ns (fine-tree ns fine) d)
+      by : Drawing leaves ns i true → (p : Std) × (drawn leaves ns i ≡ std p)
+      by (standard-part p d) = (p, drawn-is leaves ns (fine-tree ns fine) d)
 
-  pub node-compensable : (i : ℕ) → i < count ns → is-standard (node ns i) ≡ false → (pp : Cmp) × (drawn ns i ≡ cmp pp)
-  node-compensable i w e = by (subst (Drawing ns i) e (part-of ns fine i w))
+  pub node-compensable : (i : ℕ) → i < count ns → is-standard (node ns i) ≡ false → (pp : Cmp) × (drawn leaves ns i ≡ cmp pp)
+  node-compensable i w e = by (subst (Drawing leaves ns i) e (part-of leaves ns fine i w))
     where
-      by : Drawing ns i false → (pp : Cmp) × (drawn ns i ≡ cmp pp)
-      by (compensable-part pp d) = (pp, drawn-is ns (fine-tree ns fine) d)
+      by : Drawing leaves ns i false → (pp : Cmp) × (drawn leaves ns i ≡ cmp pp)
+      by (compensable-part pp d) = (pp, drawn-is leaves ns (fine-tree ns fine) d)
 
   root-within : root ns < count ns
   root-within = omega (arith, fine .some)
 
   -- of the root
-  pub flow-standard : is-standard (node ns (root ns)) ≡ true → (p : Std) × (flow-of ns ≡ std p)
-  unfolding flow-of
+  pub flow-standard : is-standard (node ns (root ns)) ≡ true → (p : Std) × (flow-by leaves ns ≡ std p)
+  unfolding flow-by
   flow-standard e = node-standard (root ns) root-within e
 
-  pub flow-compensable : is-standard (node ns (root ns)) ≡ false → (pp : Cmp) × (flow-of ns ≡ cmp pp)
-  unfolding flow-of
+  pub flow-compensable : is-standard (node ns (root ns)) ≡ false → (pp : Cmp) × (flow-by leaves ns ≡ cmp pp)
+  unfolding flow-by
   flow-compensable e = node-compensable (root ns) root-within e
 
-pub flow-drawn : (ns : List ℕ) → table-check ns ≡ Fine → Draws ns (root ns) (flow-of ns)
-unfolding flow-of
-flow-drawn ns e = node-drawn ns (fine-table ns e) (root ns) (root-within ns (fine-table ns e))
+pub flow-drawn : (leaves : ℕ → Leaf) (ns : List ℕ) → table-check ns ≡ Fine → Draws leaves ns (root ns) (flow-by leaves ns)
+unfolding flow-by
+flow-drawn leaves ns e = node-drawn leaves ns (fine-table ns e) (root ns) (root-within leaves ns (fine-table ns e))
 
-pub flow-only : (ns : List ℕ) → table-check ns ≡ Fine → (s : State) → Draws ns (root ns) s → s ≡ flow-of ns
-unfolding flow-of
-flow-only ns e s d = node-only ns (fine-table ns e) (root ns) s d
+pub flow-only : (leaves : ℕ → Leaf) (ns : List ℕ) → table-check ns ≡ Fine → (s : State) → Draws leaves ns (root ns) s → s ≡ flow-by leaves ns
+unfolding flow-by
+flow-only leaves ns e s d = node-only leaves ns (fine-table ns e) (root ns) s d

@@ -7,7 +7,7 @@ use mathlib.Core.List.{List, [], _∷_}
 use lib.Dec.{T, eqb}
 use lib.ListN.{length, getD}
 use borrow.Author.Tests.{ltb-false, not-false}
-use Rattle.calculus.specs.Term.{Closing, done, withdrawn, failed}
+use Rattle.calculus.specs.Term.{Leaf, Closing, done, withdrawn, failed}
 use Rattle.calculus.specs.Records.{Record, event, close, State, Closed, last, ClosedTwice, turn, Fits}
 use Rattle.flow.specs.declared.Check.the-variants.{Fine}
 use Rattle.flow.specs.Kinds.{node, is-standard}
@@ -17,7 +17,7 @@ use Rattle.flow.specs.Checks.{table-check, records-check}
 use Rattle.flow.specs.Earliest.{None, Nowhere, end, not-lone, not-sweep}
 use Rattle.flow.specs.Tests.{is-false}
 use Rattle.flow.specs.FirstRefusal.{fine-nowhere}
-use Rattle.flow.specs.Drawn.{flow-of}
+use Rattle.flow.specs.Drawn.{flow-by}
 use Rattle.flow.specs.FineTable.{fine-table}
 use Rattle.flow.specs.OneFlow.{flow-standard, flow-compensable}
 pub use Rattle.flow.specs.Fine.{FineRecords}
@@ -85,14 +85,14 @@ module _ (ns rs : List ℕ) where
       }
 
   -- 13 leaves the closings that the root needs
-  pub records-fit : table-check ns ≡ Fine → records-check ns rs ≡ Fine → Fits (flow-of ns) (records rs)
+  pub records-fit : (leaves : ℕ → Leaf) → table-check ns ≡ Fine → records-check ns rs ≡ Fine → Fits (flow-by leaves ns) (records rs)
   unfolding closings-wanted
-  records-fit e f = by (is-standard (node ns (root ns))) refl (fine-records f .closings)
+  records-fit leaves e f = by (is-standard (node ns (root ns))) refl (fine-records f .closings)
     where
-      by : (b : Bool) → is-standard (node ns (root ns)) ≡ b → closed rs (closings-wanted ns) ≡ true → Fits (flow-of ns) (records rs)
+      by : (b : Bool) → is-standard (node ns (root ns)) ≡ b → closed rs (closings-wanted ns) ≡ true → Fits (flow-by leaves ns) (records rs)
       by true h c =
-          let p = flow-standard ns (fine-table ns e) h in
+          let p = flow-standard leaves ns (fine-table ns e) h in
           subst (λ (s : State). Fits s (records rs)) (sym (p .1)) (closed-once rs (ap (λ (b : Bool). closed rs (cond b 1 2)) (sym h) ∙ c))
       by false h c =
-          let p = flow-compensable ns (fine-table ns e) h in
+          let p = flow-compensable leaves ns (fine-table ns e) h in
           subst (λ (s : State). Fits s (records rs)) (sym (p .1)) (closed-twice rs (ap (λ (b : Bool). closed rs (cond b 1 2)) (sym h) ∙ c))

@@ -1,6 +1,7 @@
 -- Definitions, in the order a reader needs them.
 pub mod Format
 pub mod Limits
+pub mod Matching
 pub mod Contents
 pub mod Told
 pub mod NameFaults
