@@ -5,15 +5,15 @@ use mathlib.Core.Path.{_≡_, refl, sym, _∙_, ap, subst}
 use mathlib.Core.Bool.{Bool, true, false, _&&_}
 use mathlib.Core.List.{List}
 use native.Mathlib.Omega.{arith}
-use lib.Dec.{T, eqb}
+use lib.Dec.{T}
 use Rattle.calculus.specs.Members.{and-in}
-use Rattle.calculus.specs.Term.{leaf}
 use Rattle.flow.specs.declared.Simple.{Simple}
 use Rattle.flow.specs.declared.Operator.{Operator}
 use Rattle.flow.specs.declared.Two.{Two}
 use Rattle.flow.specs.Kinds.{node, shape}
 use Rattle.flow.specs.Trees.{self, up}
 use Rattle.flow.specs.Nodes.{under-le}
+use Rattle.flow.specs.Cues.{takes-cue, cued}
 use Rattle.tallies.specs.declared.View.{View}
 use Rattle.tallies.specs.declared.Word.{Word}
 use Rattle.tallies.specs.Formulas.{skipV, evV, hndV, blkV, pairW, heldW}
@@ -74,10 +74,10 @@ module _ {ns t : List ℕ} {i : ℕ} (spot : Spot ns t i) (a : ℕ) where
     abbrev right-both : List ℕ → Two → Bool
     right-both c x = noted-at s₀ c (x .first) .std v && noted-at s₀ c (x .second) .std v
 
-    pub event-counted : {n : ℕ} → stand v (node ns j) (modes t j) ≡ standing.Event n → {c c′ : List ℕ} {y w : View} → y ≡ evV (eqb a n) → (w ≡ y) × Sets c i (y .moves) c′ → Counted s₀ (Plain z) i c c′ w
+    pub event-counted : {n : ℕ} → stand v (node ns j) (modes t j) ≡ standing.Event n → {c c′ : List ℕ} {y w : View} → y ≡ evV (takes-cue a n) → (w ≡ y) × Sets c i (y .moves) c′ → Counted s₀ (Plain z) i c c′ w
     unfolding std-of std-right
     event-counted {n} e {c} {c′} {y} {w} ey d =
-        none-noted s₀ spot (Plain z) true tt (d .0 ∙ ey ∙ sym (ap (view a) (is-part e) ∙ view-ev a (leaf n))) (is-right e c′) (answered (Plain z) y w d)
+        none-noted s₀ spot (Plain z) true tt (d .0 ∙ ey ∙ sym (ap (view a) (is-part e) ∙ view-ev a (cued n))) (is-right e c′) (answered (Plain z) y w d)
 
     pub basic-counted : {b : Simple} → stand v (node ns j) (modes t j) ≡ standing.Basic b → {c c′ : List ℕ} {y w : View} → y ≡ simpleV b → (w ≡ y) × Sets c i (y .moves) c′ → Counted s₀ (Plain z) i c c′ w
     unfolding std-of std-right

@@ -1,4 +1,4 @@
-// The counting pass over a state: what each live part can do by the next record's event, from its live parts. A node's number of
+// The counting pass over a state: what each live part can do by the next record's cue, from its live parts. A node's number of
 // steps is left in the table of counts for the steps to be found by; only nodes that are live in the state are visited.
 // Standard and compensable nodes call each other, and child numbers fall.
 use flow::Operator;
@@ -11,6 +11,8 @@ use tallies::Word;
 ghost use mathlib.Core.Path.{_≡_};
 ghost use Prim.Native.Nat.{_<_};
 ghost use lib.ListN.{length};
+ghost use Rattle.flow.specs.Cues.{takes-cue};
+ghost use Rattle.tallies.specs.Formulas.{evV};
 ghost use Rattle.states.specs.declared.Role.the-variants.{Plain, Running};
 ghost use Rattle.states.specs.Contracts.{Spot, Sets, scene, Counted};
 ghost use Rattle.counting.specs.Wholes.{simpleV, operatorV, simpleW, operatorW};
@@ -40,6 +42,20 @@ fn note_word(c: &mut [u32; 64], i: usize, v: Word) -> Word
 {
     put(c, i, v.moves);
     v
+}
+
+// Whether a leaf of this event takes the record of the cue: it is the record's own event, or the other one.
+fn takes(cue: u32, event: u16) -> bool
+    ensures { λ r. ⌜ r ≡ takes-cue cue event ⌝ }
+{
+    let e = event as u32;
+    (cue % 65536 == e) | (cue / 65536 == e)
+}
+
+fn event_view(cue: u32, event: u16) -> View
+    ensures { λ r. ⌜ r ≡ evV (takes-cue cue event) ⌝ }
+{
+    tallies::event_view(takes(cue, event))
 }
 
 fn basic_view(simple: Simple) -> View
@@ -83,7 +99,7 @@ pub fn both_word(operator: Operator, p: Word, q: Word) -> Word
 }
 
 // What node i can do as a standard part. A part that is live in place of another is counted where it stands, without a call.
-pub fn count_std(ns: &[u16], t: &[u8], a: u16, c: &mut [u32; 64], i: usize, sense: Sense) -> View
+pub fn count_std(ns: &[u16], t: &[u8], a: u32, c: &mut [u32; 64], i: usize, sense: Sense) -> View
     requires { ⌜ Spot (now ns) (now t) i ⌝ }
     ensures { λ r. ⌜ Counted (scene (now (ns .entry)) (now (t .entry)) a) (Plain sense) i (now (c .entry)) (now (c .exit)) r ⌝ }
 {
@@ -92,7 +108,7 @@ pub fn count_std(ns: &[u16], t: &[u8], a: u16, c: &mut [u32; 64], i: usize, sens
     loop {
         let stands = states::stand_at(ns, t, here, live);
         match stands {
-            Standing::Event(event) => return note(c, i, tallies::event_view(a == event)),
+            Standing::Event(event) => return note(c, i, event_view(a, event)),
             Standing::Basic(simple) => return note(c, i, basic_view(simple)),
             Standing::Both(operator, two) => {
                 let p = count_std(ns, t, a, c, two.first, live);
@@ -117,7 +133,7 @@ pub fn count_std(ns: &[u16], t: &[u8], a: u16, c: &mut [u32; 64], i: usize, sens
 }
 
 // What node i can do as a part that runs.
-pub fn count_run(ns: &[u16], t: &[u8], a: u16, c: &mut [u32; 64], i: usize) -> Word
+pub fn count_run(ns: &[u16], t: &[u8], a: u32, c: &mut [u32; 64], i: usize) -> Word
     requires { ⌜ Spot (now ns) (now t) i ⌝ }
     ensures { λ r. ⌜ Counted (scene (now (ns .entry)) (now (t .entry)) a) Running i (now (c .entry)) (now (c .exit)) r ⌝ }
 {

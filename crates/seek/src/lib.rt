@@ -1,6 +1,6 @@
 // A running part ends by a closing and becomes one of its compensations: the one on which a number falls when each compensation
 // has a weight. The modes in t are those of the state before, and become those of the state after; the answer says how far into
-// the compensation the number falls, how many steps it has by the event and whether it can end done. A compensation without
+// the compensation the number falls, how many steps it has by the cue and whether it can end done. A compensation without
 // weight is passed over without being looked at, however many there are. What is known of the parts that run is counted once, into
 // a table, and read from there: a choice looks at each part a few times.
 use flow::Operator;
@@ -64,7 +64,7 @@ fn keep(d: &mut [u32; 576], i: usize, x: Word) -> Word
 }
 
 // The running part of node i is counted, and what is known of it and of each part that runs in it is kept.
-pub fn weigh(ns: &[u16], t: &[u8], a: u16, d: &mut [u32; 576], i: usize) -> Word
+pub fn weigh(ns: &[u16], t: &[u8], a: u32, d: &mut [u32; 576], i: usize) -> Word
     requires { ⌜ Spot (now ns) (now t) i ⌝ }
     ensures { λ r. ⌜ r ≡ word a (runs (now (ns .entry)) (now (t .entry)) i) ⌝ }
     ensures weighed { λ _. ⌜ Weighed (scene (now (ns .entry)) (now (t .entry)) a) (now (d .exit)) i ⌝ }
@@ -282,7 +282,7 @@ struct Query {
 }
 
 // With nothing known yet.
-pub fn seek(ns: &[u16], t: &mut [u8], a: u16, i: usize, w: u8, g: Weight, j: u32) -> Picked
+pub fn seek(ns: &[u16], t: &mut [u8], a: u32, i: usize, w: u8, g: Weight, j: u32) -> Picked
     requires { ⌜ Spot (now ns) (now t) i ⌝ }
     requires { ⌜ (w < 3) × (j < weight-of (scene (now ns) (now t) a) i (closing w) g) ⌝ }
     ensures { λ r. ⌜ Chosen (scene (now (ns .entry)) (now (t .entry)) a) i (ask (closing w) g j) (now (t .exit)) r ⌝ }
@@ -295,7 +295,7 @@ pub fn seek(ns: &[u16], t: &mut [u8], a: u16, i: usize, w: u8, g: Weight, j: u32
 pub fn choose(
     ns: &[u16],
     t: &mut [u8],
-    a: u16,
+    a: u32,
     d: &[u32],
     i: usize,
     w: u8,
@@ -336,7 +336,7 @@ pub fn choose(
 fn choose_fresh(
     ns: &[u16],
     t: &mut [u8],
-    a: u16,
+    a: u32,
     i: usize,
     operator: Operator,
     two: Two,
@@ -353,7 +353,7 @@ fn choose_fresh(
 fn choose_both(
     ns: &[u16],
     t: &mut [u8],
-    a: u16,
+    a: u32,
     d: &[u32],
     i: usize,
     operator: Operator,
@@ -372,7 +372,7 @@ fn choose_both(
 }
 
 // P÷Q has one compensation by each closing. P is passed, by all of them.
-fn seek_pair(ns: &[u16], t: &mut [u8], a: u16, i: usize, two: Two, w: u8, j: u32) -> Picked
+fn seek_pair(ns: &[u16], t: &mut [u8], a: u32, i: usize, two: Two, w: u8, j: u32) -> Picked
     requires { ⌜ Spot (now ns) (now t) i ⌝ }
     requires { ⌜ course-at (now ns) (now t) i ≡ Pair two ⌝ }
     ensures { λ r. ⌜ PairChosen (scene (now (ns .entry)) (now (t .entry)) a) i (closing w) j (now (t .exit)) r ⌝ }
@@ -400,7 +400,7 @@ fn seek_pair(ns: &[u16], t: &mut [u8], a: u16, i: usize, two: Two, w: u8, j: u32
 fn seek_marked(
     ns: &[u16],
     t: &mut [u8],
-    a: u16,
+    a: u32,
     d: &[u32],
     i: usize,
     m: u8,
@@ -419,7 +419,7 @@ fn seek_marked(
 fn seek_second(
     ns: &[u16],
     t: &mut [u8],
-    a: u16,
+    a: u32,
     d: &[u32],
     i: usize,
     two: Two,
@@ -445,7 +445,7 @@ fn seek_second(
     }
 }
 
-fn seek_held(ns: &[u16], t: &mut [u8], a: u16, d: &[u32], i: usize, two: Two, q: Query) -> Picked
+fn seek_held(ns: &[u16], t: &mut [u8], a: u32, d: &[u32], i: usize, two: Two, q: Query) -> Picked
     requires { ⌜ Wanted (scene (now ns) (now t) a) i (Held two) (q .closing) (q .weight) (q .number) ⌝ }
     requires { ⌜ MayKnow (scene (now ns) (now t) a) (now d) i ⌝ }
     ensures { λ r. ⌜ Chosen (scene (now (ns .entry)) (now (t .entry)) a) i (asked q) (now (t .exit)) r ⌝ }
@@ -461,7 +461,7 @@ fn seek_held(ns: &[u16], t: &mut [u8], a: u16, d: &[u32], i: usize, two: Two, q:
 }
 
 // PP closes by w, or it ends done and QQ closes by w.
-fn seek_running(ns: &[u16], t: &mut [u8], a: u16, d: &[u32], i: usize, two: Two, q: Query) -> Picked
+fn seek_running(ns: &[u16], t: &mut [u8], a: u32, d: &[u32], i: usize, two: Two, q: Query) -> Picked
     requires { ⌜ Wanted (scene (now ns) (now t) a) i (Both Sequence two) (q .closing) (q .weight) (q .number) ⌝ }
     requires { ⌜ Weighed (scene (now ns) (now t) a) (now d) i ⌝ }
     ensures { λ r. ⌜ Chosen (scene (now (ns .entry)) (now (t .entry)) a) i (asked q) (now (t .exit)) r ⌝ }
@@ -484,7 +484,7 @@ fn seek_running(ns: &[u16], t: &mut [u8], a: u16, d: &[u32], i: usize, two: Two,
     seek_second(ns, t, a, d, i, two, q.closing, q.weight, k)
 }
 
-fn seek_choice(ns: &[u16], t: &mut [u8], a: u16, d: &[u32], i: usize, two: Two, q: Query) -> Picked
+fn seek_choice(ns: &[u16], t: &mut [u8], a: u32, d: &[u32], i: usize, two: Two, q: Query) -> Picked
     requires { ⌜ Wanted (scene (now ns) (now t) a) i (Both Choice two) (q .closing) (q .weight) (q .number) ⌝ }
     requires { ⌜ Weighed (scene (now ns) (now t) a) (now d) i ⌝ }
     ensures { λ r. ⌜ Chosen (scene (now (ns .entry)) (now (t .entry)) a) i (asked q) (now (t .exit)) r ⌝ }
@@ -505,7 +505,7 @@ fn seek_choice(ns: &[u16], t: &mut [u8], a: u16, d: &[u32], i: usize, two: Two, 
 fn seek_parallel(
     ns: &[u16],
     t: &mut [u8],
-    a: u16,
+    a: u32,
     d: &[u32],
     i: usize,
     two: Two,

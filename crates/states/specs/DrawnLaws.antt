@@ -9,6 +9,7 @@ use Rattle.flow.specs.declared.Operator.the-variants.{Sequence, Choice, Paralle
 use Rattle.flow.specs.declared.Two.{Two}
 use Rattle.flow.specs.declared.Node.{Node}
 use Rattle.flow.specs.Trees.{Tree}
+use Rattle.flow.specs.Cues.{cued}
 use Rattle.flow.specs.Kinds.{node, shape, standard, compensable}
 use Rattle.flow.specs.Draws.{Draws, at-event, at-basic, at-standard, at-handler, at-block, at-pair, at-compensable, at-paired}
 use Rattle.states.specs.declared.Sense.the-variants.{Drawn}
@@ -49,7 +50,7 @@ module _ (ns : List ℕ) (tree : Tree (shape ns)) where
   running-at : {n : Node} (i : ℕ) → node ns i ≡ n → at i .run ≡ run-of (course-of n as-drawn) at
   running-at i e = run-part ns tree none-done i ∙ ap (λ n. run-of (course-of n as-drawn) at) e
 
-  pub drawn-means : {i : ℕ} {s : State} → Draws ns i s → Means s (at i)
+  pub drawn-means : {i : ℕ} {s : State} → Draws cued ns i s → Means s (at i)
   unfolding stand stand-drawn course-of std-of run-of
   drawn-means (at-event {i} e) = standard-at i e
   drawn-means (at-basic {i} e) = standard-at i e

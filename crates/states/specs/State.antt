@@ -4,9 +4,10 @@
 use Prim.Native.Nat.{ℕ}
 use mathlib.Core.List.{List}
 use lib.ListN.{getD}
-use Rattle.calculus.specs.Term.{leaf, Std, Cmp, skip, ev, hnd, blk, pair, held, skipp}
+use Rattle.calculus.specs.Term.{Std, Cmp, skip, ev, hnd, blk, pair, held, skipp}
 use Rattle.flow.specs.declared.Node.{Node}
 use Rattle.flow.specs.Trees.{descend}
+use Rattle.flow.specs.Cues.{cued}
 use Rattle.flow.specs.Kinds.{node, basic, paired, standard, compensable}
 use Rattle.states.specs.declared.Sense.{Sense}
 use Rattle.states.specs.declared.Sense.the-variants.{Drawn, Undoing}
@@ -26,7 +27,7 @@ nothing = record { std = λ s. skip; run = skipp }
 
 -- what the nodes stand for is `at`
 unfoldable pub std-of : Standing → Sense → (ℕ → Part) → Std
-std-of (standing.Event e) s at = ev (leaf e)
+std-of (standing.Event e) s at = ev (cued e)
 std-of (standing.Basic b) s at = basic b
 std-of (standing.Both o t) s at = standard o (at (t .first) .std s) (at (t .second) .std s)
 std-of (standing.Handler t) s at = hnd (at (t .first) .std s) (at (t .second) .std s)

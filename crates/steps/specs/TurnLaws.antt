@@ -7,7 +7,7 @@ use mathlib.Core.List.{List}
 use native.Mathlib.Omega.{arith}
 use lib.Dec.{T}
 use lib.ListN.{length, set}
-use Rattle.calculus.specs.Term.{leaf, Std, Cmp, done, failed, skip, throw, yield, seq, par, hnd, blk, pair, cseq, cpar, held}
+use Rattle.calculus.specs.Term.{Std, Cmp, done, failed, skip, throw, yield, seq, par, hnd, blk, pair, cseq, cpar, held}
 use Rattle.calculus.specs.Successors.{steps, csteps, comps}
 use Rattle.calculus.specs.Members.{and-left, and-right}
 use Rattle.flow.specs.declared.Simple.{Simple}
@@ -18,6 +18,7 @@ use Rattle.flow.specs.declared.Two.{Two}
 use Rattle.flow.specs.declared.Node.{Node}
 use Rattle.flow.specs.Kinds.{node, shape, basic, paired, standard, compensable}
 use Rattle.flow.specs.Shapes.{Kid}
+use Rattle.flow.specs.Cues.{cued}
 use Rattle.tallies.specs.Capped.{cap}
 use Rattle.tallies.specs.Formulas.{movesG, holdG}
 use Rattle.tallies.specs.Counts.{sum-of, moves, weight}
@@ -517,7 +518,7 @@ module _ {s : Scene} {c : List ℕ} {i k : ℕ} where
   event-stepped {v} h {x} e {t′} d =
       let w : Sets (s .t) i event-taken t′ = set-sets (h .spot .room) d in
       record {
-        goes = step-goes h e t′ (ap (stand v (node (s .ns) i)) (w .here) ∙ subst (After v (node (s .ns) i)) e (stand-after v (node (s .ns) i) (modes (s .t) i))) (at-ev (leaf x) (s .a) (step-room h e));
+        goes = step-goes h e t′ (ap (stand v (node (s .ns) i)) (w .here) ∙ subst (After v (node (s .ns) i)) e (stand-after v (node (s .ns) i) (modes (s .t) i))) (at-ev (cued x) (s .a) (step-room h e));
         kept = kept-set (s .ns) w;
         makes = takes refl e w;
       }

@@ -1,4 +1,4 @@
-// The k-th step of a part by the event: the modes in t are those of the state before, and become those of its k-th successor. A
+// The k-th step of a part by the cue: the modes in t are those of the state before, and become those of its k-th successor. A
 // step is found by the counts that the counting pass left. A node hands its step down to a live part, at a place among that part's
 // steps; standard and compensable nodes call each other, and child numbers fall.
 use flow::Operator;
@@ -115,7 +115,7 @@ fn pass(ns: &[u16], t: &mut [u8], operator: Operator, first: usize)
 }
 
 // PP;QQ has gone on: a compensation of PP's done ending is chosen and held, and QQ makes the step, at the place answered.
-fn hold(ns: &[u16], t: &mut [u8], a: u16, c: &[u32; 64], two: Two, j: u32) -> Picked
+fn hold(ns: &[u16], t: &mut [u8], a: u32, c: &[u32; 64], two: Two, j: u32) -> Picked
     requires { ⌜ Spot (now ns) (now t) (two .first) ⌝ }
     requires { ⌜ two .second < 64 ⌝ }
     requires { ⌜ j < weight-of (scene (now ns) (now t) a) (two .first) done (holdG (counts (now c) (two .second))) ⌝ }
@@ -134,7 +134,7 @@ fn hold(ns: &[u16], t: &mut [u8], a: u16, c: &[u32; 64], two: Two, j: u32) -> Pi
 fn turn_run(
     ns: &[u16],
     t: &mut [u8],
-    a: u16,
+    a: u32,
     c: &[u32; 64],
     i: usize,
     operator: Operator,
@@ -169,7 +169,7 @@ fn turn_run(
 fn turn_out(
     ns: &[u16],
     t: &mut [u8],
-    a: u16,
+    a: u32,
     c: &[u32; 64],
     d: &mut [u32; 64],
     i: usize,
@@ -194,7 +194,7 @@ fn turn_out(
 }
 
 // The k-th step of a standard part. It is handed down in a loop, which costs half of what a call for each level does.
-pub fn step_std(ns: &[u16], t: &mut [u8], a: u16, c: &[u32; 64], i: usize, sense: Sense, k: u32)
+pub fn step_std(ns: &[u16], t: &mut [u8], a: u32, c: &[u32; 64], i: usize, sense: Sense, k: u32)
     requires { ⌜ Ready (scene (now ns) (now t) a) (Plain sense) (now c) i k ⌝ }
     ensures { λ r. ⌜ Stepped (scene (now (ns .entry)) (now (t .entry)) a) (Plain sense) i k (now (t .exit)) ⌝ }
 {
@@ -232,7 +232,7 @@ pub fn step_std(ns: &[u16], t: &mut [u8], a: u16, c: &[u32; 64], i: usize, sense
 }
 
 // Of a block: inside, or out of it by a compensation.
-fn step_block(ns: &[u16], t: &mut [u8], a: u16, c: &[u32; 64], i: usize, child: usize, k: u32)
+fn step_block(ns: &[u16], t: &mut [u8], a: u32, c: &[u32; 64], i: usize, child: usize, k: u32)
     requires { ⌜ Ready (scene (now ns) (now t) a) (Plain Drawn) (now c) i k ⌝ }
     requires { ⌜ stand-in (scene (now ns) (now t) a) Drawn i ≡ standing.Block child ⌝ }
     ensures { λ r. ⌜ Stepped (scene (now (ns .entry)) (now (t .entry)) a) (Plain Drawn) i k (now (t .exit)) ⌝ }
@@ -247,7 +247,7 @@ fn step_block(ns: &[u16], t: &mut [u8], a: u16, c: &[u32; 64], i: usize, child: 
 }
 
 // The k-th step of a compensable part that runs.
-pub fn step_run(ns: &[u16], t: &mut [u8], a: u16, c: &[u32; 64], i: usize, k: u32)
+pub fn step_run(ns: &[u16], t: &mut [u8], a: u32, c: &[u32; 64], i: usize, k: u32)
     requires { ⌜ Ready (scene (now ns) (now t) a) Running (now c) i k ⌝ }
     ensures { λ r. ⌜ Stepped (scene (now (ns .entry)) (now (t .entry)) a) Running i k (now (t .exit)) ⌝ }
 {

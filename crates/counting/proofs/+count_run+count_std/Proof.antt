@@ -23,12 +23,12 @@ use Rattle.counting.proofs.basic_view.Reads as basic-view-reads
 use Rattle.counting.proofs.basic_word.Reads as basic-word-reads
 use Rattle.counting.proofs.both_view.Reads as both-view-reads
 use Rattle.counting.proofs.both_word.Reads as both-word-reads
+use Rattle.counting.proofs.event_view.Reads as event-view-reads
 use Rattle.counting.proofs.note.Reads as note-reads
 use Rattle.counting.proofs.note_word.Reads as note-word-reads
 use Rattle.states.proofs.course_at.Reads as course-at-reads
 use Rattle.states.proofs.stand_at.Reads as stand-at-reads
 use Rattle.tallies.proofs.block_view.Reads as block-view-reads
-use Rattle.tallies.proofs.event_view.Reads as event-view-reads
 use Rattle.tallies.proofs.handler_view.Reads as handler-view-reads
 use Rattle.tallies.proofs.held_word.Reads as held-word-reads
 use Rattle.tallies.proofs.pair_word.Reads as pair-word-reads
