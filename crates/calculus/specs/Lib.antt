@@ -9,6 +9,7 @@ pub mod Laws
 pub mod Entered
 pub mod Spending
 pub mod Alike
+pub mod Choices
 -- Theorems.
 pub mod Equations
 pub mod Members
@@ -22,3 +23,4 @@ pub mod Redrawn
 pub mod Budget
 pub mod JudgedByHand
 pub mod RuledOut
+pub mod LeafChoice
