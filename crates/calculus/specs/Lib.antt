@@ -10,6 +10,8 @@ pub mod Entered
 pub mod Spending
 pub mod Alike
 pub mod Choices
+-- Definitions that need not be believed.
+pub mod Renames
 -- Theorems.
 pub mod Equations
 pub mod Members
@@ -24,3 +26,4 @@ pub mod Budget
 pub mod JudgedByHand
 pub mod RuledOut
 pub mod LeafChoice
+pub mod Renamed
