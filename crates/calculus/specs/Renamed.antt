@@ -12,7 +12,7 @@ use Rattle.calculus.specs.Successors.{Beh, eqc, closings, only, some-of,
 use Rattle.calculus.specs.Records.{Record, event, close, State, std, cmp, Closed, last, ClosedTwice, turn, Fits}
 use Rattle.calculus.specs.Search.{next, Seen, is-over, or-else, tries, visit, settle, judge}
 use Rattle.calculus.specs.Equations.{beh}
-use Rattle.calculus.specs.Renames.{renamed, HeardIn, none, heard, passed, Renames, CRenames, RenamesState, of-skip, of-throw, of-yield, of-leaf, of-seq, of-alt, of-par, of-hnd, of-blk, of-pair, of-cseq, of-calt, of-cpar, of-held, of-over, of-std, of-cmp}
+use Rattle.calculus.specs.Renames.{renamed, HeardIn, none, and-event, and-close, Renames, CRenames, RenamesState, of-skip, of-throw, of-yield, of-leaf, of-seq, of-alt, of-par, of-hnd, of-blk, of-pair, of-cseq, of-calt, of-cpar, of-held, of-over, of-std, of-cmp}
 
 -- Lists that are alike element for element ----------------------------------------------------------------------------------
 
@@ -225,8 +225,8 @@ module _ (f : ℕ → ℕ) (Heard : ℕ → Type 0) where
   pub visit-renamed : {s t : State} {rs : List Record} → RenamesState f Heard s t → HeardIn Heard rs → visit rs t ≡ visit (map (renamed f) rs) s
   unfolding visit
   visit-renamed h none = ap (λ b. record { found = b; reached = 0; entered = 1 }) (over-as h)
-  visit-renamed h (heard {a} {rs} u k) = ap one-more (both-tries (λ s. visit (map (renamed f) rs) s) (λ t. visit rs t) (λ s t j. visit-renamed j k) (next-event h a u))
-  visit-renamed h (passed {w} {rs} k) = ap one-more (both-tries (λ s. visit (map (renamed f) rs) s) (λ t. visit rs t) (λ s t j. visit-renamed j k) (next-close h w))
+  visit-renamed h (and-event {a} {rs} u k) = ap one-more (both-tries (λ s. visit (map (renamed f) rs) s) (λ t. visit rs t) (λ s t j. visit-renamed j k) (next-event h a u))
+  visit-renamed h (and-close {w} {rs} k) = ap one-more (both-tries (λ s. visit (map (renamed f) rs) s) (λ t. visit rs t) (λ s t j. visit-renamed j k) (next-close h w))
 
   pub judge-renamed : {s t : State} {rs : List Record} → RenamesState f Heard s t → HeardIn Heard rs → (allowance : ℕ) → judge t rs allowance ≡ judge s (map (renamed f) rs) allowance
   unfolding judge

@@ -17,8 +17,8 @@ renamed f (close w) = close w
 module _ (Heard : ℕ → Type 0) where
   pub data HeardIn : List Record → Type 0 where
     none : HeardIn []
-    heard : {a : ℕ} {rs : List Record} → Heard a → HeardIn rs → HeardIn (event a ∷ rs)
-    passed : {w : Closing} {rs : List Record} → HeardIn rs → HeardIn (close w ∷ rs)
+    and-event : {a : ℕ} {rs : List Record} → Heard a → HeardIn rs → HeardIn (event a ∷ rs)
+    and-close : {w : Closing} {rs : List Record} → HeardIn rs → HeardIn (close w ∷ rs)
 
 module _ (f : ℕ → ℕ) (Heard : ℕ → Type 0) where
   mutual
