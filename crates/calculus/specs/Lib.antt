@@ -9,6 +9,9 @@ pub mod Laws
 pub mod Entered
 pub mod Spending
 pub mod Alike
+pub mod Choices
+-- Definitions that need not be believed.
+pub mod Renames
 -- Theorems.
 pub mod Equations
 pub mod Members
@@ -22,3 +25,5 @@ pub mod Redrawn
 pub mod Budget
 pub mod JudgedByHand
 pub mod RuledOut
+pub mod LeafChoice
+pub mod Renamed

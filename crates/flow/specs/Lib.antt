@@ -23,3 +23,4 @@ pub mod Closings
 pub mod FineTable
 pub mod OneFlow
 pub mod RecordsFit
+pub mod CuedFlows

@@ -1,0 +1,231 @@
+-- A flow drawn with `cued` leaves and searched by cues is searched as the flow drawn with the leaves that are meant, by the records
+-- themselves: the verdict is the same (`cued-judge`), and where the closings are as the root needs in the records, they are so in the cues
+-- (`cued-fits`). No cue of a record is above that of the last closing (`cues-low`). Before that: what a cue is read as, that the cues of
+-- records are the records renamed, and that a table that is not refused is drawn alike with any two kinds of leaves (`flows-renamed`).
+-- Assumes nothing.
+use Prim.Native.Nat.{ℕ, zero, suc, _<_, _≤_, _/_, _%_}
+use mathlib.Core.Path.{_≡_, refl, sym, ap, ap₂, _∙_, subst}
+use mathlib.Core.Logic.{_⊎_, inl, inr}
+use mathlib.Core.Bool.{false, _||_}
+use mathlib.Core.List.{List, [], _∷_, map}
+use native.Mathlib.Omega.{arith}
+use lib.Dec.{T, eqb, leb, eqb→eq, leb→le}
+use lib.ListN.{length, getD}
+use borrow.Author.Tests.{not-false, le-leb, ne-eqb}
+use Rattle.calculus.specs.Term.{Leaf, Std, Cmp, blk}
+use Rattle.calculus.specs.Records.{Record, event, State, std, cmp, Fits}
+use Rattle.calculus.specs.Search.{judge}
+use Rattle.calculus.specs.Members.{or-cases, and-right}
+use Rattle.calculus.specs.Equations.{All, none, also}
+use Rattle.calculus.specs.Renames.{renamed, HeardIn, and-event, and-close, Renames, CRenames, RenamesState, of-skip, of-throw, of-yield, of-leaf, of-seq, of-alt, of-par, of-hnd, of-blk, of-pair, of-cseq, of-calt, of-cpar, of-std, of-cmp}
+use Rattle.calculus.specs.Renamed.{judge-renamed, fits-renamed}
+use Rattle.flow.specs.declared.Check.the-variants.{Fine}
+use Rattle.flow.specs.declared.Simple.{Simple}
+use Rattle.flow.specs.declared.Simple.the-variants.{Skip, Throw, Yield}
+use Rattle.flow.specs.declared.Operator.{Operator}
+use Rattle.flow.specs.declared.Operator.the-variants.{Sequence, Choice, Parallel}
+use Rattle.flow.specs.declared.Node.the-variants.{Event, Block}
+use Rattle.flow.specs.Shapes.{Kid}
+use Rattle.flow.specs.Kinds.{node, shape, basic, paired, standard, compensable}
+use Rattle.flow.specs.Records.{done-number, withdrawn-number, failed-number, most-events, is-event-number, is-closing-number, record-of, records}
+use Rattle.flow.specs.Refusals.{count, root, no-record}
+use Rattle.flow.specs.Checks.{table-check}
+use Rattle.flow.specs.Draws.{Draws, at-event, at-basic, at-standard, at-handler, at-block, at-pair, at-compensable, at-paired}
+use Rattle.flow.specs.Drawn.{flow-by}
+use Rattle.flow.specs.Cues.{cue, takes-cue, cued, done-cue, withdrawn-cue, failed-cue, cue-of, cue-record, cue-records}
+use Rattle.flow.specs.NodeChildren.{one-kid, two-kids}
+use Rattle.flow.specs.FineTable.{fine-table, kid-lower}
+use Rattle.flow.specs.OneFlow.{flow-drawn, flow-only}
+
+---- Record numbers and their cues ----
+
+-- What holds of the events and of each closing holds of every record's number.
+known-by : (P : ℕ → Type 0) → ((r : ℕ) → r ≤ most-events → P r) → P done-number → P withdrawn-number → P failed-number → (r : ℕ) → no-record r ≡ false → P r
+unfolding no-record is-event-number is-closing-number
+known-by P when-event when-done when-withdrawn when-failed r e = known (or-cases (is-event-number r) (is-closing-number r) (subst T (sym (not-false (is-event-number r || is-closing-number r) e)) tt))
+  where
+    is : (n : ℕ) → P n → T (eqb r n) → P r
+    is n p h = subst P (sym (eqb→eq r n h)) p
+
+    last-two : T (eqb r withdrawn-number) ⊎ T (eqb r failed-number) → P r
+    last-two (inl h) = is withdrawn-number when-withdrawn h
+    last-two (inr h) = is failed-number when-failed h
+
+    closing : T (eqb r done-number) ⊎ T (eqb r withdrawn-number || eqb r failed-number) → P r
+    closing (inl h) = is done-number when-done h
+    closing (inr h) = last-two (or-cases (eqb r withdrawn-number) (eqb r failed-number) h)
+
+    known : T (is-event-number r) ⊎ T (is-closing-number r) → P r
+    known (inl h) = when-event r (leb→le r most-events (and-right (leb 1 r) (leb r most-events) h))
+    known (inr h) = closing (or-cases (eqb r done-number) (eqb r withdrawn-number || eqb r failed-number) h)
+
+event-number : (r : ℕ) → r ≤ most-events → record-of r ≡ event r
+unfolding record-of
+event-number r h = rw (ne-eqb r done-number (λ e. omega arith), ne-eqb r withdrawn-number (λ e. omega arith), ne-eqb r failed-number (λ e. omega arith))
+
+-- both numbers of a cue are read back
+takes-cue-is : (a b e : ℕ) → a ≤ most-events → takes-cue (cue a b) e ≡ (eqb a e || eqb b e)
+unfolding takes-cue
+takes-cue-is a b e h =
+    let one : cue a b % 65536 ≡ a = omega arith in
+    let two : cue a b / 65536 ≡ b = omega arith in
+    ap₂ (λ x y. eqb x e || eqb y e) one two
+
+-- the cue of an event is none of the closings'
+event-cue : (a b : ℕ) → a ≤ most-events → b ≤ most-events → cue-record (cue a b) ≡ event (cue a b)
+unfolding cue-record
+event-cue a b h k = rw (ne-eqb (cue a b) done-cue (λ e. omega arith), ne-eqb (cue a b) withdrawn-cue (λ e. omega arith), ne-eqb (cue a b) failed-cue (λ e. omega arith))
+
+module _ (other : ℕ → ℕ) where
+  -- the cue of an event is its new number
+  abbrev event-as : ℕ → ℕ
+  event-as a = cue a (other a)
+
+  -- the other event of an event is one too
+  abbrev Low : ℕ → Type 0
+  Low r = r ≤ most-events → other r ≤ most-events
+
+  cue-of-event : (r : ℕ) → r ≤ most-events → cue-of other r ≡ event-as r
+  unfolding cue-of
+  cue-of-event r h = rw (le-leb r most-events h)
+
+  -- the record of the cue is the record renamed
+  cue-record-of : (r : ℕ) → no-record r ≡ false → Low r → cue-record (cue-of other r) ≡ renamed event-as (record-of r)
+  unfolding cue-record cue-of record-of
+  cue-record-of =
+      known-by (λ r. Low r → cue-record (cue-of other r) ≡ renamed event-as (record-of r))
+      (λ r h low. ap cue-record (cue-of-event r h) ∙ event-cue r (other r) h (low h) ∙ ap (renamed event-as) (sym (event-number r h)))
+      (λ low. refl) (λ low. refl) (λ low. refl)
+
+  cue-low : (r : ℕ) → no-record r ≡ false → Low r → cue-of other r ≤ failed-cue
+  unfolding cue-of
+  cue-low =
+      known-by (λ r. Low r → cue-of other r ≤ failed-cue)
+      (λ r h low. omega (arith, cue-of-event r h, low h))
+      (λ low. omega arith) (λ low. omega arith) (λ low. omega arith)
+
+-- an event that is heard, or a closing
+heard-record : (Heard : ℕ → Type 0) (rs : List Record) → HeardIn Heard rs → (r : ℕ) → no-record r ≡ false → (r ≤ most-events → Heard r) → HeardIn Heard (record-of r ∷ rs)
+unfolding record-of
+heard-record Heard rs k =
+    known-by (λ r. (r ≤ most-events → Heard r) → HeardIn Heard (record-of r ∷ rs))
+    (λ r h u. rw (event-number r h) (and-event (u h) k))
+    (λ u. and-close k) (λ u. and-close k) (λ u. and-close k)
+
+---- Record lists and their cues ----
+
+-- what holds at each place holds of all
+all-places : {P : ℕ → Type 0} (rs : List ℕ) → ((i : ℕ) → i < length rs → P (getD rs i 0)) → All P rs
+all-places [] h = none
+all-places (r ∷ rs) h = also (h 0 (omega arith)) (all-places rs (λ i l. h (suc i) (omega arith)))
+
+place-map : (f : ℕ → ℕ) (rs : List ℕ) (i : ℕ) → i < length rs → getD (map f rs) i 0 ≡ f (getD rs i 0)
+place-map f [] i h = absurd (omega arith)
+place-map f (r ∷ rs) zero h = refl
+place-map f (r ∷ rs) (suc i) h = place-map f rs i (omega arith)
+
+module _ (Heard : ℕ → Type 0) where
+  -- a record's number, heard if it is an event's
+  record Sound (r : ℕ) : Type 0 where
+    known : no-record r ≡ false
+    heard : r ≤ most-events → Heard r
+
+  all-heard : {rs : List ℕ} → All Sound rs → HeardIn Heard (records rs)
+  all-heard none = HeardIn.none
+  all-heard (also {x} {xs} s k) = heard-record Heard (records xs) (all-heard k) x (s .known) (s .heard)
+
+  module _ (other : ℕ → ℕ) (small : (a : ℕ) → Heard a → (a ≤ most-events) × (other a ≤ most-events)) where
+    sound-low : (r : ℕ) → Sound r → Low other r
+    sound-low r s h = small r (s .heard h) .1
+
+    cues-renamed : {rs : List ℕ} → All Sound rs → cue-records (map (cue-of other) rs) ≡ map (renamed (event-as other)) (records rs)
+    cues-renamed none = refl
+    cues-renamed (also {x} s k) = ap₂ _∷_ (cue-record-of other x (s .known) (sound-low x s)) (cues-renamed k)
+
+---- A table drawn with two kinds of leaves ----
+
+module _ (f : ℕ → ℕ) (Heard : ℕ → Type 0) where
+  basic-renames : (b : Simple) → Renames f Heard (basic b) (basic b)
+  basic-renames Skip = of-skip
+  basic-renames Throw = of-throw
+  basic-renames Yield = of-yield
+
+  paired-renames : (b : Simple) → CRenames f Heard (paired b) (paired b)
+  paired-renames Skip = of-pair of-skip of-skip
+  paired-renames Throw = of-pair of-throw of-skip
+  paired-renames Yield = of-pair of-yield of-skip
+
+  standard-renames : (o : Operator) {p q p′ q′ : Std} → Renames f Heard p p′ → Renames f Heard q q′ → Renames f Heard (standard o p q) (standard o p′ q′)
+  standard-renames Sequence h k = of-seq h k
+  standard-renames Choice h k = of-alt h k
+  standard-renames Parallel h k = of-par h k
+
+  compensable-renames : (o : Operator) {pp qq pp′ qq′ : Cmp} → CRenames f Heard pp pp′ → CRenames f Heard qq qq′ → CRenames f Heard (compensable o pp qq) (compensable o pp′ qq′)
+  compensable-renames Sequence h k = of-cseq h k
+  compensable-renames Choice h k = of-calt h k
+  compensable-renames Parallel h k = of-cpar h k
+
+module _ (f : ℕ → ℕ) (Heard : ℕ → Type 0) (meant : ℕ → Leaf) (ns : List ℕ) where
+  -- of a part that node i draws with some leaves: with those that are meant it draws a part that this renames
+  data Redraws (i : ℕ) : State → Type 0 where
+    as-std : {p q : Std} → Draws meant ns i (std q) → Renames f Heard p q → Redraws i (std p)
+    as-cmp : {pp qq : Cmp} → Draws meant ns i (cmp qq) → CRenames f Heard pp qq → Redraws i (cmp pp)
+
+  two-std : {c d i : ℕ} {s : State} {p q : Std} → ((p′ q′ : Std) → Draws meant ns c (std p′) → Draws meant ns d (std q′) → Renames f Heard p p′ → Renames f Heard q q′ → Redraws i s) → Redraws c (std p) → Redraws d (std q) → Redraws i s
+  two-std make (as-std x h) (as-std y k) = make _ _ x y h k
+
+  two-cmp : {c d i : ℕ} {s : State} {pp qq : Cmp} → ((pp′ qq′ : Cmp) → Draws meant ns c (cmp pp′) → Draws meant ns d (cmp qq′) → CRenames f Heard pp pp′ → CRenames f Heard qq qq′ → Redraws i s) → Redraws c (cmp pp) → Redraws d (cmp qq) → Redraws i s
+  two-cmp make (as-cmp x h) (as-cmp y k) = make _ _ x y h k
+
+  the-block : {c i : ℕ} {pp : Cmp} → node ns i ≡ Block c → Redraws c (cmp pp) → Redraws i (std (blk pp))
+  the-block n (as-cmp x h) = as-std (at-block n x) (of-blk h)
+
+  the-flow : {s : State} → table-check ns ≡ Fine → Redraws (root ns) s → RenamesState f Heard s (flow-by meant ns)
+  the-flow {s} fine (as-std d h) = subst (RenamesState f Heard s) (flow-only meant ns fine _ d) (of-std h)
+  the-flow {s} fine (as-cmp d h) = subst (RenamesState f Heard s) (flow-only meant ns fine _ d) (of-cmp h)
+
+module _ (f : ℕ → ℕ) (Heard : ℕ → Type 0) (asked meant : ℕ → Leaf) (ns : List ℕ) (passed : table-check ns ≡ Fine)
+    (right : (i e : ℕ) → i < count ns → node ns i ≡ Event e → (a : ℕ) → Heard a → meant e .takes a ≡ asked e .takes (f a)) where
+  -- a child is one of the table's
+  kid-within : {i c : ℕ} → i < count ns → Kid (shape ns) i c → c < count ns
+  kid-within {i} {c} w k = omega (arith, kid-lower ns (fine-table ns passed) i c k)
+
+  redraws : {i : ℕ} {s : State} → Draws asked ns i s → i < count ns → Redraws f Heard meant ns i s
+  redraws (at-event {i} {e} n) w = as-std (at-event n) (of-leaf (right i e w n))
+  redraws (at-basic {b} n) w = as-std (at-basic n) (basic-renames f Heard b)
+  redraws (at-standard {i} {o} {t} n d d′) w = let k = two-kids ns i n t refl in two-std f Heard meant ns (λ p q x y h j. as-std (at-standard n x y) (standard-renames f Heard o h j)) (redraws d (kid-within w (k .0))) (redraws d′ (kid-within w (k .1)))
+  redraws (at-handler {i} {t} n d d′) w = let k = two-kids ns i n t refl in two-std f Heard meant ns (λ p q x y h j. as-std (at-handler n x y) (of-hnd h j)) (redraws d (kid-within w (k .0))) (redraws d′ (kid-within w (k .1)))
+  redraws (at-block {i} {c} n d) w = the-block f Heard meant ns n (redraws d (kid-within w (one-kid ns i n c refl)))
+  redraws (at-pair {i} {t} n d d′) w = let k = two-kids ns i n t refl in two-std f Heard meant ns (λ p q x y h j. as-cmp (at-pair n x y) (of-pair h j)) (redraws d (kid-within w (k .0))) (redraws d′ (kid-within w (k .1)))
+  redraws (at-compensable {i} {o} {t} n d d′) w = let k = two-kids ns i n t refl in two-cmp f Heard meant ns (λ pp qq x y h j. as-cmp (at-compensable n x y) (compensable-renames f Heard o h j)) (redraws d (kid-within w (k .0))) (redraws d′ (kid-within w (k .1)))
+  redraws (at-paired {b} n) w = as-cmp (at-paired n) (paired-renames f Heard b)
+
+  pub flows-renamed : RenamesState f Heard (flow-by asked ns) (flow-by meant ns)
+  flows-renamed = the-flow f Heard meant ns passed (redraws (flow-drawn asked ns passed) (omega (arith, fine-table ns passed .some)))
+
+---- The search by cues ----
+
+module _ (leaves : ℕ → Leaf) (other : ℕ → ℕ) (ns rs : List ℕ)
+    (passed : table-check ns ≡ Fine)
+    (known : (i : ℕ) → i < length rs → no-record (getD rs i 0) ≡ false)
+    (Heard : ℕ → Type 0)
+    (heard : (i : ℕ) → i < length rs → getD rs i 0 ≤ most-events → Heard (getD rs i 0))
+    (small : (a : ℕ) → Heard a → (a ≤ most-events) × (other a ≤ most-events))
+    (right : (i e : ℕ) → i < count ns → node ns i ≡ Event e → (a : ℕ) → Heard a → leaves e .takes a ≡ (eqb a e || eqb (other a) e)) where
+  sound : (i : ℕ) → i < length rs → Sound Heard (getD rs i 0)
+  sound i h = record { known = known i h; heard = heard i h }
+
+  cued-records : cue-records (map (cue-of other) rs) ≡ map (renamed (event-as other)) (records rs)
+  cued-records = cues-renamed Heard other small (all-places rs sound)
+
+  cued-flow : RenamesState (event-as other) Heard (flow-by cued ns) (flow-by leaves ns)
+  cued-flow = flows-renamed (event-as other) Heard cued leaves ns passed (λ i e w n a u. right i e w n a u ∙ sym (takes-cue-is a (other a) e (small a u .0)))
+
+  pub cued-judge : (allowance : ℕ) → judge (flow-by cued ns) (cue-records (map (cue-of other) rs)) allowance ≡ judge (flow-by leaves ns) (records rs) allowance
+  cued-judge allowance = rw cued-records (sym (judge-renamed (event-as other) Heard cued-flow (all-heard Heard (all-places rs sound)) allowance))
+
+  pub cued-fits : Fits (flow-by leaves ns) (records rs) → Fits (flow-by cued ns) (cue-records (map (cue-of other) rs))
+  cued-fits c = rw cued-records (fits-renamed (event-as other) Heard (records rs) cued-flow c)
+
+  pub cues-low : (i : ℕ) → i < length rs → getD (map (cue-of other) rs) i 0 ≤ failed-cue
+  cues-low i h = rw (place-map (cue-of other) rs i h) (cue-low other (getD rs i 0) (known i h) (sound-low Heard other small (getD rs i 0) (sound i h)))
