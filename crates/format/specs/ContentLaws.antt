@@ -1,14 +1,19 @@
--- The checks of a file's contents one after the other: the first that refuses gives the answer. Assumes nothing.
-use Prim.Native.Nat.{ℕ}
-use mathlib.Core.List.{List, _++_}
+-- The checks of a file's contents one after the other: the first that refuses gives the answer; and what is known where none does
+-- (`contents-passed`). Assumes nothing.
+use Prim.Native.Nat.{ℕ, _<_}
+use mathlib.Core.Bool.{Bool, false}
+use mathlib.Core.List.{List, [], _∷_, _++_}
+use native.Mathlib.Omega.{arith}
+use lib.ListN.{length, getD}
 use mathlib.Core.Path.{_≡_, ap, sym, _∙_}
 use Rattle.flow.specs.declared.Refusal.{Refusal}
 use Rattle.flow.specs.declared.Check.{Check}
 use Rattle.flow.specs.declared.Check.the-variants.{Fine, Refused}
-use Rattle.flow.specs.Refusals.{nodes-order, values-order, closing-order}
+use Rattle.flow.specs.Tests.{is-false}
+use Rattle.flow.specs.Refusals.{ground, count, nodes-order, values-order, closing-order}
 use Rattle.flow.specs.Checks.{first, or-else-check, nodes-check, values-check, closings-check}
-use Rattle.flow.specs.FirstRefusal.{first-append, orders-append, or-else-refused, or-else-fine}
-use Rattle.format.specs.Contents.{names-order}
+use Rattle.flow.specs.FirstRefusal.{None, more, fine-exactly, none-each, both-fine, first-append, orders-append, or-else-refused, or-else-fine}
+use Rattle.format.specs.Contents.{unnamed-leaf, leaf-grounds, unnamed-event, event-grounds, names-order}
 use Rattle.format.specs.ContentChecks.{leaves-grounds, events-grounds, grounds-of}
 
 module _ (names : ℕ) (ns rs : List ℕ) where
@@ -50,3 +55,32 @@ module _ (names : ℕ) (ns rs : List ℕ) where
 
         pub events-last : {x : Check} → first (leaves-grounds names ns) ≡ Fine → x ≡ first (events-grounds names rs) → x ≡ first (grounds-of names ns rs)
         events-last d e = e ∙ or-else-fine (first (events-grounds names rs)) d ∙ leaves-last
+
+---- Nothing is refused ----
+
+-- what holds of each place where one ground is looked at, and none holds
+none-single : (number place : ℕ) (b : Bool) → None (ground number place b ∷ []) → b ≡ false
+none-single number place b (more t n) = is-false b t
+
+-- the parts of the check, all passed
+pub record ContentsPassed (names : ℕ) (ns rs : List ℕ) : Type 0 where
+  pub nodes : nodes-check ns ≡ Fine
+  pub values : values-check rs ≡ Fine
+  pub closings : closings-check ns rs ≡ Fine
+  pub leaves : (i : ℕ) → i < count ns → unnamed-leaf names ns i ≡ false
+  pub events : (i : ℕ) → i < length rs → unnamed-event names (getD rs i 0) ≡ false
+
+pub contents-passed : (names : ℕ) (ns rs : List ℕ) → first (grounds-of names ns rs) ≡ Fine → ContentsPassed names ns rs
+unfolding leaves-grounds events-grounds
+contents-passed names ns rs e =
+    let a = both-fine (nodes-check ns) (values-on names ns rs) (sym (contents-is names ns rs) ∙ e) in
+    let b = both-fine (values-check rs) (closings-on names ns rs) (a .1) in
+    let c = both-fine (closings-check ns rs) (leaves-on names ns rs) (b .1) in
+    let d = both-fine (first (leaves-grounds names ns)) (first (events-grounds names rs)) (c .1) in
+    record {
+      nodes = a .0;
+      values = b .0;
+      closings = c .0;
+      leaves = λ i h. none-single 19 i (unnamed-leaf names ns i) (none-each (leaf-grounds names ns) 0 (count ns) i (fine-exactly (leaves-grounds names ns) .0 (d .0)) (omega arith) (omega arith));
+      events = λ i h. none-single 20 i (unnamed-event names (getD rs i 0)) (none-each (event-grounds names rs) 0 (length rs) i (fine-exactly (events-grounds names rs) .0 (d .1)) (omega arith) (omega arith));
+    }

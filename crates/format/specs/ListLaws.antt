@@ -1,20 +1,22 @@
--- A names section by itself, by what a scan of it found; and the checks of lent lists one after the other. Assumes nothing.
+-- A names section by itself, by what a scan of it found; the checks of lent lists one after the other, and what is known where none
+-- refuses (`lists-passed`); and an order with rounds behind theirs (`lists-then`). Assumes nothing.
 use Prim.Native.Nat.{ℕ, _<_, _≤_}
 use mathlib.Core.List.{List, _++_}
-use mathlib.Core.Path.{_≡_, ap, sym, _∙_}
+use mathlib.Core.Path.{_≡_, refl, ap, sym, _∙_, subst}
 use borrow.Author.Tests.{lt-ltb, le-ltb}
 use lib.ListN.{length}
 use Rattle.flow.specs.declared.Refusal.{Refusal}
 use Rattle.flow.specs.declared.Check.{Check}
 use Rattle.flow.specs.declared.Check.the-variants.{Fine, Refused}
-use Rattle.flow.specs.Refusals.{table-length-order, records-length-order}
-use Rattle.flow.specs.Checks.{refused, first, or-else-check, table-length-check, records-length-check}
-use Rattle.flow.specs.FirstRefusal.{orders-append, or-else-refused, or-else-fine}
+use Rattle.flow.specs.Refusals.{Round, table-length-order, records-length-order}
+use Rattle.flow.specs.Checks.{refused, first, grounds, or-else-check, table-length-check, nodes-check, table-check, records-length-check, values-check, closings-check, records-check}
+use Rattle.flow.specs.FirstRefusal.{is-fine, both-fine, orders-append, or-else-refused, or-else-fine, table-parts, records-parts}
 use Rattle.format.specs.Format.{Entry}
 use Rattle.format.specs.Plan.{Ran, got, bad, run}
 use Rattle.format.specs.Sections.{names}
-use Rattle.format.specs.Contents.{content-order}
+use Rattle.format.specs.Contents.{content-order, lists-order}
 use Rattle.format.specs.ContentChecks.{grounds-of}
+use Rattle.format.specs.ContentLaws.{ContentsPassed, contents-passed}
 use Rattle.format.specs.ListChecks.{nothing-behind, section-alone, by-entries, named-check, lists-check}
 
 ---- A names section by itself ----
@@ -61,3 +63,46 @@ module _ (s ns rs : List ℕ) where
       pub contents-last : {c : Check} {n : ℕ} → records-length-check rs ≡ Fine → n ≡ length es → c ≡ first (grounds-of n ns rs) → c ≡ lists-check s ns rs
       unfolding contents
       contents-last b d q = q ∙ ap (λ (k : ℕ). first (grounds-of k ns rs)) d ∙ or-else-fine _ b ∙ or-else-fine _ a ∙ sym lists-is
+
+---- Nothing is refused ----
+
+-- the section is found whole, and the parts of the check have passed
+pub record ListsPassed (s ns rs : List ℕ) : Type 0 where
+  pub entries : List Entry
+  pub end : ℕ
+  pub section : section-alone s ≡ got entries end
+  pub table : table-check ns ≡ Fine
+  pub records : records-check ns rs ≡ Fine
+  pub contents : ContentsPassed (length entries) ns rs
+
+module _ (s ns rs : List ℕ) where
+  pub lists-passed : lists-check s ns rs ≡ Fine → ListsPassed s ns rs
+  unfolding contents
+  lists-passed f = by (section-alone s) refl
+    where
+      by : (x : Ran (List Entry)) → section-alone s ≡ x → ListsPassed s ns rs
+      by (got es at) e =
+          let a = both-fine (table-length-check ns) (or-else-check (records-length-check rs) (contents s ns rs e)) (sym (lists-is s ns rs e) ∙ f) in
+          let b = both-fine (records-length-check rs) (contents s ns rs e) (a .1) in
+          let c = contents-passed (length es) ns rs (b .1) in
+          let closings = sym (or-else-fine (closings-check ns rs) (c .values)) ∙ c .closings in
+          record {
+            entries = es;
+            end = at;
+            section = e;
+            table = table-parts ns ∙ sym (or-else-fine (nodes-check ns) (a .0)) ∙ c .nodes;
+            records = records-parts ns rs ∙ sym (or-else-fine (or-else-check (values-check rs) (closings-check ns rs)) (b .0)) ∙ closings;
+            contents = c;
+          }
+      by (bad n p) e = absurd (subst is-fine (sym f ∙ alone-refused s ns rs e) tt)
+
+  -- rounds behind those of the lists
+  pub lists-then : (order : List Round)
+      → named-check s (λ es. lists-order (length es) ns rs ++ order) ≡ or-else-check (lists-check s ns rs) (first (grounds order))
+  unfolding lists-check named-check by-entries or-else-check
+  lists-then order = by (section-alone s)
+    where
+      by : (x : Ran (List Entry))
+          → by-entries (λ es. lists-order (length es) ns rs ++ order) x ≡ or-else-check (by-entries (λ es. lists-order (length es) ns rs) x) (first (grounds order))
+      by (got es at) = orders-append (lists-order (length es) ns rs) order
+      by (bad n p) = refl

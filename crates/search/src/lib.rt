@@ -358,7 +358,18 @@ fn visit_each(
     let mut c = [0u32; 64];
     let many = successors(ns, work, cues[0], &mut c, role);
     let none = [0u32; 1];
-    try_each(ns, cues, work, role, left, modes, marks, &c, &none[..0], many)
+    try_each(
+        ns,
+        cues,
+        work,
+        role,
+        left,
+        modes,
+        marks,
+        &c,
+        &none[..0],
+        many,
+    )
 }
 
 // Those by a closing of a part that runs: its compensations.
@@ -539,15 +550,7 @@ fn long_search(ns: &[u16], cues: &[u32], work: &mut [u8], role: Role, allowance:
 {
     let mut modes = [0u8; MODES];
     let mut marks = [0u32; MARKS];
-    visit(
-        ns,
-        cues,
-        work,
-        role,
-        allowance,
-        &mut modes,
-        &mut marks,
-    )
+    visit(ns, cues, work, role, allowance, &mut modes, &mut marks)
 }
 
 // What came of a search of fewer states, with the whole allowance.
