@@ -1,7 +1,8 @@
 -- A names section by itself, by what a scan of it found; and the checks of lent lists one after the other. Assumes nothing.
 use Prim.Native.Nat.{ℕ, _<_, _≤_}
 use mathlib.Core.List.{List, _++_}
-use mathlib.Core.Path.{_≡_, ap, sym, _∙_}
+use mathlib.Core.Logic.{_⊎_, inl, inr}
+use mathlib.Core.Path.{_≡_, refl, ap, sym, _∙_}
 use borrow.Author.Tests.{lt-ltb, le-ltb}
 use lib.ListN.{length}
 use Rattle.flow.specs.declared.Refusal.{Refusal}
@@ -15,7 +16,8 @@ use Rattle.format.specs.Plan.{Ran, got, bad, run}
 use Rattle.format.specs.Sections.{names}
 use Rattle.format.specs.Contents.{content-order}
 use Rattle.format.specs.ContentChecks.{grounds-of}
-use Rattle.format.specs.ListChecks.{nothing-behind, section-alone, by-entries, named-check, lists-check}
+use Rattle.format.specs.ItemLaws.{le-or-lt, got-not-bad}
+use Rattle.format.specs.ListChecks.{nothing-behind, section-alone, entries-of, entries-in, Whole, by-entries, named-check, lists-check}
 
 ---- A names section by itself ----
 
@@ -32,6 +34,26 @@ module _ (s : List ℕ) where
     pub alone-got : length s ≤ at → section-alone s ≡ got es at
     unfolding section-alone nothing-behind
     alone-got h = ap (nothing-behind s) e ∙ rw (le-ltb at (length s) h)
+
+  -- what it holds is what the scan found
+  module _ {es : List Entry} {at : ℕ} (e : section-alone s ≡ got es at) where
+    pub alone-run : run s 0 names ≡ got es at
+    alone-run = by-run (run s 0 names) refl
+      where
+        by-end : {ds : List Entry} {end : ℕ} → run s 0 names ≡ got ds end → (length s ≤ end) ⊎ (end < length s) → run s 0 names ≡ got es at
+        by-end r (inl h) = r ∙ sym (alone-got r h) ∙ e
+        by-end r (inr h) = got-not-bad e (alone-longer r h)
+
+        by-run : (x : Ran (List Entry)) → run s 0 names ≡ x → run s 0 names ≡ got es at
+        by-run (got ds end) r = by-end r (le-or-lt (length s) end)
+        by-run (bad n p) r = got-not-bad e (alone-bad r)
+
+    pub entries-in-is : entries-in s ≡ es
+    unfolding entries-in entries-of
+    entries-in-is = ap entries-of e
+
+    pub whole : Whole s
+    whole = record { end = at; is = e ∙ ap (λ (ds : List Entry). got ds at) (sym entries-in-is) }
 
 ---- Lists ----
 
