@@ -20,3 +20,4 @@ pub mod SectionLaws
 pub mod NameLaws
 pub mod ContentLaws
 pub mod ListLaws
+pub mod EntryLaws

@@ -3,7 +3,8 @@
 -- exactly if it is one of `NamedRefuses`. Definitions only. Assumes nothing.
 use Prim.Native.Nat.{ℕ}
 use mathlib.Core.Bool.{cond}
-use mathlib.Core.List.{List}
+use mathlib.Core.List.{List, []}
+use mathlib.Core.Path.{_≡_}
 use lib.Dec.{ltb}
 use lib.ListN.{length}
 use Rattle.flow.specs.declared.Check.{Check}
@@ -23,6 +24,20 @@ nothing-behind s (bad n p) = bad n p
 unfoldable pub section-alone : List ℕ → Ran (List Entry)
 unfolding nothing-behind run names
 section-alone s = nothing-behind s (run s 0 names)
+
+-- the entries that are found; none where it is refused
+unfoldable pub entries-of : Ran (List Entry) → List Entry
+entries-of (got es at) = es
+entries-of (bad n p) = []
+
+unfoldable pub entries-in : List ℕ → List Entry
+unfolding entries-of section-alone
+entries-in s = entries-of (section-alone s)
+
+-- a names section that is not refused
+pub record Whole (s : List ℕ) : Type 0 where
+  pub end : ℕ
+  pub is : section-alone s ≡ got (entries-in s) end
 
 -- then an order of rounds, by the entries
 unfoldable pub by-entries : (List Entry → List Round) → Ran (List Entry) → Check

@@ -2,6 +2,7 @@
 -- refuses (`lists-passed`); and an order with rounds behind theirs (`lists-then`). Assumes nothing.
 use Prim.Native.Nat.{ℕ, _<_, _≤_}
 use mathlib.Core.List.{List, _++_}
+use mathlib.Core.Logic.{_⊎_, inl, inr}
 use mathlib.Core.Path.{_≡_, refl, ap, sym, _∙_, subst}
 use borrow.Author.Tests.{lt-ltb, le-ltb}
 use lib.ListN.{length}
@@ -16,8 +17,9 @@ use Rattle.format.specs.Plan.{Ran, got, bad, run}
 use Rattle.format.specs.Sections.{names}
 use Rattle.format.specs.Contents.{content-order, lists-order}
 use Rattle.format.specs.ContentChecks.{grounds-of}
+use Rattle.format.specs.ItemLaws.{le-or-lt, got-not-bad}
 use Rattle.format.specs.ContentLaws.{ContentsPassed, contents-passed}
-use Rattle.format.specs.ListChecks.{nothing-behind, section-alone, by-entries, named-check, lists-check}
+use Rattle.format.specs.ListChecks.{nothing-behind, section-alone, entries-of, entries-in, Whole, by-entries, named-check, lists-check}
 
 ---- A names section by itself ----
 
@@ -34,6 +36,26 @@ module _ (s : List ℕ) where
     pub alone-got : length s ≤ at → section-alone s ≡ got es at
     unfolding section-alone nothing-behind
     alone-got h = ap (nothing-behind s) e ∙ rw (le-ltb at (length s) h)
+
+  -- what it holds is what the scan found
+  module _ {es : List Entry} {at : ℕ} (e : section-alone s ≡ got es at) where
+    pub alone-run : run s 0 names ≡ got es at
+    alone-run = by-run (run s 0 names) refl
+      where
+        by-end : {ds : List Entry} {end : ℕ} → run s 0 names ≡ got ds end → (length s ≤ end) ⊎ (end < length s) → run s 0 names ≡ got es at
+        by-end r (inl h) = r ∙ sym (alone-got r h) ∙ e
+        by-end r (inr h) = got-not-bad e (alone-longer r h)
+
+        by-run : (x : Ran (List Entry)) → run s 0 names ≡ x → run s 0 names ≡ got es at
+        by-run (got ds end) r = by-end r (le-or-lt (length s) end)
+        by-run (bad n p) r = got-not-bad e (alone-bad r)
+
+    pub entries-in-is : entries-in s ≡ es
+    unfolding entries-in entries-of
+    entries-in-is = ap entries-of e
+
+    pub whole : Whole s
+    whole = record { end = at; is = e ∙ ap (λ (ds : List Entry). got ds at) (sym entries-in-is) }
 
 ---- Lists ----
 
@@ -68,12 +90,10 @@ module _ (s ns rs : List ℕ) where
 
 -- the section is found whole, and the parts of the check have passed
 pub record ListsPassed (s ns rs : List ℕ) : Type 0 where
-  pub entries : List Entry
-  pub end : ℕ
-  pub section : section-alone s ≡ got entries end
+  pub section : Whole s
   pub table : table-check ns ≡ Fine
   pub records : records-check ns rs ≡ Fine
-  pub contents : ContentsPassed (length entries) ns rs
+  pub contents : ContentsPassed (length (entries-in s)) ns rs
 
 module _ (s ns rs : List ℕ) where
   pub lists-passed : lists-check s ns rs ≡ Fine → ListsPassed s ns rs
@@ -87,12 +107,10 @@ module _ (s ns rs : List ℕ) where
           let c = contents-passed (length es) ns rs (b .1) in
           let closings = sym (or-else-fine (closings-check ns rs) (c .values)) ∙ c .closings in
           record {
-            entries = es;
-            end = at;
-            section = e;
+            section = whole s e;
             table = table-parts ns ∙ sym (or-else-fine (nodes-check ns) (a .0)) ∙ c .nodes;
             records = records-parts ns rs ∙ sym (or-else-fine (or-else-check (values-check rs) (closings-check ns rs)) (b .0)) ∙ closings;
-            contents = c;
+            contents = subst (λ (ds : List Entry). ContentsPassed (length ds) ns rs) (sym (entries-in-is s e)) c;
           }
       by (bad n p) e = absurd (subst is-fine (sym f ∙ alone-refused s ns rs e) tt)
 

@@ -38,7 +38,7 @@ unfolding no-machine same-step
 matches es n r = eqb r n || (no-machine (entry-of es n) && same-step (entry-of es n .step) (entry-of es r .step))
 
 -- the leaf of a node's event, by the entries
-own-matches : (es : List Entry) (n : ℕ) → T (matches es n n)
+pub own-matches : (es : List Entry) (n : ℕ) → T (matches es n n)
 unfolding matches
 own-matches es n = or-in-left (eqb n n) _ (eqb-refl n)
 

@@ -1,16 +1,17 @@
--- Names compared byte by byte, from the front, and an entry looked for among earlier ones. Assumes nothing.
+-- Names compared byte by byte, from the front, which is for equality, and an entry looked for among earlier ones. Assumes nothing.
 use Prim.Native.Nat.{ℕ, suc, _+_, _-_, _≤_, _<_}
-use mathlib.Core.Bool.{Bool, true, false, _&&_}
+use mathlib.Core.Bool.{Bool, true, false, _&&_, false≢true}
 use mathlib.Core.List.{List, [], _∷_}
-use mathlib.Core.Path.{_≡_, refl, ap, _∙_}
+use mathlib.Core.Path.{_≡_, refl, ap, ap₂, sym, _∙_}
 use native.Mathlib.Numerals.{add-one}
 use native.Mathlib.Omega.{arith}
-use borrow.Author.Tests.{eq-eqb, ne-eqb}
+use borrow.Author.Tests.{eq-eqb, ne-eqb, eqb-true}
 use lib.Dec.{eqb}
 use lib.ListN.{length, getD, drop, drop-of-length-le}
 use lib.Seq.{drop-cons}
+use Rattle.flow.specs.Tests.{both-true}
 use Rattle.format.specs.Format.{Entry}
-use Rattle.format.specs.Sections.{same-bytes, same-entry, met}
+use Rattle.format.specs.Sections.{same-bytes, same-step, same-entry, met}
 use Rattle.format.specs.Items.{entry-at, entry-end, entries-at, entries-end}
 use Rattle.format.specs.SectionLaws.{entries-end-le}
 
@@ -41,6 +42,26 @@ module _ (a b : List ℕ) (i : ℕ) (ha : i < length a) (hb : i < length b) wher
 pub same-end : (a b : List ℕ) (i : ℕ) → length a ≤ i → length b ≤ i → same-bytes (drop i a) (drop i b) ≡ true
 unfolding same-bytes
 same-end a b i ha hb = rw (drop-of-length-le a ha, drop-of-length-le b hb)
+
+---- Equality ----
+
+pub same-refl : (a : List ℕ) → same-bytes a a ≡ true
+unfolding same-bytes
+same-refl [] = refl
+same-refl (x ∷ a) = rw (eq-eqb x x refl, same-refl a)
+
+pub same-eq : (a b : List ℕ) → same-bytes a b ≡ true → a ≡ b
+unfolding same-bytes
+same-eq [] [] e = refl
+same-eq [] (y ∷ b) e = absurd (false≢true e)
+same-eq (x ∷ a) [] e = absurd (false≢true e)
+same-eq (x ∷ a) (y ∷ b) e =
+    ap₂ _∷_ (eqb-true x y (both-true (eqb x y) (same-bytes a b) e .0)) (same-eq a b (both-true (eqb x y) (same-bytes a b) e .1))
+
+-- two step names that are the same as a third are the same
+pub same-step-both : (a b c : List ℕ) → same-step a c ≡ true → same-step b c ≡ true → same-step a b ≡ true
+unfolding same-step
+same-step-both a b c p q = ap (λ (x : List ℕ). same-bytes a x) (same-eq b c q ∙ sym (same-eq a c p)) ∙ same-refl a
 
 ---- Entries met before ----
 

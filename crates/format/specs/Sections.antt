@@ -4,13 +4,14 @@
 -- need not believe this file nor Plan: promises/specs/Reads tells by Format, Limits, Contents and Faults alone what is read and what is
 -- refused. Definitions only. Assumes nothing.
 use Prim.Native.Nat.{ℕ, zero, suc, _+_, _*_}
-use mathlib.Core.Bool.{Bool, true, false, _&&_, _||_, cond}
+use mathlib.Core.Bool.{Bool, false, _&&_, _||_, cond}
 use mathlib.Core.List.{List, [], _∷_, _++_}
-use lib.Dec.{eqb, ltb}
+use lib.Dec.{ltb}
 use lib.ListN.{getD}
 use Rattle.format.specs.declared.Range.{Range}
 use Rattle.format.specs.Format.{Entry, File}
 pub use Rattle.format.specs.Limits.{step-length, machine-length, name-count, node-count, record-count}
+unfoldable pub use Rattle.format.specs.Matching.{same-bytes, same-step}
 use Rattle.format.specs.Plan.{Plan, done, refuse, place, item, _>>=_}
 
 ---- Items ----
@@ -42,16 +43,10 @@ entry = do
   m ← name machine-length
   done (record { step = s; machine = m })
 
-unfoldable pub same-bytes : List ℕ → List ℕ → Bool
-same-bytes [] [] = true
-same-bytes [] (b ∷ bs) = false
-same-bytes (a ∷ as′) [] = false
-same-bytes (a ∷ as′) (b ∷ bs) = eqb a b && same-bytes as′ bs
-
 -- "Two entries are the same only if both names are equal byte by byte."
 unfoldable pub same-entry : Entry → Entry → Bool
-unfolding same-bytes
-same-entry e g = same-bytes (e .step) (g .step) && same-bytes (e .machine) (g .machine)
+unfolding same-step same-bytes
+same-entry e g = same-step (e .step) (g .step) && same-bytes (e .machine) (g .machine)
 
 -- whether the entry is one of the earlier ones
 unfoldable pub met : Entry → List Entry → Bool

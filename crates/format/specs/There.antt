@@ -1,6 +1,6 @@
--- What is known of what was read: a number, a name, an entry, the entries, a section. Definitions only: ItemLaws and SectionLaws prove
--- them. Assumes nothing.
-use Prim.Native.Nat.{ℕ, _+_, _-_, _*_, _≤_}
+-- What is known of what was read: a number, a name, an entry, the entries, a section. Definitions only: ItemLaws, SectionLaws and
+-- EntryLaws prove them. Assumes nothing.
+use Prim.Native.Nat.{ℕ, _+_, _-_, _*_, _≤_, _<_}
 use mathlib.Core.Bool.{false}
 use mathlib.Core.List.{List}
 use mathlib.Core.Path.{_≡_}
@@ -9,8 +9,9 @@ use Rattle.format.specs.declared.Got.{Got}
 use Rattle.format.specs.declared.Range.{Range}
 use Rattle.format.specs.Format.{Entry}
 use Rattle.format.specs.Limits.{step-length, machine-length}
+use Rattle.format.specs.Matching.{nobody}
 use Rattle.format.specs.Plan.{Plan, Ran, got, run}
-use Rattle.format.specs.Sections.{name, entry, met, entries, names}
+use Rattle.format.specs.Sections.{name, entry, same-entry, met, entries, names}
 use Rattle.format.specs.Items.{number-at, numbers-at, name-at, name-end, entry-at, entry-end, entries-at, entries-end}
 
 -- what an answer tells of the plan's run
@@ -99,3 +100,15 @@ pub record NamesThere (s : List ℕ) (es : List Entry) (next : ℕ) : Type 0 whe
   pub few : length es ≤ 256
   pub near : next ≤ 2 + 82 * length es
   pub inside : next ≤ length s
+
+-- no two entries are the same
+abbrev pub Apart : List Entry → Type 0
+Apart es = (i j : ℕ) → i < j → j < length es → same-entry (getD es i nobody) (getD es j nobody) ≡ false
+
+-- a names section by itself that was read: its count, where its entries stand, and 18
+pub record AloneThere (s : List ℕ) (es : List Entry) : Type 0 where
+  pub counted : number-at s 0 ≡ length es
+  pub is : es ≡ entries-at s (length es) 2
+  pub inside : entries-end s (length es) 2 ≤ length s
+  pub few : length es ≤ 256
+  pub apart : Apart es

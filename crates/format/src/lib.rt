@@ -8,7 +8,7 @@ ghost use Prim.Native.Nat.{_+_, _*_, _<_, _≤_};
 ghost use lib.ListN.{length};
 ghost use Rattle.flow.specs.Checks.{first};
 ghost use Rattle.format.specs.Plan.{run};
-ghost use Rattle.format.specs.Sections.{byte, number, name, entry, new-entry, names, numbers, section, same-bytes, same-entry, met};
+ghost use Rattle.format.specs.Sections.{byte, number, name, entry, new-entry, names, numbers, section, same-bytes, same-step, same-entry, met};
 ghost use Rattle.format.specs.Contents.{unnamed-leaf, unnamed-event};
 ghost use Rattle.format.specs.ContentChecks.{leaves-grounds, events-grounds, grounds-of};
 ghost use Rattle.format.specs.ListChecks.{section-alone, lists-check};
@@ -227,14 +227,14 @@ fn same_bytes(a: &[u8], b: &[u8]) -> bool
 }
 
 // Where the name at an offset ends.
-fn end_of_name(file: &[u8], at: usize) -> usize
+pub fn end_of_name(file: &[u8], at: usize) -> usize
     requires { ⌜ name-end (now file) at ≤ length (now file) ⌝ }
     ensures { λ r. ⌜ r ≡ name-end (now (file .entry)) at ⌝ }
 {
     at + 1 + wide(file[at]) as usize
 }
 
-// Whether the names at two offsets are the same.
+// Whether the names at two offsets are equal byte by byte.
 fn same_name(file: &[u8], a: usize, b: usize) -> bool
     requires { ⌜ (name-end (now file) a ≤ length (now file)) × (name-end (now file) b ≤ length (now file)) ⌝ }
     ensures { λ r. ⌜ r ≡ same-bytes (name-at (now (file .entry)) a) (name-at (now (file .entry)) b) ⌝ }
@@ -246,12 +246,20 @@ fn same_name(file: &[u8], a: usize, b: usize) -> bool
     same_bytes(&file[a_from..a_end], &file[b_from..b_end])
 }
 
+// Whether the step names of the entries at two offsets are the same.
+pub fn same_step(file: &[u8], a: usize, b: usize) -> bool
+    requires { ⌜ (name-end (now file) a ≤ length (now file)) × (name-end (now file) b ≤ length (now file)) ⌝ }
+    ensures { λ r. ⌜ r ≡ same-step (name-at (now (file .entry)) a) (name-at (now (file .entry)) b) ⌝ }
+{
+    same_name(file, a, b)
+}
+
 // Whether the entries at two offsets are the same: both names.
 fn same_entry(file: &[u8], a: usize, b: usize) -> bool
     requires { ⌜ (entry-end (now file) a ≤ length (now file)) × (entry-end (now file) b ≤ length (now file)) ⌝ }
     ensures { λ r. ⌜ r ≡ same-entry (entry-at (now (file .entry)) a) (entry-at (now (file .entry)) b) ⌝ }
 {
-    if same_name(file, a, b) {
+    if same_step(file, a, b) {
         same_name(file, end_of_name(file, a), end_of_name(file, b))
     } else {
         false

@@ -9,7 +9,7 @@ use native.Mathlib.Omega.{arith}
 use lib.ListN.{length, take, drop}
 use lib.Seq.{take-at, drop-at}
 use Rattle.format.specs.Format.{Entry, name-bytes, entry-bytes, entries-bytes}
-use Rattle.format.specs.Sections.{same-bytes, same-entry, met}
+use Rattle.format.specs.Sections.{same-bytes, same-step, same-entry, met}
 
 head-of : List ℕ → ℕ
 head-of [] = 0
@@ -78,9 +78,9 @@ pub washer-apart : (xs ys : List ℕ) → entry-bytes washer ++ xs ≡ entry-byt
 washer-apart xs ys = never-collide washer drum xs ys (λ e. let z : _≡_ {A = ℕ} 4 6 = ap (λ (g : Entry). length (g .step)) e in omega arith)
 
 pub washer-new : met drum (washer ∷ []) ≡ false
-unfolding met same-entry same-bytes
+unfolding met same-entry same-step same-bytes
 washer-new = refl
 
 pub drum-new : met washer (drum ∷ []) ≡ false
-unfolding met same-entry same-bytes
+unfolding met same-entry same-step same-bytes
 drum-new = refl

@@ -15,7 +15,7 @@ use Rattle.flow.specs.Checks.{or-else-check, answer, first, each}
 use Rattle.flow.specs.Drawn.{made, drawn, flow-of}
 use Rattle.format.specs.Format.{encode}
 use Rattle.format.specs.Plan.{_>>=_, run}
-use Rattle.format.specs.Sections.{byte, number, ranged, name, entry, same-bytes, same-entry, met, new-entry, entries, names, numbers, section, layout}
+use Rattle.format.specs.Sections.{byte, number, ranged, name, entry, same-bytes, same-step, same-entry, met, new-entry, entries, names, numbers, section, layout}
 use Rattle.format.specs.Items.{refusal-of}
 use Rattle.reader.specs.Reading.{Outcome, refused-outcome, checked, laid, reading}
 use Rattle.judge.specs.declared.Answer.{Answer}
@@ -41,7 +41,7 @@ unfolding answer-of-file answered
 worked-is = ap (λ (o : Outcome). answered (o .answer) (o .nodes) (o .records)) worked-read ∙ worked-judged
 
 empty-read : reading [] 192 256 ≡ refused-outcome (refusal-of 15 0)
-unfolding run _>>=_ byte number ranged name entry same-bytes same-entry met new-entry entries names numbers section layout checked laid reading
+unfolding run _>>=_ byte number ranged name entry same-bytes same-step same-entry met new-entry entries names numbers section layout checked laid reading
 empty-read = refl
 
 empty-is : answer-of-file [] ≡ Refused (refusal-of 15 0)

@@ -3,39 +3,23 @@ use Prim.Native.Nat.{ℕ}
 use mathlib.Core.Bool.{Bool, true, false, _||_, false≢true}
 use mathlib.Core.List.{List, [], _∷_, List·Memᴰ, List·Memᴰ·head, List·Memᴰ·tail}
 use mathlib.Core.Path.{_≡_, refl, ap, ap₂, sym, _∙_}
-use borrow.Author.Tests.{eq-eqb, eqb-true}
-use lib.Dec.{eqb}
 use Rattle.flow.specs.Tests.{both-true}
 use Rattle.format.specs.Format.{Entry}
-use Rattle.format.specs.Sections.{same-bytes, same-entry, met}
-
----- Equality ----
-
-pub same-refl : (a : List ℕ) → same-bytes a a ≡ true
-unfolding same-bytes
-same-refl [] = refl
-same-refl (x ∷ a) = rw (eq-eqb x x refl, same-refl a)
-
-pub same-eq : (a b : List ℕ) → same-bytes a b ≡ true → a ≡ b
-unfolding same-bytes
-same-eq [] [] e = refl
-same-eq [] (y ∷ b) e = absurd (false≢true e)
-same-eq (x ∷ a) [] e = absurd (false≢true e)
-same-eq (x ∷ a) (y ∷ b) e =
-    ap₂ _∷_ (eqb-true x y (both-true (eqb x y) (same-bytes a b) e .0)) (same-eq a b (both-true (eqb x y) (same-bytes a b) e .1))
+use Rattle.format.specs.Sections.{same-bytes, same-step, same-entry, met}
+pub use Rattle.format.specs.NameLaws.{same-refl, same-eq}
 
 ---- Met is being among them ----
 
--- "Two entries are the same-bytes only if both names are equal byte by byte."
+-- "Two entries are the same only if both names are equal byte by byte."
 pub same-entry-eq : (e g : Entry) → same-entry e g ≡ true → e ≡ g
-unfolding same-entry
+unfolding same-entry same-step
 same-entry-eq e g h =
     ap₂ (λ (x y : List ℕ). record { step = x; machine = y })
     (same-eq (e .step) (g .step) (both-true (same-bytes (e .step) (g .step)) (same-bytes (e .machine) (g .machine)) h .0))
     (same-eq (e .machine) (g .machine) (both-true (same-bytes (e .step) (g .step)) (same-bytes (e .machine) (g .machine)) h .1))
 
 pub same-entry-refl : (e g : Entry) → e ≡ g → same-entry e g ≡ true
-unfolding same-entry
+unfolding same-entry same-step
 same-entry-refl e g h = ap (λ (x : Entry). same-entry e x) (sym h) ∙ rw (same-refl (e .step), same-refl (e .machine))
 
 pub met-among : (e : Entry) (es : List Entry) → met e es ≡ true → List·Memᴰ e es

@@ -11,7 +11,7 @@ use Rattle.flow.specs.Refusals.{no-nodes, not-whole, too-many-nodes, unknown-ki
 use Rattle.flow.specs.Checks.{or-else-check, answer, first, each, table-check, nodes-check, values-check, closings-check, records-check}
 use Rattle.format.specs.Format.{number-bytes, numbers-bytes, name-bytes, entry-bytes, entries-bytes, names-section, numbers-section, File, encode}
 use Rattle.format.specs.Plan.{_>>=_, run}
-use Rattle.format.specs.Sections.{byte, number, ranged, name, entry, same-bytes, same-entry, met, new-entry, entries, names, numbers, section, layout}
+use Rattle.format.specs.Sections.{byte, number, ranged, name, entry, same-bytes, same-step, same-entry, met, new-entry, entries, names, numbers, section, layout}
 use Rattle.format.specs.Contents.{unnamed-leaf, unnamed-event}
 use Rattle.format.specs.ContentChecks.{leaves-grounds, events-grounds, grounds-of}
 use Rattle.format.specs.Items.{as-item, item-told}
@@ -36,7 +36,7 @@ worked-length = refl
 
 -- it is read: two names, six nodes, three records, and its numbers
 pub worked-read : reading (encode worked) 192 256 ≡ read-outcome worked
-unfolding xor encode names-section numbers-section entries-bytes entry-bytes name-bytes numbers-bytes number-bytes run _>>=_ byte number ranged name entry same-bytes same-entry met new-entry entries names numbers section layout unnamed-leaf unnamed-event leaves-grounds events-grounds grounds-of checked laid reading reported is-event-number is-closing-number no-nodes not-whole too-many-nodes unknown-kind wrong-field not-lower is-child taken wrong-sort child-taken nobodys-child no-records too-many-records no-record closings-wanted closed wrong-closings after-closings or-else-check answer first each node-grounds child-grounds value-grounds table-check nodes-check values-check closings-check records-check
+unfolding xor encode names-section numbers-section entries-bytes entry-bytes name-bytes numbers-bytes number-bytes run _>>=_ byte number ranged name entry same-bytes same-step same-entry met new-entry entries names numbers section layout unnamed-leaf unnamed-event leaves-grounds events-grounds grounds-of checked laid reading reported is-event-number is-closing-number no-nodes not-whole too-many-nodes unknown-kind wrong-field not-lower is-child taken wrong-sort child-taken nobodys-child no-records too-many-records no-record closings-wanted closed wrong-closings after-closings or-else-check answer first each node-grounds child-grounds value-grounds table-check nodes-check values-check closings-check records-check
 worked-read = refl
 
 ---- Readers that are ruled out ----
@@ -66,7 +66,7 @@ file-lines =
     ∷ []
 
 pub file-lines-read : map (λ l. reported (reading (l .file) (l .room) 256 .answer)) file-lines ≡ map (λ l. l .report) file-lines
-unfolding file-lines xor encode names-section numbers-section entries-bytes entry-bytes name-bytes numbers-bytes number-bytes run _>>=_ byte number ranged name entry same-bytes same-entry met new-entry entries names numbers section layout unnamed-leaf unnamed-event leaves-grounds events-grounds grounds-of checked laid reading reported is-event-number is-closing-number no-nodes not-whole too-many-nodes unknown-kind wrong-field not-lower is-child taken wrong-sort child-taken nobodys-child no-records too-many-records no-record closings-wanted closed wrong-closings after-closings or-else-check answer first each node-grounds child-grounds value-grounds table-check nodes-check values-check closings-check records-check
+unfolding file-lines xor encode names-section numbers-section entries-bytes entry-bytes name-bytes numbers-bytes number-bytes run _>>=_ byte number ranged name entry same-bytes same-step same-entry met new-entry entries names numbers section layout unnamed-leaf unnamed-event leaves-grounds events-grounds grounds-of checked laid reading reported is-event-number is-closing-number no-nodes not-whole too-many-nodes unknown-kind wrong-field not-lower is-child taken wrong-sort child-taken nobodys-child no-records too-many-records no-record closings-wanted closed wrong-closings after-closings or-else-check answer first each node-grounds child-grounds value-grounds table-check nodes-check values-check closings-check records-check
 file-lines-read = refl
 
 ---- Scans of names that are ruled out ----
@@ -79,5 +79,5 @@ pub names-told : map (λ es. item-told (scanned (names-section es)))
     ∷ record { number = 0; place = 0; value = 2; next = 18 }
     ∷ record { number = 18; place = 12; value = 0; next = 0 }
     ∷ []
-unfolding names-section entries-bytes entry-bytes name-bytes number-bytes run _>>=_ byte number ranged name entry same-bytes same-entry met new-entry entries names as-item item-told
+unfolding names-section entries-bytes entry-bytes name-bytes number-bytes run _>>=_ byte number ranged name entry same-bytes same-step same-entry met new-entry entries names as-item item-told
 names-told = refl
