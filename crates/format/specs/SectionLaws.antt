@@ -18,6 +18,17 @@ use Rattle.format.specs.Items.{number-at, numbers-at, at-front, entry-at
 use Rattle.format.specs.ItemLaws.{le-or-lt, got-value, got-next, number-cut, number-got, number-there, ranged-there, entry-there, got-not-bad}
 pub use Rattle.format.specs.There.{NewThere, Scanned, NumbersThere, SectionThere, NamesThere}
 
+---- At the front of a table ----
+
+-- one number more
+pub front-set : (ns : List ℕ) (v : ℕ) (table : List ℕ) {i : ℕ} → length ns ≡ i → i < length table → set (at-front ns table) i v ≡ at-front (ns ++ (v ∷ [])) table
+front-set ns v table {i} n h =
+    let there : at-front ns table ≡ ns ++ (getD table i 0 ∷ drop (suc i) table) =
+    ap (λ (k : ℕ). ns ++ drop k table) n ∙ ap (λ (xs : List ℕ). ns ++ xs) (drop-cons table i 0 h) in
+    let sized : length (ns ++ (v ∷ [])) ≡ suc i = omega (arith, length-append ns (v ∷ [])) in
+    ap (λ (xs : List ℕ). set xs i v) there ∙ set-at ns (getD table i 0) (drop (suc i) table) v i n
+    ∙ sym (ap (λ (k : ℕ). (ns ++ (v ∷ [])) ++ drop k table) sized ∙ append-assoc ns (v ∷ []) (drop (suc i) table))
+
 ---- Numbers ----
 
 module _ (s : List ℕ) where
@@ -75,15 +86,8 @@ module _ (s : List ℕ) where
   pub front-more : (i at : ℕ) (table : List ℕ) → i < length table
       → set (at-front (numbers-at s i at) table) i (number-at s (at + 2 * i)) ≡ at-front (numbers-at s (i + 1) at) table
   front-more i at table h =
-      let v = number-at s (at + 2 * i) in
-      let ns = numbers-at s i at in
-      let n : length ns ≡ i = numbers-at-length i at in
-      let n′ : length (numbers-at s (i + 1) at) ≡ suc i = numbers-at-length (i + 1) at ∙ add-one i in
-      let there : at-front ns table ≡ ns ++ (getD table i 0 ∷ drop (suc i) table) =
-      ap (λ (k : ℕ). ns ++ drop k table) n ∙ ap (λ (xs : List ℕ). ns ++ xs) (drop-cons table i 0 h) in
-      let more : numbers-at s (i + 1) at ≡ ns ++ (v ∷ []) = ap (λ (k : ℕ). numbers-at s k at) (add-one i) ∙ numbers-at-more i at in
-      ap (λ (xs : List ℕ). set xs i v) there ∙ set-at ns (getD table i 0) (drop (suc i) table) v i n
-      ∙ sym (ap₂ (λ (xs : List ℕ) (k : ℕ). xs ++ drop k table) more n′ ∙ append-assoc ns (v ∷ []) (drop (suc i) table))
+      let more : numbers-at s (i + 1) at ≡ numbers-at s i at ++ (number-at s (at + 2 * i) ∷ []) = ap (λ (k : ℕ). numbers-at s k at) (add-one i) ∙ numbers-at-more i at in
+      front-set (numbers-at s i at) (number-at s (at + 2 * i)) table (numbers-at-length i at) h ∙ ap (λ (ns : List ℕ). at-front ns table) (sym more)
 
   pub front-length-is : (k at : ℕ) (table : List ℕ) → k ≤ length table → length (at-front (numbers-at s k at) table) ≡ length table
   front-length-is k at table h =

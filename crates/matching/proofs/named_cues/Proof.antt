@@ -1,0 +1,85 @@
+-- `matching::named_cues` meets its contract: the loop's invariant: the first i cues stand in front, and the rest is the table's.
+-- Assumes nothing.
+use Prim.Native.Nat.{ℕ, _-_, _<_, _≤_}
+use mathlib.Core.List.{List, map}
+use mathlib.Core.Path.{_≡_, refl, ap, ap₂, _∙_}
+use native.Mathlib.Omega.{arith}
+use borrow.Author.Needs.{needs}
+use denote.Ref.{now}
+use lib.ListN.{length, take, set, length-set}
+use lib.Seq.{take-all}
+use Rattle.flow.specs.Cues.{cue-of}
+use Rattle.format.specs.ListChecks.{entries-in}
+use Rattle.format.specs.Told.{at-front}
+use Rattle.matching.specs.Others.{other}
+use Rattle.matching.specs.CueLaws.{front-next}
+use Rattle.matching.proofs.named_cues.Statement.{statement}
+use Rattle.matching.proofs.named_cues.Tie as tie
+
+abbrev Inv-loop : tie.InvT-loop
+Inv-loop names records cues₀ i₀ cues i = (i ≤ length records) × (length cues ≡ length cues₀) × (cues ≡ at-front (map (cue-of (other (entries-in names))) (take i records)) cues₀)
+
+abbrev μ-loop : tie.MeasureT-loop
+μ-loop names records cues₀ i₀ cues i = length records - i
+
+loop-holds : tie.Need-loop-holds Inv-loop μ-loop
+loop-holds c = (omega arith, refl, refl)
+
+mul-named-cue : tie.Need-mul-named-cue Inv-loop μ-loop
+mul-named-cue c = omega arith
+
+shared-slice-read-named-cue : tie.Need-shared-slice-read-named-cue Inv-loop μ-loop
+shared-slice-read-named-cue c = omega arith
+
+named-cue-requires : tie.Need-named-cue-requires Inv-loop μ-loop
+named-cue-requires c κs = search needs
+
+mul-cues : tie.Need-mul-cues Inv-loop μ-loop
+mul-cues c = omega arith
+
+slice-write-cues : tie.Need-slice-write-cues Inv-loop μ-loop
+slice-write-cues c = omega (arith, c .before .before .before .loop .inv .1)
+
+add-i : tie.Need-add-i Inv-loop μ-loop
+add-i c = omega arith
+
+loop-less : tie.Need-loop-less Inv-loop μ-loop
+loop-less c = omega arith
+
+loop-again : tie.Need-loop-again Inv-loop μ-loop
+loop-again c =
+    let a = c .before .before .before .before .before .before .before .args in
+    let l = c .before .before .before .loop in
+    let ns = now (a .records) in
+    let below : l .i < length ns = omega arith in (
+      omega arith,
+      length-set (l .cues) (l .i) (c .named-cue .result) ∙ l .inv .1,
+      ap₂ (λ (xs : List ℕ) (v : ℕ). set xs (l .i) v) (l .inv .2) (c .named-cue .ensures) ∙ front-next (cue-of (other (entries-in (now (a .names))))) ns (now (a .cues)) (l .i) below (omega arith),
+    )
+
+same-length : tie.Need-same-length Inv-loop μ-loop
+same-length c = c .before .loop .inv .1
+
+returns : tie.Need-returns Inv-loop μ-loop
+returns c =
+    let a = c .before .before .before .before .before .args in
+    let l = c .before .loop in
+    l .inv .2 ∙ ap (λ (ns : List ℕ). at-front (map (cue-of (other (entries-in (now (a .names))))) ns) (now (a .cues))) (take-all (l .i) (now (a .records)) (omega arith))
+
+pub named-cues-spec : {M : Type 1} → statement M
+named-cues-spec =
+    tie.close
+    (tie.spec
+    Inv-loop
+    μ-loop
+    loop-holds
+    mul-named-cue
+    shared-slice-read-named-cue
+    named-cue-requires
+    mul-cues
+    slice-write-cues
+    add-i
+    loop-less
+    loop-again
+    same-length
+    returns)
