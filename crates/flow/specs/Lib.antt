@@ -22,5 +22,6 @@ pub mod Children
 pub mod Closings
 pub mod FineTable
 pub mod OneFlow
+pub mod EventLeaves
 pub mod RecordsFit
 pub mod CuedFlows

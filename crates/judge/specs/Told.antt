@@ -1,12 +1,15 @@
--- What an answer of `judge` tells in document 01's terms: its word, number, place and count for each case (`told`), of which every
--- promise is stated; what is refused, in which order; and what the work bytes hold after a verdict. `ns` are the numbers of the nodes,
--- `rs` those of the records. Definitions only: the promises about them are in the crate above (Demands). Assumes nothing.
-use Prim.Native.Nat.{ℕ, _+_, _*_}
+-- What an answer of `judge` or `judge_named` tells in document 01's terms: its word, number, place and count for each case (`told`), of
+-- which every promise is stated; and what is refused, in which order. `ns` are the numbers of the nodes, `rs` those of the records.
+-- Definitions only: the promises about them are in the crate above (Demands, NamedDemands). Assumes nothing.
+use Prim.Native.Nat.{ℕ}
 use mathlib.Core.Bool.{Bool}
 use mathlib.Core.List.{List, [], _∷_, _++_}
 use lib.Dec.{ltb}
-use lib.ListN.{length, drop, replicate}
+use lib.ListN.{length}
 use Rattle.flow.specs.Refusals.{count, ground, Round, lone, table-order, records-order}
+use Rattle.search.specs.Room.{room-of}
+use Rattle.format.specs.Format.{Entry}
+use Rattle.format.specs.Contents.{lists-order}
 use Rattle.judge.specs.declared.Answer.{Answer}
 use Rattle.judge.specs.declared.Answer.the-variants.{Accepted, Rejected, Undecided, Refused}
 
@@ -40,19 +43,20 @@ told (Refused r) = refusal (r .number) (r .place)
 ---- What is refused ----
 
 -- 01: "Work bytes wanted: 2 × nodes × (records + 1)."
-unfoldable pub room-wanted : List ℕ → List ℕ → ℕ
-room-wanted ns rs = 2 * count ns * (length rs + 1)
+abbrev pub room-wanted : List ℕ → List ℕ → ℕ
+room-wanted ns rs = room-of (count ns) (length rs)
 
 -- 14: "lent room too short"
 unfoldable pub too-short : List ℕ → List ℕ → ℕ → Bool
 too-short ns rs room = ltb room (room-wanted ns rs)
 
+abbrev pub room-order : List ℕ → List ℕ → ℕ → List Round
+room-order ns rs room = lone (ground 14 0 (too-short ns rs room)) ∷ []
+
 -- 01: "Judging checks 1 to 3; then nodes from 0 up, each in the order 4 to 8; then 9 to 14."
 abbrev pub judge-order : List ℕ → List ℕ → ℕ → List Round
-judge-order ns rs room = table-order ns ++ (records-order ns rs ++ (lone (ground 14 0 (too-short ns rs room)) ∷ []))
+judge-order ns rs room = table-order ns ++ (records-order ns rs ++ room-order ns rs room)
 
----- What becomes of the work bytes ----
-
--- 01: "the first 2 × nodes × (records + 1) are zero and the others unchanged"
-unfoldable pub cleared : ℕ → List ℕ → List ℕ
-cleared n work = replicate n 0 ++ drop n work
+-- 02, Two: "with a names section, those of One in One's order"; 01: "14, place 0, comes last"
+abbrev pub named-judge-order : List ℕ → List ℕ → ℕ → List Entry → List Round
+named-judge-order ns rs room es = lists-order (length es) ns rs ++ room-order ns rs room

@@ -1,8 +1,9 @@
 -- `judge::answer_of` meets its contract: each arm by what came back. Assumes nothing.
 use mathlib.Core.Path.{subst}
 use borrow.Author.Needs.{needs}
-use Rattle.judge.specs.Visits.{out-of}
-use Rattle.judge.specs.Settled.{LeftWithin, answer-to}
+use Rattle.search.specs.Visits.{out-of}
+use Rattle.search.specs.Searches.{LeftWithin}
+use Rattle.judge.specs.Settled.{answer-to}
 use Rattle.judge.proofs.answer_of.Statement.{statement}
 use Rattle.judge.proofs.answer_of.Tie as tie
 
