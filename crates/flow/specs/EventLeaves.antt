@@ -49,8 +49,8 @@ module _ (ns : List ℕ) (i : ℕ) {e : ℕ} (is : node ns i ≡ Event e) where
   unfolding wrong-field is-event-number
   event-within fine =
       let named : not (is-event-number (one-of ns i)) ≡ false
-          = then-false (form (node ns i) .event) (not (is-event-number (one-of ns i))) (neither-one _ _ (fine .fields)) event-leaf in
+      = then-false (form (node ns i) .event) (not (is-event-number (one-of ns i))) (neither-one _ _ (fine .fields)) event-leaf in
       let held : T (is-event-number (one-of ns i)) = subst T (sym (not-false (is-event-number (one-of ns i)) named)) tt in
       let within : (1 ≤ one-of ns i) × (one-of ns i ≤ most-events)
-          = (leb→le 1 (one-of ns i) (and-left (leb 1 (one-of ns i)) (leb (one-of ns i) most-events) held), leb→le (one-of ns i) most-events (and-right (leb 1 (one-of ns i)) (leb (one-of ns i) most-events) held)) in
+      = (leb→le 1 (one-of ns i) (and-left (leb 1 (one-of ns i)) (leb (one-of ns i) most-events) held), leb→le (one-of ns i) most-events (and-right (leb 1 (one-of ns i)) (leb (one-of ns i) most-events) held)) in
       subst (λ (n : ℕ). (1 ≤ n) × (n ≤ most-events)) (sym event-first) within
