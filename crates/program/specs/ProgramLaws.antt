@@ -1,20 +1,25 @@
--- What the reader leaves in the two tables, and from there to the program's answer. Assumes nothing.
+-- What the reader leaves in the two tables, the file's names section, and from there to the program's answer. Assumes nothing.
 use Prim.Native.Nat.{ℕ, _*_, _≤_}
 use native.Mathlib.Omega.{arith}
-use mathlib.Core.List.{List}
+use mathlib.Core.List.{List, []}
 use mathlib.Core.Path.{_≡_, sym, ap, ap₂, _∙_}
 use lib.ListN.{length, take, drop, length-append}
 use lib.Seq.{take-at}
 use Rattle.flow.specs.declared.Refusal.{Refusal}
+use Rattle.format.specs.Format.{Entry}
+use Rattle.format.specs.Plan.{got, bad, run}
+use Rattle.format.specs.Sections.{names}
 use Rattle.format.specs.Items.{at-front}
 use Rattle.judge.specs.declared.Answer.the-variants.{Refused}
-use Rattle.judge.specs.Judged.{judged}
+use Rattle.judge.specs.Judged.{judged-named}
 use Rattle.reader.specs.declared.Counts.{Counts}
 use Rattle.reader.specs.declared.Reading.{Reading}
 use Rattle.reader.specs.declared.Reading.the-variants as read
 use Rattle.reader.specs.Reading.{Outcome, counts-of, reading, ReadAs}
 use Rattle.reader.specs.ReaderLaws.{read-file}
-use Rattle.program.specs.Program.{states-allowed, work-lent, answered, answer-of-file}
+use Rattle.program.specs.Program.{states-allowed, work-lent}
+use Rattle.program.specs.FileNames.{scanned, names-of}
+use Rattle.program.specs.Answering.{answered, answer-of-file}
 
 ---- The two tables ----
 
@@ -53,14 +58,27 @@ module _ {s nodes records nodes′ records′ : List ℕ} {r : Reading}
         outcome = sym told-so ∙ o ∙ (λ i. record { answer = read.Read (counts-of f); nodes = sym (ns .1) i; records = sym (rs .1) i });
       }
 
+---- The names section ----
+
+module _ (file : List ℕ) where
+  pub names-found : {es : List Entry} {at : ℕ} → run file 0 names ≡ got es at → take at file ≡ names-of file
+  unfolding names-of scanned
+  names-found e = sym (ap (scanned file) e)
+
+  pub names-bad : {n p : ℕ} → run file 0 names ≡ bad n p → [] ≡ names-of file
+  unfolding names-of scanned
+  names-bad e = sym (ap (scanned file) e)
+
 ---- The answer, by what the reader answered ----
 
 module _ (s : List ℕ) where
   pub refused-answered : {q : Refusal} → reading s 192 256 .answer ≡ read.Refused q → Refused q ≡ answer-of-file s
   unfolding answer-of-file answered
-  refused-answered e = sym (ap (λ (a : Reading). answered a (reading s 192 256 .nodes) (reading s 192 256 .records)) e)
+  refused-answered e = sym (ap (λ (a : Reading). answered s a (reading s 192 256 .nodes) (reading s 192 256 .records)) e)
 
   pub held-answered : {nodes′ records′ : List ℕ} {n k : ℕ} → Held s nodes′ records′ n k
-      → judged (take n nodes′) (take k records′) work-lent states-allowed ≡ answer-of-file s
+      → {part : List ℕ} → part ≡ names-of s → judged-named part (take n nodes′) (take k records′) work-lent states-allowed ≡ answer-of-file s
   unfolding answer-of-file answered
-  held-answered h = sym (ap (λ (p : Outcome). answered (p .answer) (p .nodes) (p .records)) (h .outcome))
+  held-answered {nodes′} {records′} {n} {k} h e =
+      ap (λ (part : List ℕ). judged-named part (take n nodes′) (take k records′) work-lent states-allowed) e
+      ∙ sym (ap (λ (p : Outcome). answered s (p .answer) (p .nodes) (p .records)) (h .outcome))

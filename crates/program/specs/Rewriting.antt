@@ -4,18 +4,16 @@
 use Prim.Native.Nat.{ℕ}
 use mathlib.Core.List.{List, []}
 use mathlib.Core.Path.{_≡_}
-use lib.ListN.{length, take}
+use lib.ListN.{length}
 use Rattle.flow.specs.declared.Refusal.{Refusal}
-use Rattle.format.specs.Format.{Entry}
-use Rattle.format.specs.Plan.{Ran, got, bad, run}
-use Rattle.format.specs.Sections.{names}
-use Rattle.format.specs.Told.{refusal-of, at-front}
+use Rattle.format.specs.Told.{at-front}
 use Rattle.reader.specs.declared.Reading.{Reading}
 use Rattle.reader.specs.declared.Reading.the-variants as read
 use Rattle.reader.specs.Reading.{reading}
 use Rattle.writer.specs.declared.Writing.{Writing}
 use Rattle.writer.specs.declared.Writing.the-variants.{Refused}
 use Rattle.writer.specs.Writing.{writing, bytes-first}
+use Rattle.program.specs.FileNames.{names-of}
 
 -- the answer, and the bytes that stand first in the lent ones then
 pub record Copy : Type 0 where
@@ -26,15 +24,10 @@ abbrev pub refused-copy : Refusal → Copy
 refused-copy r = record { answer = Refused r; bytes = [] }
 
 module _ (file : List ℕ) (room : ℕ) where
-  -- the names section is the file's first bytes, up to where a scan ends
-  unfoldable pub written-again : List ℕ → List ℕ → Ran (List Entry) → Copy
-  written-again ns rs (got es at) = record { answer = writing (take at file) ns rs room; bytes = bytes-first (take at file) ns rs room }
-  written-again ns rs (bad n p) = refused-copy (refusal-of n p)
-
   unfoldable pub copied : Reading → List ℕ → List ℕ → Copy
-  unfolding written-again run names
+  unfolding names-of
   copied (read.Refused r) ns rs = refused-copy r
-  copied (read.Read c) ns rs = written-again ns rs (run file 0 names)
+  copied (read.Read c) ns rs = record { answer = writing (names-of file) ns rs room; bytes = bytes-first (names-of file) ns rs room }
 
   unfoldable pub rewriting : Copy
   unfolding copied reading

@@ -1,14 +1,11 @@
--- From what the reader answered, and what a scan of the names found, to what comes of a file that is written again. Assumes nothing.
+-- From what the reader answered to what comes of a file that is written again. Assumes nothing.
 use Prim.Native.Nat.{ℕ}
 use native.Mathlib.Omega.{arith}
 use mathlib.Core.List.{List}
-use mathlib.Core.Path.{_≡_, refl, sym, ap, _∙_, subst}
+use mathlib.Core.Path.{_≡_, sym, ap, _∙_, subst}
 use lib.ListN.{length, take, drop, length-append}
 use Rattle.flow.specs.declared.Refusal.{Refusal}
-use Rattle.format.specs.Format.{Entry}
-use Rattle.format.specs.Plan.{Ran, got, bad, run}
-use Rattle.format.specs.Sections.{names}
-use Rattle.format.specs.Told.{refusal-of}
+use Rattle.format.specs.Told.{at-front}
 use Rattle.reader.specs.declared.Reading.{Reading}
 use Rattle.reader.specs.declared.Reading.the-variants as read
 use Rattle.reader.specs.Reading.{Outcome, reading}
@@ -17,30 +14,10 @@ use Rattle.writer.specs.declared.Writing.{Writing}
 use Rattle.writer.specs.declared.Writing.the-variants.{Written, Refused}
 use Rattle.writer.specs.Writing.{WrittenAs}
 use Rattle.writer.specs.WriterLaws.{written-lists}
-use Rattle.program.specs.Rewriting.{Copy, refused-copy, written-again, copied, rewriting, FileRewritten}
-use Rattle.program.specs.Copying.{Copies, TablesRewritten, WithinRoom}
+use Rattle.program.specs.FileNames.{names-of}
+use Rattle.program.specs.Rewriting.{Copy, refused-copy, copied, rewriting, FileRewritten}
+use Rattle.program.specs.Copying.{WithinRoom}
 use Rattle.program.specs.ProgramLaws.{Held}
-
----- Copies ----
-
-module _ {out out′ : List ℕ} {r : Writing} where
-  copies-by : {k m : Copy} → k ≡ m → Copies m out out′ r → Copies k out out′ r
-  copies-by e h = subst (λ (p : Copy). Copies p out out′ r) (sym e) h
-
-  as-rewritten : {file : List ℕ} → Copies (rewriting file (length out)) out out′ r → FileRewritten file out out′ r
-  as-rewritten h = record { answer = h .answer; out-after = h .out-after }
-
----- The names section, nodes and records ----
-
-module _ (file ns rs : List ℕ) {out : List ℕ} where
-  pub again-refused : {r : Refusal} → run file 0 names ≡ bad (r .number) (r .place) → TablesRewritten file ns rs out out (Refused r)
-  unfolding written-again
-  again-refused e = copies-by (ap (written-again file (length out) ns rs) e) (record { answer = refl; out-after = refl })
-
-  pub again-written : {es : List Entry} {at : ℕ} {out′ : List ℕ} {r : Writing} → run file 0 names ≡ got es at
-      → WrittenAs (take at file) ns rs out out′ r → TablesRewritten file ns rs out out′ r
-  unfolding written-again
-  again-written e w = copies-by (ap (written-again file (length out) ns rs) e) (record { answer = w .answer; out-after = w .file-after })
 
 ---- The file, by what the reader answered ----
 
@@ -50,12 +27,15 @@ module _ {file out : List ℕ} where
   refused-rewritten e =
       let o = reading file 192 256 in
       let k = ap (λ (a : Reading). copied file (length out) a (o .nodes) (o .records)) e in
-      as-rewritten (copies-by k (record { answer = refl; out-after = refl }))
+      record { answer = sym (ap (λ (c : Copy). c .answer) k); out-after = sym (ap (λ (c : Copy). at-front (c .bytes) out) k) }
 
   pub held-rewritten : {nodes′ records′ out′ : List ℕ} {n k : ℕ} {r : Writing} → Held file nodes′ records′ n k
-      → TablesRewritten file (take n nodes′) (take k records′) out out′ r → FileRewritten file out out′ r
+      → {s : List ℕ} → s ≡ names-of file → WrittenAs s (take n nodes′) (take k records′) out out′ r → FileRewritten file out out′ r
   unfolding rewriting copied
-  held-rewritten h w = as-rewritten (copies-by (ap (λ (p : Outcome). copied file (length out) (p .answer) (p .nodes) (p .records)) (h .outcome)) w)
+  held-rewritten {nodes′} {records′} {out′} {n} {k} {r} h e v =
+      let w = subst (λ (s : List ℕ). WrittenAs s (take n nodes′) (take k records′) out out′ r) e v in
+      let o = ap (λ (p : Outcome). copied file (length out) (p .answer) (p .nodes) (p .records)) (h .outcome) in
+      record { answer = w .answer ∙ sym (ap (λ (c : Copy). c .answer) o); out-after = w .file-after ∙ sym (ap (λ (c : Copy). at-front (c .bytes) out) o) }
 
 ---- How much is written ----
 
@@ -68,18 +48,13 @@ unfolding Sized
 refused-sized r e h = let z : _≡_ {A = ℕ} 0 1 = cc in absurd (omega arith)
 
 module _ (file : List ℕ) (room : ℕ) where
-  again-sized : (ns rs : List ℕ) (x : Ran (List Entry)) → Sized (written-again file room ns rs x)
-  unfolding Sized written-again
-  again-sized ns rs (got es at) e h = let w = written-lists (take at file) ns rs room h in w .sized ∙ ap length (sym (w .first))
-  again-sized ns rs (bad n p) e h = refused-sized (refusal-of n p) e h
-
   rewriting-sized : Sized (rewriting file room)
-  unfolding rewriting copied
+  unfolding rewriting copied Sized
   rewriting-sized = by (reading file 192 256 .answer) (reading file 192 256 .nodes) (reading file 192 256 .records)
     where
       by : (a : Reading) (ns rs : List ℕ) → Sized (copied file room a ns rs)
       by (read.Refused r) ns rs = refused-sized r
-      by (read.Read c) ns rs = again-sized ns rs (run file 0 names)
+      by (read.Read c) ns rs = λ e h. let w = written-lists (names-of file) ns rs room h in w .sized ∙ ap length (sym (w .first))
 
 pub rewritten-within : {file out out′ : List ℕ} {r : Writing} → FileRewritten file out out′ r → WithinRoom out′ r
 unfolding Sized

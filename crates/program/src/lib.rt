@@ -1,5 +1,5 @@
-// A flow file judged as the program judges it, and the line that the program prints: specs/Program.antt defines both. A flow file read
-// and written again: what comes of it is defined in specs/Rewriting.antt.
+// A flow file judged by its own names as the program judges it, and the line that the program prints: specs/Answering.antt and
+// Program.antt define both. A flow file read and written again: what comes of it is defined in specs/Rewriting.antt.
 use format::Item;
 use judge::Answer;
 use line::Line;
@@ -8,10 +8,12 @@ use reader::Reading;
 use writer::Writing;
 ghost use mathlib.Core.Path.{_≡_};
 ghost use Rattle.io.specs.Counts.{Counts};
-ghost use Rattle.judge.specs.Judged.{judged};
-ghost use Rattle.program.specs.Program.{states-allowed, work-lent, FileAnswered, AnswerTold, FilePrinted};
+ghost use Rattle.judge.specs.Judged.{judged-named};
+ghost use Rattle.program.specs.Program.{states-allowed, work-lent};
+ghost use Rattle.program.specs.FileNames.{names-of};
+ghost use Rattle.program.specs.Answering.{FileAnswered, AnswerTold, FilePrinted};
 ghost use Rattle.program.specs.Rewriting.{FileRewritten};
-ghost use Rattle.program.specs.Copying.{TablesRewritten, WithinRoom};
+ghost use Rattle.program.specs.Copying.{WithinRoom};
 
 // "allows 1,000,000 states"
 const ALLOWANCE: u32 = 1000000;
@@ -22,12 +24,24 @@ fn wide(x: u16) -> usize
     x as usize
 }
 
-// The tables judged with work bytes for the largest flow.
-fn judge_tables(nodes: &[u16], records: &[u16]) -> Answer
-    ensures { λ r. ⌜ r ≡ judged (now (nodes .entry)) (now (records .entry)) work-lent states-allowed ⌝ }
+// The file's names section, to be handed on: its first bytes, as far as a scan goes.
+fn names_of(file: &[u8]) -> &[u8]
+    ensures { λ r. ⌜ now r ≡ names-of (now (file .entry)) ⌝ }
+{
+    let names = format::scan_names(file);
+    let Item::Has(got) = names else {
+        return &file[..0];
+    };
+    let at = got.next.at;
+    &file[..at]
+}
+
+// The tables judged by these names, with work bytes for the largest flow.
+fn judge_tables(names: &[u8], nodes: &[u16], records: &[u16]) -> Answer
+    ensures { λ r. ⌜ r ≡ judged-named (now (names .entry)) (now (nodes .entry)) (now (records .entry)) work-lent states-allowed ⌝ }
 {
     let mut work = [0u8; 32896];
-    judge::judge(nodes, records, &mut work, ALLOWANCE)
+    judge::judge_named(names, nodes, records, &mut work, ALLOWANCE)
 }
 
 // Reads the file, and judges what it holds.
@@ -40,7 +54,7 @@ pub fn judge_file(file: &[u8]) -> Answer
         Reading::Read(counts) => {
             let n = 3 * wide(counts.nodes);
             let k = wide(counts.records);
-            judge_tables(&nodes[..n], &records[..k])
+            judge_tables(names_of(file), &nodes[..n], &records[..k])
         }
         Reading::Refused(r) => Answer::Refused(r),
     }
@@ -86,18 +100,6 @@ pub fn write_file_line(file: &[u8], out: &mut [u8; 64]) -> usize
     line::write_line(line_for(judge_file(file)), out)
 }
 
-// The file's own names section with these nodes and records, written into the lent bytes.
-fn rewrite_tables(file: &[u8], nodes: &[u16], records: &[u16], out: &mut [u8]) -> Writing
-    ensures { λ r. ⌜ TablesRewritten (now (file .entry)) (now (nodes .entry)) (now (records .entry)) (now (out .entry)) (now (out .exit)) r ⌝ }
-{
-    let names = format::scan_names(file);
-    let Item::Has(got) = names else {
-        return Writing::Refused(format::refusal_in(names));
-    };
-    let at = got.next.at;
-    writer::write(&file[..at], nodes, records, out)
-}
-
 // Reads the file, and writes what it holds at the front of the lent bytes, whose rest stays; or a refusal, and all stay.
 pub fn rewrite_file(file: &[u8], out: &mut [u8]) -> Writing
     ensures { λ r. ⌜ FileRewritten (now (file .entry)) (now (out .entry)) (now (out .exit)) r ⌝ }
@@ -109,7 +111,7 @@ pub fn rewrite_file(file: &[u8], out: &mut [u8]) -> Writing
         Reading::Read(counts) => {
             let n = 3 * wide(counts.nodes);
             let k = wide(counts.records);
-            rewrite_tables(file, &nodes[..n], &records[..k], out)
+            writer::write(names_of(file), &nodes[..n], &records[..k], out)
         }
         Reading::Refused(r) => Writing::Refused(r),
     }

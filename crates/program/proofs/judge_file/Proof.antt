@@ -10,11 +10,12 @@ use Rattle.program.proofs.judge_file.Tie as tie
 use Rattle.program.proofs.judge_file.Reads as reads
 use Rattle.program.proofs.judge_file.Lts as lts
 use Rattle.program.proofs.judge_tables.Reads as judge-tables-reads
+use Rattle.program.proofs.names_of.Reads as names-of-reads
 use Rattle.program.proofs.wide.Reads as wide-reads
 use Rattle.reader.proofs.read.Reads as read-reads
 
 -- the tables hold what the reader read
-held : (c : lts.After-wide2 (read-reads.Asked, read-reads.Learnt, wide-reads.Asked, wide-reads.Learnt, judge-tables-reads.Asked, judge-tables-reads.Learnt) reads.Pre reads.Post)
+held : (c : lts.After-wide2 (read-reads.Asked, read-reads.Learnt, wide-reads.Asked, wide-reads.Learnt, names-of-reads.Asked, names-of-reads.Learnt, judge-tables-reads.Asked, judge-tables-reads.Learnt) reads.Pre reads.Post)
     → Held (now (c .before .before .before .before .before .before .before .before .before .before .before .args .file)) (c .before .before .before .before .before .before .before .read .last .1 .0) (c .before .before .before .before .before .before .before .read .last .1 .1 .0) (3 * c .before .wide .result) (c .wide2 .result)
 held c = file-read refl refl (c .before .before .before .before .before .before .before .read .ensures) (c .before .before .before .counts .given .1) (ap (λ (n : ℕ). 3 * n) (c .before .wide .ensures)) (c .wide2 .ensures)
 
@@ -39,17 +40,20 @@ mul-n c = search needs
 wide-requires-2 : tie.Need-wide-requires-2
 wide-requires-2 c κs = search needs
 
+names-of-requires : tie.Need-names-of-requires
+names-of-requires c κs = search needs
+
 array-share-prefix-nodes : tie.Need-array-share-prefix-nodes
-array-share-prefix-nodes c = held c .nodes-inside
+array-share-prefix-nodes c = held (c .before) .nodes-inside
 
 slice-aggregate-judge-tables : tie.Need-slice-aggregate-judge-tables
-slice-aggregate-judge-tables c = sym (length-take-le _ _ (held (c .before) .nodes-inside))
+slice-aggregate-judge-tables c = sym (length-take-le _ _ (held (c .before .before) .nodes-inside))
 
 array-share-prefix-records : tie.Need-array-share-prefix-records
-array-share-prefix-records c = held (c .before) .records-inside
+array-share-prefix-records c = held (c .before .before) .records-inside
 
 slice-aggregate-judge-tables-2 : tie.Need-slice-aggregate-judge-tables-2
-slice-aggregate-judge-tables-2 c = sym (length-take-le _ _ (held (c .before .before) .records-inside))
+slice-aggregate-judge-tables-2 c = sym (length-take-le _ _ (held (c .before .before .before) .records-inside))
 
 judge-tables-requires : tie.Need-judge-tables-requires
 judge-tables-requires c κs = search needs
@@ -58,7 +62,7 @@ enum-known-r : tie.Need-enum-known-r
 enum-known-r c = search needs
 
 returns : tie.Need-returns
-returns c = c .judge-tables .ensures ∙ held-answered _ (held (c .before .before .before))
+returns c = c .judge-tables .ensures ∙ held-answered _ (held (c .before .before .before .before)) (c .before .before .before .names-of .ensures)
 
 returns-2 : tie.Need-returns-2
 returns-2 c = refused-answered _ (file-refused refl refl (c .before .before .before .before .before .read .ensures) (c .before .r .given .1))
@@ -74,6 +78,7 @@ judge-file-spec =
     wide-requires
     mul-n
     wide-requires-2
+    names-of-requires
     array-share-prefix-nodes
     slice-aggregate-judge-tables
     array-share-prefix-records

@@ -3,14 +3,14 @@ use borrow.Author.Needs.{needs}
 use Rattle.program.proofs.judge_tables.Statement.{statement}
 use Rattle.program.proofs.judge_tables.Tie as tie
 
-slice-aggregate-judge : tie.Need-slice-aggregate-judge
-slice-aggregate-judge c = search needs
+slice-aggregate-judge-named : tie.Need-slice-aggregate-judge-named
+slice-aggregate-judge-named c = search needs
 
-judge-requires : tie.Need-judge-requires
-judge-requires c κs = search needs
+judge-named-requires : tie.Need-judge-named-requires
+judge-named-requires c κs = search needs
 
 returns : tie.Need-returns
-returns c = c .before .judge .ensures .answers
+returns c = c .before .judge-named .ensures .answers
 
 pub judge-tables-spec : {M : Type 1} → statement M
-judge-tables-spec = tie.close (tie.spec slice-aggregate-judge judge-requires returns)
+judge-tables-spec = tie.close (tie.spec slice-aggregate-judge-named judge-named-requires returns)

@@ -10,12 +10,13 @@ use Rattle.program.proofs.rewrite_file.Statement.{statement}
 use Rattle.program.proofs.rewrite_file.Tie as tie
 use Rattle.program.proofs.rewrite_file.Reads as reads
 use Rattle.program.proofs.rewrite_file.Lts as lts
-use Rattle.program.proofs.rewrite_tables.Reads as rewrite-tables-reads
+use Rattle.program.proofs.names_of.Reads as names-of-reads
 use Rattle.program.proofs.wide.Reads as wide-reads
 use Rattle.reader.proofs.read.Reads as read-reads
+use Rattle.writer.proofs.write.Reads as write-reads
 
 -- the tables hold what the reader read
-held : (c : lts.After-wide2 (read-reads.Asked, read-reads.Learnt, wide-reads.Asked, wide-reads.Learnt, rewrite-tables-reads.Asked, rewrite-tables-reads.Learnt) reads.Pre reads.Post)
+held : (c : lts.After-wide2 (read-reads.Asked, read-reads.Learnt, wide-reads.Asked, wide-reads.Learnt, names-of-reads.Asked, names-of-reads.Learnt, write-reads.Asked, write-reads.Learnt) reads.Pre reads.Post)
     → Held (now (c .before .before .before .before .before .before .before .before .before .before .before .before .args .file)) (c .before .before .before .before .before .before .before .read .last .1 .0) (c .before .before .before .before .before .before .before .read .last .1 .1 .0) (3 * c .before .wide .result) (c .wide2 .result)
 held c = file-read refl refl (c .before .before .before .before .before .before .before .read .ensures) (c .before .before .before .counts .given .1) (ap (λ (n : ℕ). 3 * n) (c .before .wide .ensures)) (c .wide2 .ensures)
 
@@ -40,20 +41,23 @@ mul-n c = search needs
 wide-requires-2 : tie.Need-wide-requires-2
 wide-requires-2 c κs = search needs
 
-array-share-prefix-nodes : tie.Need-array-share-prefix-nodes
-array-share-prefix-nodes c = held c .nodes-inside
+names-of-requires : tie.Need-names-of-requires
+names-of-requires c κs = search needs
 
-slice-aggregate-rewrite-tables : tie.Need-slice-aggregate-rewrite-tables
-slice-aggregate-rewrite-tables c = sym (length-take-le _ _ (held (c .before) .nodes-inside))
+array-share-prefix-nodes : tie.Need-array-share-prefix-nodes
+array-share-prefix-nodes c = held (c .before) .nodes-inside
+
+slice-aggregate-write : tie.Need-slice-aggregate-write
+slice-aggregate-write c = sym (length-take-le _ _ (held (c .before .before) .nodes-inside))
 
 array-share-prefix-records : tie.Need-array-share-prefix-records
-array-share-prefix-records c = held (c .before) .records-inside
+array-share-prefix-records c = held (c .before .before) .records-inside
 
-slice-aggregate-rewrite-tables-2 : tie.Need-slice-aggregate-rewrite-tables-2
-slice-aggregate-rewrite-tables-2 c = sym (length-take-le _ _ (held (c .before .before) .records-inside))
+slice-aggregate-write-2 : tie.Need-slice-aggregate-write-2
+slice-aggregate-write-2 c = sym (length-take-le _ _ (held (c .before .before .before) .records-inside))
 
-rewrite-tables-requires : tie.Need-rewrite-tables-requires
-rewrite-tables-requires c κs = search needs
+write-requires : tie.Need-write-requires
+write-requires c κs = search needs
 
 enum-known-r : tie.Need-enum-known-r
 enum-known-r c = search needs
@@ -63,7 +67,7 @@ same-length c = search needs
 
 returns : tie.Need-returns
 returns c =
-    let h = held-rewritten (held (c .before .before .before .before .before .before)) (c .before .before .rewrite-tables .ensures) in
+    let h = held-rewritten (held (c .before .before .before .before .before .before .before)) (c .before .before .before .before .before .before .names-of .ensures) (c .before .before .write .ensures) in
     (h, rewritten-within h)
 
 returns-2 : tie.Need-returns-2
@@ -82,11 +86,12 @@ rewrite-file-spec =
     wide-requires
     mul-n
     wide-requires-2
+    names-of-requires
     array-share-prefix-nodes
-    slice-aggregate-rewrite-tables
+    slice-aggregate-write
     array-share-prefix-records
-    slice-aggregate-rewrite-tables-2
-    rewrite-tables-requires
+    slice-aggregate-write-2
+    write-requires
     enum-known-r
     same-length
     returns

@@ -1,7 +1,8 @@
 -- `program::write_file_line` meets its contract: the line of the answer to the file. Assumes nothing.
 use mathlib.Core.Path.{ap, _∙_}
 use borrow.Author.Needs.{needs}
-use Rattle.program.specs.Program.{line-for, printed}
+use Rattle.program.specs.Program.{line-for}
+use Rattle.program.specs.Answering.{printed}
 use Rattle.program.proofs.write_file_line.Statement.{statement}
 use Rattle.program.proofs.write_file_line.Tie as tie
 
