@@ -98,6 +98,11 @@ impl Drawing {
         1 + self.parts.iter().map(Drawing::size).sum::<usize>()
     }
 
+    /// How many leaves of this kind it has.
+    pub fn leaves(&self, kind: u16) -> usize {
+        (self.kind == kind) as usize + self.parts.iter().map(|part| part.leaves(kind)).sum::<usize>()
+    }
+
     /// The way to every part, the whole first: which part to go to at each node.
     pub fn paths(&self) -> Vec<Vec<usize>> {
         let mut all = vec![vec![]];

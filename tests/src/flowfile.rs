@@ -36,6 +36,11 @@ pub fn entry(step: &str, machine: &str) -> Entry {
     (step.as_bytes().to_vec(), machine.as_bytes().to_vec())
 }
 
+/// A names section, its count included.
+pub fn section_of(names: &[Entry]) -> Vec<u8> {
+    FlowFile { names: names.to_vec(), nodes: vec![], records: vec![] }.names_section()
+}
+
 impl FlowFile {
     pub fn bytes(&self) -> Vec<u8> {
         self.items().into_iter().flat_map(|item| item.bytes).collect()

@@ -2,10 +2,11 @@
 //! of them: before compensations are gone through it is worked out which of them can lead anywhere. So a
 //! block with 2 to the 31 compensations, none of which steps by the record, costs no more than another.
 //!
-//! For that a term is described by its outlook: whether it steps by the event in question, and how it can
+//! For that a term is described by its outlook: whether it steps by the record in question, and how it can
 //! end. The outlook of P;Q, P▷Q, a choice or a parallel follows from the outlooks of its two parts, so the
 //! outlooks that occur among many compensations are a set of at most sixteen.
 
+use crate::matching::{Asked, Matching};
 use crate::term::*;
 use std::ops::ControlFlow::{self, Continue};
 use std::rc::Rc;
@@ -16,26 +17,25 @@ pub type Visit = ControlFlow<()>;
 type Each<'a, T> = &'a mut dyn FnMut(T) -> Visit;
 
 /// Calls `each` with the successors of a state by the next record, in order.
-pub fn successors(state: &State, record: u16, each: Each<State>) -> Visit {
+pub fn successors(state: &State, matching: &Matching, record: u16, each: Each<State>) -> Visit {
+    // A closing, which no leaf takes, is asked about in the same way.
+    let asked = Asked { matching, record };
     match (state, Closing::of_record(record)) {
         (State::NothingLeft, _) => Continue(()),
-        (State::Standard(p), None) => steps(p, record, &mut |p| each(State::Standard(p))),
-        (State::Compensable(pp), None) => comp_steps(pp, record, &mut |pp| each(State::Compensable(pp))),
-        (State::Standard(p), Some(by)) if outlook(p, NO_EVENT).ends[by as usize] => each(State::NothingLeft),
+        (State::Standard(p), None) => steps(p, asked, &mut |p| each(State::Standard(p))),
+        (State::Compensable(pp), None) => comp_steps(pp, asked, &mut |pp| each(State::Compensable(pp))),
+        (State::Standard(p), Some(by)) if outlook(p, asked).ends[by as usize] => each(State::NothingLeft),
         (State::Standard(_), Some(_)) => Continue(()),
         (State::Compensable(pp), Some(by)) => {
-            compensations(pp, by, NO_EVENT, Outlooks::ALL, &mut |r, _| each(State::Standard(r)))
+            compensations(pp, by, asked, Outlooks::ALL, &mut |r, _| each(State::Standard(r)))
         }
     }
 }
 
 /// Is there a successor at all?
-pub fn possible(state: &State, record: u16) -> bool {
-    successors(state, record, &mut |_| ControlFlow::Break(())).is_break()
+pub fn possible(state: &State, matching: &Matching, record: u16) -> bool {
+    successors(state, matching, record, &mut |_| ControlFlow::Break(())).is_break()
 }
-
-/// No node has this event.
-const NO_EVENT: u16 = 0;
 
 // ---- outlooks ----
 
@@ -140,18 +140,18 @@ impl Outlooks {
     }
 }
 
-fn outlook(p: &Std, event: u16) -> Outlook {
+fn outlook(p: &Std, asked: Asked) -> Outlook {
     match &**p {
-        Standard::Event(e) => Outlook { steps: *e == event, ends: [false; 3] },
+        Standard::Event(e) => Outlook { steps: asked.is_taken_by(*e), ends: [false; 3] },
         Standard::Skip => Outlook::ending(&[Done]),
         Standard::Throw => Outlook::ending(&[Failed]),
         Standard::Yield => Outlook::ending(&[Done, Withdrawn]),
-        Standard::Seq(p, q) => outlook(p, event).then(Done, outlook(q, event)),
-        Standard::Handler(p, q) => outlook(p, event).then(Failed, outlook(q, event)),
-        Standard::Choice(p, q) => outlook(p, event).or(outlook(q, event)),
-        Standard::Parallel(p, q) => outlook(p, event).beside(outlook(q, event)),
+        Standard::Seq(p, q) => outlook(p, asked).then(Done, outlook(q, asked)),
+        Standard::Handler(p, q) => outlook(p, asked).then(Failed, outlook(q, asked)),
+        Standard::Choice(p, q) => outlook(p, asked).or(outlook(q, asked)),
+        Standard::Parallel(p, q) => outlook(p, asked).beside(outlook(q, asked)),
         Standard::Block(pp) => {
-            let inside = prospect(pp, event);
+            let inside = prospect(pp, asked);
             let undone = inside.left_by(Failed).iter().fold(Outlook::NOTHING, Outlook::or);
             let forward =
                 Outlook { steps: inside.steps, ends: [!inside.left_by(Done).is_empty(), false, false] };
@@ -160,7 +160,7 @@ fn outlook(p: &Std, event: u16) -> Outlook {
     }
 }
 
-/// What a compensable term can do: whether it steps by the event, and the outlooks of the compensations
+/// What a compensable term can do: whether it steps by the record, and the outlooks of the compensations
 /// that it leaves by each closing.
 struct Prospect {
     steps: bool,
@@ -194,15 +194,15 @@ fn undone_after(q: Outlook, r: Outlook) -> Outlook {
     q.then(Done, r)
 }
 
-fn prospect(pp: &Comp, event: u16) -> Prospect {
+fn prospect(pp: &Comp, asked: Asked) -> Prospect {
     let skip = Outlook::ending(&[Done]);
     match &**pp {
-        Compensable::Pair(p, q) => Prospect::of_pair(outlook(p, event), outlook(q, event)),
+        Compensable::Pair(p, q) => Prospect::of_pair(outlook(p, asked), outlook(q, asked)),
         Compensable::Skipp => Prospect::of_pair(skip, skip),
         Compensable::Throww => Prospect::of_pair(Outlook::ending(&[Failed]), skip),
         Compensable::Yieldd => Prospect::of_pair(Outlook::ending(&[Done, Withdrawn]), skip),
         Compensable::Seq(pp, qq) => {
-            let (a, b) = (prospect(pp, event), prospect(qq, event));
+            let (a, b) = (prospect(pp, asked), prospect(qq, asked));
             let r = a.left_by(Done);
             let combined = |by: Closing| b.left_by(by).product(r, undone_after);
             Prospect {
@@ -215,13 +215,13 @@ fn prospect(pp: &Comp, event: u16) -> Prospect {
             }
         }
         Compensable::Choice(pp, qq) => {
-            let (a, b) = (prospect(pp, event), prospect(qq, event));
+            let (a, b) = (prospect(pp, asked), prospect(qq, asked));
             let mut both = Prospect { steps: a.steps || b.steps, left: a.left };
             (0..3).for_each(|by| both.left[by] = both.left[by].with(b.left[by]));
             both
         }
         Compensable::Parallel(pp, qq) => {
-            let (a, b) = (prospect(pp, event), prospect(qq, event));
+            let (a, b) = (prospect(pp, asked), prospect(qq, asked));
             let mut both = Prospect { steps: a.steps || b.steps, left: [Outlooks::NONE; 3] };
             for x in CLOSINGS {
                 for y in CLOSINGS {
@@ -233,7 +233,7 @@ fn prospect(pp: &Comp, event: u16) -> Prospect {
             both
         }
         Compensable::Held(qq, r) => {
-            let (b, r) = (prospect(qq, event), Outlooks::one(outlook(r, event)));
+            let (b, r) = (prospect(qq, asked), Outlooks::one(outlook(r, asked)));
             Prospect { steps: b.steps, left: b.left.map(|q| q.product(r, undone_after)) }
         }
     }
@@ -241,62 +241,62 @@ fn prospect(pp: &Comp, event: u16) -> Prospect {
 
 // ---- the lists of rules.rs, one by one ----
 
-fn steps(p: &Std, event: u16, each: Each<Std>) -> Visit {
+fn steps(p: &Std, asked: Asked, each: Each<Std>) -> Visit {
     match &**p {
-        Standard::Event(e) if *e == event => each(skip()),
+        Standard::Event(e) if asked.is_taken_by(*e) => each(skip()),
         Standard::Event(_) | Standard::Skip | Standard::Throw | Standard::Yield => Continue(()),
         Standard::Seq(p, q) => {
-            steps(p, event, &mut |p| each(seq(p, q.clone())))?;
-            if outlook(p, event).ends[Done as usize] {
-                steps(q, event, each)?;
+            steps(p, asked, &mut |p| each(seq(p, q.clone())))?;
+            if outlook(p, asked).ends[Done as usize] {
+                steps(q, asked, each)?;
             }
             Continue(())
         }
         Standard::Handler(p, q) => {
-            steps(p, event, &mut |p| each(Rc::new(Standard::Handler(p, q.clone()))))?;
-            if outlook(p, event).ends[Failed as usize] {
-                steps(q, event, each)?;
+            steps(p, asked, &mut |p| each(Rc::new(Standard::Handler(p, q.clone()))))?;
+            if outlook(p, asked).ends[Failed as usize] {
+                steps(q, asked, each)?;
             }
             Continue(())
         }
         Standard::Choice(p, q) => {
-            steps(p, event, each)?;
-            steps(q, event, each)
+            steps(p, asked, each)?;
+            steps(q, asked, each)
         }
         Standard::Parallel(p, q) => {
-            steps(p, event, &mut |p| each(parallel(p, q.clone())))?;
-            steps(q, event, &mut |q| each(parallel(p.clone(), q)))
+            steps(p, asked, &mut |p| each(parallel(p, q.clone())))?;
+            steps(q, asked, &mut |q| each(parallel(p.clone(), q)))
         }
         Standard::Block(pp) => {
-            comp_steps(pp, event, &mut |pp| each(Rc::new(Standard::Block(pp))))?;
+            comp_steps(pp, asked, &mut |pp| each(Rc::new(Standard::Block(pp))))?;
             let stepping = Outlooks::ALL.filter(|o| o.steps);
-            compensations(pp, Failed, event, stepping, &mut |r, _| steps(&r, event, each))
+            compensations(pp, Failed, asked, stepping, &mut |r, _| steps(&r, asked, each))
         }
     }
 }
 
-fn comp_steps(pp: &Comp, event: u16, each: Each<Comp>) -> Visit {
+fn comp_steps(pp: &Comp, asked: Asked, each: Each<Comp>) -> Visit {
     match &**pp {
-        Compensable::Pair(p, q) => steps(p, event, &mut |p| each(Rc::new(Compensable::Pair(p, q.clone())))),
+        Compensable::Pair(p, q) => steps(p, asked, &mut |p| each(Rc::new(Compensable::Pair(p, q.clone())))),
         Compensable::Skipp | Compensable::Throww | Compensable::Yieldd => Continue(()),
         Compensable::Seq(pp, qq) => {
-            comp_steps(pp, event, &mut |pp| each(Rc::new(Compensable::Seq(pp, qq.clone()))))?;
-            if !prospect(qq, event).steps {
+            comp_steps(pp, asked, &mut |pp| each(Rc::new(Compensable::Seq(pp, qq.clone()))))?;
+            if !prospect(qq, asked).steps {
                 return Continue(());
             }
-            compensations(pp, Done, event, Outlooks::ALL, &mut |r, _| {
-                comp_steps(qq, event, &mut |qq| each(held(qq, r.clone())))
+            compensations(pp, Done, asked, Outlooks::ALL, &mut |r, _| {
+                comp_steps(qq, asked, &mut |qq| each(held(qq, r.clone())))
             })
         }
         Compensable::Choice(pp, qq) => {
-            comp_steps(pp, event, each)?;
-            comp_steps(qq, event, each)
+            comp_steps(pp, asked, each)?;
+            comp_steps(qq, asked, each)
         }
         Compensable::Parallel(pp, qq) => {
-            comp_steps(pp, event, &mut |pp| each(Rc::new(Compensable::Parallel(pp, qq.clone()))))?;
-            comp_steps(qq, event, &mut |qq| each(Rc::new(Compensable::Parallel(pp.clone(), qq))))
+            comp_steps(pp, asked, &mut |pp| each(Rc::new(Compensable::Parallel(pp, qq.clone()))))?;
+            comp_steps(qq, asked, &mut |qq| each(Rc::new(Compensable::Parallel(pp.clone(), qq))))
         }
-        Compensable::Held(qq, r) => comp_steps(qq, event, &mut |qq| each(held(qq, r.clone()))),
+        Compensable::Held(qq, r) => comp_steps(qq, asked, &mut |qq| each(held(qq, r.clone()))),
     }
 }
 
@@ -305,7 +305,7 @@ fn comp_steps(pp: &Comp, event: u16, each: Each<Comp>) -> Visit {
 fn compensations(
     pp: &Comp,
     by: Closing,
-    event: u16,
+    asked: Asked,
     wanted: Outlooks,
     each: &mut dyn FnMut(Std, Outlook) -> Visit,
 ) -> Visit {
@@ -314,7 +314,7 @@ fn compensations(
     }
     let mut pair = |forward: Outlook, undo: &Std| {
         let left = if by == Done { undo.clone() } else { skip() };
-        let o = outlook(&left, event);
+        let o = outlook(&left, asked);
         if forward.ends[by as usize] && wanted.has(o) {
             each(left, o)
         } else {
@@ -322,45 +322,45 @@ fn compensations(
         }
     };
     match &**pp {
-        Compensable::Pair(p, q) => pair(outlook(p, event), q),
+        Compensable::Pair(p, q) => pair(outlook(p, asked), q),
         Compensable::Skipp => pair(Outlook::ending(&[Done]), &skip()),
         Compensable::Throww => pair(Outlook::ending(&[Failed]), &skip()),
         Compensable::Yieldd => pair(Outlook::ending(&[Done, Withdrawn]), &skip()),
         Compensable::Choice(pp, qq) => {
-            compensations(pp, by, event, wanted, each)?;
-            compensations(qq, by, event, wanted, each)
+            compensations(pp, by, asked, wanted, each)?;
+            compensations(qq, by, asked, wanted, each)
         }
         Compensable::Held(qq, r) => {
-            let or = outlook(r, event);
+            let or = outlook(r, asked);
             let wanted_of_q = Outlooks::ALL.filter(|oq| wanted.has(undone_after(oq, or)));
-            compensations(qq, by, event, wanted_of_q, &mut |q, oq| {
+            compensations(qq, by, asked, wanted_of_q, &mut |q, oq| {
                 each(seq(q, r.clone()), undone_after(oq, or))
             })
         }
         Compensable::Seq(pp, qq) => {
             if by != Done {
-                compensations(pp, by, event, wanted, each)?;
+                compensations(pp, by, asked, wanted, each)?;
             }
-            let second = prospect(qq, event).left_by(by);
+            let second = prospect(qq, asked).left_by(by);
             let completes = |or: Outlook| second.filter(|oq| wanted.has(undone_after(oq, or)));
             let wanted_of_r = Outlooks::ALL.filter(|or| !completes(or).is_empty());
-            compensations(pp, Done, event, wanted_of_r, &mut |r, or| {
-                compensations(qq, by, event, completes(or), &mut |q, oq| {
+            compensations(pp, Done, asked, wanted_of_r, &mut |r, or| {
+                compensations(qq, by, asked, completes(or), &mut |q, oq| {
                     each(seq(q, r.clone()), undone_after(oq, or))
                 })
             })
         }
         Compensable::Parallel(pp, qq) => {
-            let second = prospect(qq, event);
+            let second = prospect(qq, asked);
             let completes =
                 |op: Outlook, y: Closing| second.left_by(y).filter(|oq| wanted.has(op.beside(oq)));
             for x in CLOSINGS {
                 let partners: Vec<Closing> = CLOSINGS.into_iter().filter(|&y| x.join(y) == by).collect();
                 let wanted_of_p =
                     Outlooks::ALL.filter(|op| partners.iter().any(|&y| !completes(op, y).is_empty()));
-                compensations(pp, x, event, wanted_of_p, &mut |p, op| {
+                compensations(pp, x, asked, wanted_of_p, &mut |p, op| {
                     for &y in &partners {
-                        compensations(qq, y, event, completes(op, y), &mut |q, oq| {
+                        compensations(qq, y, asked, completes(op, y), &mut |q, oq| {
                             each(parallel(p.clone(), q), op.beside(oq))
                         })?;
                     }

@@ -2,7 +2,9 @@
 //! that was gone through without finding an end is only counted when it comes again.
 
 use crate::guided::{self, Visit};
-use crate::refusals::{judge_checks, Refusal};
+use crate::matching::Matching;
+use crate::reader::lent_lists;
+use crate::refusals::{judge_checks, work_length, work_wanted, Refusal};
 use crate::rules;
 use crate::term::{root, State};
 use std::collections::HashMap;
@@ -32,52 +34,102 @@ impl fmt::Display for Answer {
 
 /// The judge of document 01. Deep flows want room on the stack: see `with_deep_stack`.
 pub fn judge(nodes: &[u16], records: &[u16], work_len: usize, allowance: u32) -> Answer {
-    judge_within(u32::MAX, nodes, records, work_len, allowance)
-        .expect("no search enters more than its allowance")
+    Lent { names: None, nodes, records, work_len, allowance }.judged()
 }
 
-/// The same, but None where more states than `patience` would have to be entered to know.
-pub fn judge_within(
-    patience: u32,
-    nodes: &[u16],
-    records: &[u16],
-    work_len: usize,
-    allowance: u32,
-) -> Option<Answer> {
-    if let Err(refusal) = judge_checks(nodes, records, work_len) {
-        return Some(Answer::Refused(refusal));
+/// The same, lent a names section too: request Two of document 02.
+pub fn judge_named(names: &[u8], nodes: &[u16], records: &[u16], work_len: usize, allowance: u32) -> Answer {
+    Lent { names: Some(names), nodes, records, work_len, allowance }.judged()
+}
+
+/// What a judge is called with. Without names it is the judge of document 01, "unchanged".
+#[derive(Clone, Copy, Debug)]
+pub struct Lent<'a> {
+    pub names: Option<&'a [u8]>,
+    pub nodes: &'a [u16],
+    pub records: &'a [u16],
+    pub work_len: usize,
+    pub allowance: u32,
+}
+
+impl<'a> Lent<'a> {
+    /// With just the work bytes that are wanted.
+    pub fn enough(names: Option<&'a [u8]>, nodes: &'a [u16], records: &'a [u16], allowance: u32) -> Lent<'a> {
+        Lent { names, nodes, records, work_len: work_wanted(nodes, records), allowance }
     }
-    let found = Search::remembering(records, allowance.min(patience)).answer(&root(nodes));
-    let undecided = Answer::Undecided { allowance };
-    found.or(if allowance <= patience { Some(undecided) } else { None })
-}
 
-/// The judge that goes through every state it enters, equal ones too: for searches of some million states.
-pub fn judge_without_memory(nodes: &[u16], records: &[u16], work_len: usize, allowance: u32) -> Answer {
-    judge_by(guided::successors, nodes, records, work_len, allowance)
-}
-
-/// That once more by the plain lists of rules.rs, for small flows only.
-pub fn judge_by_lists(nodes: &[u16], records: &[u16], work_len: usize, allowance: u32) -> Answer {
-    fn listed(state: &State, record: u16, each: &mut dyn FnMut(State) -> Visit) -> Visit {
-        rules::successors(state, record).into_iter().try_for_each(each)
+    /// The refusal, or who takes which record. "With a names section, those of One in One's order", and 14 last.
+    fn checked(&self) -> Result<Matching, Refusal> {
+        let Some(names) = self.names else {
+            judge_checks(self.nodes, self.records, self.work_len)?;
+            return Ok(Matching::ByNumber);
+        };
+        let entries = lent_lists(names, self.nodes, self.records)?;
+        work_length(self.nodes, self.records, self.work_len)?;
+        Ok(Matching::ByName(entries))
     }
-    judge_by(listed, nodes, records, work_len, allowance)
-}
 
-fn judge_by(
-    successors: Successors,
-    nodes: &[u16],
-    records: &[u16],
-    work_len: usize,
-    allowance: u32,
-) -> Answer {
-    match judge_checks(nodes, records, work_len) {
-        Err(refusal) => Answer::Refused(refusal),
-        Ok(()) => {
-            let found = Search::new(records, allowance, successors).answer(&root(nodes));
-            found.unwrap_or(Answer::Undecided { allowance })
+    /// What the judge answers.
+    pub fn judged(&self) -> Answer {
+        self.judged_within(u32::MAX).expect("no search enters more than its allowance")
+    }
+
+    /// The same, but None where more states than `patience` would have to be entered to know.
+    pub fn judged_within(&self, patience: u32) -> Option<Answer> {
+        let matching = match self.checked() {
+            Ok(matching) => matching,
+            Err(refusal) => return Some(Answer::Refused(refusal)),
+        };
+        let allowed = self.allowance.min(patience);
+        let found = Search::remembering(&matching, self.records, allowed).answer(&root(self.nodes));
+        let undecided = Answer::Undecided { allowance: self.allowance };
+        found.or(if self.allowance <= patience { Some(undecided) } else { None })
+    }
+
+    /// By a judge that goes through every state it enters, equal ones too: for searches of some million states.
+    pub fn judged_without_memory(&self) -> Answer {
+        self.judged_by(guided::successors)
+    }
+
+    /// That once more by the plain lists of rules.rs, for small flows only.
+    pub fn judged_by_lists(&self) -> Answer {
+        fn listed(
+            state: &State,
+            matching: &Matching,
+            record: u16,
+            each: &mut dyn FnMut(State) -> Visit,
+        ) -> Visit {
+            rules::successors(state, matching, record).into_iter().try_for_each(each)
         }
+        self.judged_by(listed)
+    }
+
+    fn judged_by(&self, successors: Successors) -> Answer {
+        match self.checked() {
+            Err(refusal) => Answer::Refused(refusal),
+            Ok(matching) => {
+                let mut search = Search::new(&matching, self.records, self.allowance, successors);
+                search.answer(&root(self.nodes)).unwrap_or(Answer::Undecided { allowance: self.allowance })
+            }
+        }
+    }
+
+    /// The effort of judging what is not refused, or of using up the allowance.
+    pub fn effort(&self) -> Effort {
+        let matching = self.checked().expect("not refused");
+        let mut search = Search::remembering(&matching, self.records, self.allowance);
+        match search.answer(&root(self.nodes)) {
+            Some(_) => search.effort(),
+            None => Effort { entered: self.allowance, ..search.effort() },
+        }
+    }
+
+    /// The same, but None if the allowance is used up, or if more different states than these would be entered.
+    pub fn effort_within(&self, most_different: usize) -> Option<Effort> {
+        let matching = self.checked().expect("not refused");
+        let mut search = Search::remembering(&matching, self.records, self.allowance);
+        search.most_different = most_different;
+        search.answer(&root(self.nodes)).map(|_| search.effort())
     }
 }
 
@@ -88,24 +140,8 @@ pub struct Effort {
     pub different: usize,
 }
 
-/// The effort of judging a flow that is not refused; None if more states would be entered, or more different ones, than are given.
-pub fn effort(nodes: &[u16], records: &[u16], most_entered: u32, most_different: usize) -> Option<Effort> {
-    let mut search = Search::remembering(records, most_entered);
-    search.most_different = most_different;
-    search.answer(&root(nodes)).map(|_| search.effort())
-}
-
-/// The effort of judging with an allowance, used up or not.
-pub fn effort_allowed(nodes: &[u16], records: &[u16], allowance: u32) -> Effort {
-    let mut search = Search::remembering(records, allowance);
-    match search.answer(&root(nodes)) {
-        Some(_) => search.effort(),
-        None => Effort { entered: allowance, ..search.effort() },
-    }
-}
-
 /// Calls the last argument with the successors of a state by a record, in order.
-type Successors = fn(&State, u16, &mut dyn FnMut(State) -> Visit) -> Visit;
+type Successors = fn(&State, &Matching, u16, &mut dyn FnMut(State) -> Visit) -> Visit;
 
 /// What a state without an end below it adds to the search, every time that the same records lead to it.
 #[derive(Clone, Copy)]
@@ -115,6 +151,7 @@ struct Sight {
 }
 
 struct Search<'a> {
+    matching: &'a Matching,
     records: &'a [u16],
     allowed: u32,
     successors: Successors,
@@ -127,9 +164,10 @@ struct Search<'a> {
     accepted: bool,
 }
 
-impl Search<'_> {
-    fn new(records: &[u16], allowed: u32, successors: Successors) -> Search<'_> {
+impl<'a> Search<'a> {
+    fn new(matching: &'a Matching, records: &'a [u16], allowed: u32, successors: Successors) -> Search<'a> {
         Search {
+            matching,
             records,
             allowed,
             successors,
@@ -142,9 +180,9 @@ impl Search<'_> {
         }
     }
 
-    fn remembering(records: &[u16], allowed: u32) -> Search<'_> {
+    fn remembering(matching: &'a Matching, records: &'a [u16], allowed: u32) -> Search<'a> {
         let memory = Some(vec![HashMap::new(); records.len() + 1]);
-        Search { memory, ..Search::new(records, allowed, guided::successors) }
+        Search { memory, ..Search::new(matching, records, allowed, guided::successors) }
     }
 
     /// With a memory only: without one, equal states are not told from different ones.
@@ -193,7 +231,8 @@ impl Search<'_> {
 
     fn follow(&mut self, state: &State, place: usize) -> Visit {
         if place < self.records.len() {
-            (self.successors)(state, self.records[place], &mut |next| self.enter(&next, place + 1))
+            let (matching, record) = (self.matching, self.records[place]);
+            (self.successors)(state, matching, record, &mut |next| self.enter(&next, place + 1))
         } else if *state == State::NothingLeft {
             self.accepted = true;
             Break(())

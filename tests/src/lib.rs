@@ -2,9 +2,10 @@
 //! It is written from the documents and the decisions on their open points, and shares no code with them.
 //!
 //! What is here, from the bottom up:
-//! - `term`: terms, closings, states; `refusals`: the checks 1 to 14.
+//! - `term`: terms, closings, states; `refusals`: the checks 1 to 14; `matching`: which records a node takes.
 //! - `rules`: the rules as plain lists, sentence by sentence; `guided`: the same successors one at a time.
-//! - `judge`: the counted search and the answer; `reader`: the flow file and the program's line; `writer`: the flow file written.
+//! - `reader`: the flow file; `writer`: the flow file written; `judge`: the counted search and the answer, with names and without;
+//!   `program`: a flow file judged with its names.
 //! - `traces`: the published trace semantics as explicit sets; `laws`: the laws of demand 3.
 //! - `selfcheck`: `judge` against `traces`, `guided` against `rules`, with and without a memory, the laws against `judge`.
 //! - `cases`: cases for `replay`; `compare`: its lines against ours; `samples`, `measured`: flow files to try and to measure.
@@ -18,7 +19,9 @@ pub mod flowfile;
 pub mod guided;
 pub mod judge;
 pub mod laws;
+pub mod matching;
 pub mod measured;
+pub mod program;
 pub mod random;
 pub mod reader;
 pub mod refusals;

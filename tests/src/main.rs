@@ -2,9 +2,8 @@
 
 use oracle::cases::{Run, Stream, Totals, STORED_CASES, STORED_SEED};
 use oracle::compare::compare;
-use oracle::judge::{effort_allowed, judge_without_memory, with_deep_stack};
+use oracle::judge::{with_deep_stack, Lent};
 use oracle::laws::laws;
-use oracle::refusals::work_wanted;
 use oracle::selfcheck::*;
 use oracle::{measured, samples};
 use std::process::ExitCode;
@@ -46,7 +45,7 @@ fn run(arguments: &[String]) -> Result<String, String> {
         ["samples", folder] => samples::write(folder).map_err(|e| format!("{folder}: {e}\n")),
         ["line", file] => {
             let bytes = std::fs::read(file).map_err(|e| format!("{file}: {e}\n"))?;
-            Ok(format!("{}\n", oracle::reader::program(&bytes)))
+            Ok(format!("{}\n", oracle::program::program(&bytes)))
         }
         ["flows", folder] => measured::write(folder).map_err(|e| format!("{folder}: {e}\n")),
         ["bench", file] => bench(file, u32::MAX),
@@ -60,9 +59,9 @@ fn bench(file: &str, allowance: u32) -> Result<String, String> {
     const MOST_TIMED: u32 = 20_000_000;
     let bytes = std::fs::read(file).map_err(|e| format!("{file}: {e}\n"))?;
     let flow = oracle::reader::read(&bytes).map_err(|r| format!("{file}: refused {}\n", r.number))?;
-    let (nodes, records) = (&flow.nodes[..], &flow.records[..]);
-    let room = work_wanted(nodes, records);
-    let effort = effort_allowed(nodes, records, allowance);
+    let names = flow.names_section();
+    let lent = Lent::enough(Some(&names), &flow.nodes, &flow.records, allowance);
+    let effort = lent.effort();
     let (count, differ) = (effort.entered, effort.different);
     let said = format!("{file}: {count} states, {differ} differ");
     if count > MOST_TIMED {
@@ -71,7 +70,7 @@ fn bench(file: &str, allowance: u32) -> Result<String, String> {
     let mut best = f64::MAX;
     for _ in 0..5 {
         let start = std::time::Instant::now();
-        std::hint::black_box(judge_without_memory(nodes, records, room, allowance));
+        std::hint::black_box(lent.judged_without_memory());
         best = best.min(start.elapsed().as_secs_f64());
     }
     Ok(format!("{said}, {:.3}M states/s\n", count as f64 / best / 1e6))
@@ -100,6 +99,8 @@ fn selfcheck(flows: u64, seed: u64) -> Result<String, String> {
         show("search and trace sets", random_flows_against_traces(flows, seed)?),
         show("guided successors and plain lists", guided_against_lists(flows, seed)?),
         show("with and without a memory", remembering_against_plain(flows, seed)?),
+        show("leaves without a machine and choices", machineless_against_choices(flows, seed)?),
+        show("names that change nothing", names_that_change_nothing(flows, seed)?),
         show("single exchanges by each law", single_exchanges(&laws, each, seed)?),
         show("chains of exchanges", chains_of_exchanges(&laws, flows, seed)?),
     ]

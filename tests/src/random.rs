@@ -2,6 +2,7 @@
 
 use crate::drawing::{self, Drawing};
 use crate::guided;
+use crate::matching::Matching;
 use crate::rng::Rng;
 use crate::term::{is_event, kind, Sort, State, CLOSING_RECORDS};
 use std::ops::ControlFlow::{Break, Continue};
@@ -124,29 +125,29 @@ fn any_event(rng: &mut Rng, events: usize) -> u16 {
     rng.between(1, events) as u16
 }
 
-/// The records of a random complete run, by preference a long one.
-pub fn run(rng: &mut Rng, root: &State, events: usize) -> Vec<u16> {
+/// The records of a random complete run, by preference a long one, of events 1 to `events`, among which are all of the flow's.
+pub fn run(rng: &mut Rng, root: &State, matching: &Matching, events: usize) -> Vec<u16> {
     let mut records = vec![];
     let mut state = root.clone();
     while state != State::NothingLeft {
         let can = |list: &mut dyn Iterator<Item = u16>| -> Vec<u16> {
-            list.filter(|&r| guided::possible(&state, r)).collect()
+            list.filter(|&r| guided::possible(&state, matching, r)).collect()
         };
         let mut next = can(&mut (1..=events as u16));
         if next.is_empty() || rng.once_in(6) {
             next.extend(can(&mut CLOSING_RECORDS.into_iter()));
         }
         let record = *rng.pick(&next);
-        state = any_successor(rng, &state, record);
+        state = any_successor(rng, &state, matching, record);
         records.push(record);
     }
     records
 }
 
 /// One of the first forty successors; there is one.
-fn any_successor(rng: &mut Rng, state: &State, record: u16) -> State {
+fn any_successor(rng: &mut Rng, state: &State, matching: &Matching, record: u16) -> State {
     let mut some = vec![];
-    let _ = guided::successors(state, record, &mut |s| {
+    let _ = guided::successors(state, matching, record, &mut |s| {
         some.push(s);
         if some.len() < 40 {
             Continue(())
@@ -187,15 +188,15 @@ pub fn changed(rng: &mut Rng, records: &[u16], events: usize) -> Vec<u16> {
 }
 
 /// Records for a flow: of a run, of a run with a few changes, or any.
-pub fn records_for(rng: &mut Rng, root: &State, events: usize) -> Vec<u16> {
+pub fn records_for(rng: &mut Rng, root: &State, matching: &Matching, events: usize) -> Vec<u16> {
     let sort = match root {
         State::Compensable(_) => Sort::Compensable,
         _ => Sort::Standard,
     };
     match rng.below(5) {
-        0 | 1 => run(rng, root, events),
+        0 | 1 => run(rng, root, matching, events),
         2 | 3 => {
-            let good = run(rng, root, events);
+            let good = run(rng, root, matching, events);
             changed(rng, &good, events)
         }
         _ => records(rng, sort, events, 6),

@@ -1,9 +1,9 @@
-//! The flow file's reader and the program's line.
+//! The flow file's reader, and what it shares with all that is lent a names section.
 
 use crate::flowfile::{Entry, FlowFile};
-use crate::judge::{judge_within, Answer};
+use crate::matching::same_entry;
 use crate::refusals::{
-    node_table, record_list, refuse, work_wanted, Check, Refusal, MOST_NODES, MOST_RECORDS,
+    node_count, node_table, record_count, record_list, refuse, Check, Refusal, MOST_NODES, MOST_RECORDS,
 };
 use crate::term::{is_event, kind};
 
@@ -12,8 +12,6 @@ pub const LONGEST_NAME: u8 = 40;
 /// Room for node numbers and for records that the reader wants to be lent.
 pub const NODE_ROOM: usize = 3 * MOST_NODES;
 pub const RECORD_ROOM: usize = MOST_RECORDS;
-pub const PROGRAM_READS: usize = 21_895;
-pub const PROGRAM_ALLOWS: u32 = 1_000_000;
 
 /// The reader, lent tables of these lengths: "checks this first (14)".
 pub fn read_into(node_room: usize, record_room: usize, bytes: &[u8]) -> Result<FlowFile, Refusal> {
@@ -77,8 +75,20 @@ impl<'a> Cursor<'a> {
     }
 }
 
+/// A names section, nodes and records that are lent one by one: "the reader's own numbers and in its order", but "2 stands between 1 and
+/// 3; 1, 2, 3, 10 and 11 have place 0" (request One). The entries, if all is well.
+pub fn lent_lists(names: &[u8], nodes: &[u16], records: &[u16]) -> Result<Vec<Entry>, Refusal> {
+    let entries = names_section(names)?;
+    node_count(nodes)?;
+    record_count(records)?;
+    node_table(nodes)?;
+    record_list(nodes, records)?;
+    events_have_names(nodes, records, entries.len())?;
+    Ok(entries)
+}
+
 /// A names section and nothing else: 15 to 18, then 21 right after its last entry.
-pub fn names_section(bytes: &[u8]) -> Result<Vec<Entry>, Refusal> {
+fn names_section(bytes: &[u8]) -> Result<Vec<Entry>, Refusal> {
     let mut cursor = Cursor { bytes, at: 0 };
     let names = read_names(&mut cursor)?;
     cursor.is_at_the_end()?;
@@ -96,7 +106,7 @@ fn read_names(cursor: &mut Cursor) -> Result<Vec<Entry>, Refusal> {
     for _ in 0..count {
         let place = cursor.at;
         let entry = (cursor.name(1)?, cursor.name(0)?);
-        if names.contains(&entry) {
+        if names.iter().any(|earlier| same_entry(earlier, &entry)) {
             return refuse(18, place);
         }
         names.push(entry);
@@ -124,7 +134,7 @@ fn read_numbers(
 }
 
 /// 19, then 20.
-pub fn events_have_names(nodes: &[u16], records: &[u16], names: usize) -> Check {
+fn events_have_names(nodes: &[u16], records: &[u16], names: usize) -> Check {
     let nameless = |event: u16| event as usize > names;
     if let Some(i) = nodes.chunks(3).position(|n| n[0] == kind::EVENT && nameless(n[1])) {
         return refuse(19, i);
@@ -133,20 +143,4 @@ pub fn events_have_names(nodes: &[u16], records: &[u16], names: usize) -> Check 
         return refuse(20, i);
     }
     Ok(())
-}
-
-/// The answer that the program prints for this input.
-pub fn program(input: &[u8]) -> Answer {
-    program_within(u32::MAX, input).expect("no search enters more than its allowance")
-}
-
-/// The same, but None where more states than `patience` would have to be entered to know.
-pub fn program_within(patience: u32, input: &[u8]) -> Option<Answer> {
-    let bytes = &input[..input.len().min(PROGRAM_READS)];
-    match read(bytes) {
-        Err(refusal) => Some(Answer::Refused(refusal)),
-        Ok(FlowFile { nodes, records, .. }) => {
-            judge_within(patience, &nodes, &records, work_wanted(&nodes, &records), PROGRAM_ALLOWS)
-        }
-    }
 }

@@ -1,5 +1,5 @@
 //! The refusals of the judge, 1 to 14, in the order of document 01. Those of flow files, 15 to 21, are in reader.rs;
-//! the reader and the writer call the checks from here in between.
+//! the reader, the writer and a judge that is lent names call the checks from here in between.
 
 use crate::term::{is_event, kind, sort_of, Closing, Sort};
 
@@ -30,6 +30,11 @@ pub fn judge_checks(nodes: &[u16], records: &[u16], work_len: usize) -> Check {
     node_table(nodes)?;
     record_count(records)?;
     record_list(nodes, records)?;
+    work_length(nodes, records, work_len)
+}
+
+/// 14 of a judge.
+pub fn work_length(nodes: &[u16], records: &[u16], work_len: usize) -> Check {
     if work_len < work_wanted(nodes, records) {
         return refuse(14, 0);
     }

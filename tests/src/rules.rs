@@ -2,50 +2,51 @@
 //! sentence. A list can be as long as 2 to the number of nodes: use this on small flows, and guided.rs,
 //! which gives the same lists one by one, on any. The tests compare the two.
 
+use crate::matching::{Asked, Matching};
 use crate::term::*;
 use std::rc::Rc;
 use Closing::*;
 
-/// The steps of a standard term by an event, in order.
-pub fn steps(p: &Std, event: u16) -> Vec<Std> {
+/// The steps of a standard term by a record, in order.
+pub fn steps(p: &Std, asked: Asked) -> Vec<Std> {
     match &**p {
-        // "an event steps to SKIP"
-        Standard::Event(e) if *e == event => vec![skip()],
+        // "an event steps to SKIP"; one that takes several entries is "counted as one step"
+        Standard::Event(e) if asked.is_taken_by(*e) => vec![skip()],
         Standard::Event(_) | Standard::Skip | Standard::Throw | Standard::Yield => vec![],
         // "P;Q steps by P, or by Q where P can end ✓"
         Standard::Seq(p, q) => {
-            let mut all: Vec<Std> = steps(p, event).into_iter().map(|p| seq(p, q.clone())).collect();
+            let mut all: Vec<Std> = steps(p, asked).into_iter().map(|p| seq(p, q.clone())).collect();
             if ends(p, Done) {
-                all.extend(steps(q, event));
+                all.extend(steps(q, asked));
             }
             all
         }
         // "Choice steps by either side and drops the other"
         Standard::Choice(p, q) => {
-            let mut all = steps(p, event);
-            all.extend(steps(q, event));
+            let mut all = steps(p, asked);
+            all.extend(steps(q, asked));
             all
         }
         // "Parallel steps by either side"
         Standard::Parallel(p, q) => {
-            let mut all: Vec<Std> = steps(p, event).into_iter().map(|p| parallel(p, q.clone())).collect();
-            all.extend(steps(q, event).into_iter().map(|q| parallel(p.clone(), q)));
+            let mut all: Vec<Std> = steps(p, asked).into_iter().map(|p| parallel(p, q.clone())).collect();
+            all.extend(steps(q, asked).into_iter().map(|q| parallel(p.clone(), q)));
             all
         }
         // "P▷Q steps by P, or by Q where P can end !"
         Standard::Handler(p, q) => {
-            let inside = steps(p, event).into_iter();
+            let inside = steps(p, asked).into_iter();
             let mut all: Vec<Std> = inside.map(|p| Rc::new(Standard::Handler(p, q.clone()))).collect();
             if ends(p, Failed) {
-                all.extend(steps(q, event));
+                all.extend(steps(q, asked));
             }
             all
         }
         // "[PP] steps by PP, or by a compensation with which PP can end !"
         Standard::Block(pp) => {
-            let inside = comp_steps(pp, event).into_iter();
+            let inside = comp_steps(pp, asked).into_iter();
             let mut all: Vec<Std> = inside.map(|pp| Rc::new(Standard::Block(pp))).collect();
-            all.extend(compensations(pp, Failed).iter().flat_map(|r| steps(r, event)));
+            all.extend(compensations(pp, Failed).iter().flat_map(|r| steps(r, asked)));
             all
         }
     }
@@ -77,37 +78,37 @@ pub fn ends(p: &Std, by: Closing) -> bool {
     }
 }
 
-/// The steps of a compensable term by an event, in order.
-pub fn comp_steps(pp: &Comp, event: u16) -> Vec<Comp> {
+/// The steps of a compensable term by a record, in order.
+pub fn comp_steps(pp: &Comp, asked: Asked) -> Vec<Comp> {
     match &**pp {
         // "P÷Q steps by P"
         Compensable::Pair(p, q) => {
-            steps(p, event).into_iter().map(|p| Rc::new(Compensable::Pair(p, q.clone()))).collect()
+            steps(p, asked).into_iter().map(|p| Rc::new(Compensable::Pair(p, q.clone()))).collect()
         }
         // SKIP, THROW, YIELD paired with SKIP: none of them steps.
         Compensable::Skipp | Compensable::Throww | Compensable::Yieldd => vec![],
         // "PP;QQ steps by PP; or, for a compensation R with which PP ends ✓, by QQ, and R is held"
         Compensable::Seq(pp, qq) => {
-            let inside = comp_steps(pp, event).into_iter();
+            let inside = comp_steps(pp, asked).into_iter();
             let mut all: Vec<Comp> = inside.map(|pp| Rc::new(Compensable::Seq(pp, qq.clone()))).collect();
             for r in compensations(pp, Done) {
-                all.extend(comp_steps(qq, event).into_iter().map(|qq| held(qq, r.clone())));
+                all.extend(comp_steps(qq, asked).into_iter().map(|qq| held(qq, r.clone())));
             }
             all
         }
         Compensable::Choice(pp, qq) => {
-            let mut all = comp_steps(pp, event);
-            all.extend(comp_steps(qq, event));
+            let mut all = comp_steps(pp, asked);
+            all.extend(comp_steps(qq, asked));
             all
         }
         Compensable::Parallel(pp, qq) => {
-            let left = comp_steps(pp, event).into_iter();
+            let left = comp_steps(pp, asked).into_iter();
             let mut all: Vec<Comp> = left.map(|pp| Rc::new(Compensable::Parallel(pp, qq.clone()))).collect();
-            let right = comp_steps(qq, event).into_iter();
+            let right = comp_steps(qq, asked).into_iter();
             all.extend(right.map(|qq| Rc::new(Compensable::Parallel(pp.clone(), qq))));
             all
         }
-        Compensable::Held(qq, r) => comp_steps(qq, event).into_iter().map(|qq| held(qq, r.clone())).collect(),
+        Compensable::Held(qq, r) => comp_steps(qq, asked).into_iter().map(|qq| held(qq, r.clone())).collect(),
     }
 }
 
@@ -160,13 +161,12 @@ pub fn compensations(pp: &Comp, by: Closing) -> Vec<Std> {
 }
 
 /// The successors of a state by the next record, in order.
-pub fn successors(state: &State, record: u16) -> Vec<State> {
+pub fn successors(state: &State, matching: &Matching, record: u16) -> Vec<State> {
+    let asked = Asked { matching, record };
     match (state, Closing::of_record(record)) {
         (State::NothingLeft, _) => vec![],
-        (State::Standard(p), None) => steps(p, record).into_iter().map(State::Standard).collect(),
-        (State::Compensable(pp), None) => {
-            comp_steps(pp, record).into_iter().map(State::Compensable).collect()
-        }
+        (State::Standard(p), None) => steps(p, asked).into_iter().map(State::Standard).collect(),
+        (State::Compensable(pp), None) => comp_steps(pp, asked).into_iter().map(State::Compensable).collect(),
         // "one successor, nothing left, if it can end so"
         (State::Standard(p), Some(by)) if ends(p, by) => vec![State::NothingLeft],
         (State::Standard(_), Some(_)) => vec![],

@@ -86,6 +86,19 @@ fn two_washers(records: &[u16]) -> Vec<u8> {
     file(names, &seq(parallel(washer, drum), event(5)), records)
 }
 
+/// A wash, and two loads side by side that are pressed on any press, or the second on press P1 alone; then both are folded.
+fn pressed(second: u16, records: &[u16]) -> Vec<u8> {
+    let names = vec![
+        entry("wash", "W1"),
+        entry("press", ""),
+        entry("press", "P1"),
+        entry("press", "P2"),
+        entry("fold", "F1"),
+    ];
+    let presses = parallel(event(2), event(second));
+    file(names, &seq(seq(event(1), presses), event(5)), records)
+}
+
 pub fn all() -> Vec<Sample> {
     let sample = |name, line, shows, bytes| Sample { name, shows, bytes, line };
     let clean = on_the_route(&[WASH, HOLD_HOT, DRY, BOOK_VAN, DONE]);
@@ -139,6 +152,18 @@ pub fn all() -> Vec<Sample> {
             "rejected 0 3 4",
             "The hold of washer \"W1,2\" is recorded twice and that of drum 2 on \"W1\" is missing: one doesn't cover the other.",
             two_washers(&[1, 3, 2, 2, 5, DONE]),
+        ),
+        sample(
+            "any-press.flow",
+            "accepted 0 5 6",
+            "Two loads are drawn with \"press\" and no machine; one was pressed on P2 and one on P1: any press will do.",
+            pressed(2, &[1, 4, 3, 5, DONE]),
+        ),
+        sample(
+            "press-not-said.flow",
+            "rejected 0 2 3",
+            "The second load is drawn on press P1, but its record names no press: such a record fits only a step drawn without a machine.",
+            pressed(3, &[1, 4, 2, 5, DONE]),
         ),
         sample(
             "handed-back.flow",

@@ -1,13 +1,16 @@
-//! Checks of this implementation against itself: the search against explicit trace sets, the guided
-//! successors against the plain lists, the search that remembers against one that does not, and the laws of demand 3. Each answers how many cases it saw, or a
-//! text that says what went wrong. The tests call them with small numbers, the command `selfcheck` with any.
+//! Checks of this implementation against itself: the search against explicit trace sets, the guided successors against the plain
+//! lists, the search that remembers against one that does not, leaves without a machine against choices, and the laws of demand 3;
+//! all of them with names lent and without. Each answers how many cases it saw, or a text that says what went wrong. The tests call
+//! them with small numbers, the command `selfcheck` with any.
 
-use crate::cases::{repeating, Case};
+use crate::cases::{naming, repeating};
 use crate::drawing::{self, Drawing};
-use crate::judge::{effort, judge, judge_by_lists, judge_within, judge_without_memory, Answer, Effort};
+use crate::flowfile::{section_of, Entry};
+use crate::judge::{Answer, Effort, Lent};
 use crate::laws::{Fresh, Law};
+use crate::matching::Matching;
 use crate::random::{self, TASTES};
-use crate::refusals::{work_wanted, MOST_NODES};
+use crate::refusals::MOST_NODES;
 use crate::rng::Rng;
 use crate::term::{kind, root, Sort, CLOSING_RECORDS};
 use crate::traces::{meaning, Meaning};
@@ -16,6 +19,48 @@ use crate::traces::{meaning, Meaning};
 const ALLOWANCE: u32 = 1_000_000;
 /// Trace sets that take longer to write down are left out.
 const PATIENCE: u64 = 300_000;
+
+/// What a flow is judged with: names for its events, or none.
+pub struct Setting {
+    names: Option<Vec<u8>>,
+    matching: Matching,
+}
+
+impl Setting {
+    pub fn plain() -> Setting {
+        Setting { names: None, matching: Matching::ByNumber }
+    }
+
+    pub fn named(names: Vec<Entry>) -> Setting {
+        Setting { names: Some(section_of(&names)), matching: Matching::ByName(names) }
+    }
+
+    /// Every second time with names for events 1 to `events`.
+    fn any(rng: &mut Rng, events: usize) -> Setting {
+        if rng.once_in(2) {
+            Setting::plain()
+        } else {
+            Setting::named(naming::names(rng, events))
+        }
+    }
+
+    fn lent<'a>(&'a self, nodes: &'a [u16], records: &'a [u16]) -> Lent<'a> {
+        Lent::enough(self.names.as_deref(), nodes, records, ALLOWANCE)
+    }
+
+    /// The flow, for a text that says what went wrong.
+    fn show(&self, nodes: &[u16]) -> String {
+        let flow = drawing::of_table(nodes).show();
+        match &self.matching {
+            Matching::ByNumber => flow,
+            Matching::ByName(names) => {
+                let shown =
+                    |(step, machine): &Entry| format!("{}; {}", step.escape_ascii(), machine.escape_ascii());
+                format!("{flow} with names {:?}", names.iter().map(shown).collect::<Vec<_>>())
+            }
+        }
+    }
+}
 
 #[derive(Default, Debug)]
 pub struct Seen {
@@ -38,8 +83,13 @@ impl Seen {
 
 /// "Accepted exactly if its records are .. one of its traces", and the place of a rejection is "the longest
 /// beginning of the records that some run follows".
-pub fn agrees_with_traces(nodes: &[u16], meaning: &Meaning, records: &[u16]) -> Result<Answer, String> {
-    let answer = judge(nodes, records, work_wanted(nodes, records), ALLOWANCE);
+fn agrees_with_traces(
+    setting: &Setting,
+    nodes: &[u16],
+    meaning: &Meaning,
+    records: &[u16],
+) -> Result<Answer, String> {
+    let answer = setting.lent(nodes, records).judged();
     let right = match answer {
         Answer::Accepted { place, .. } => meaning.has(records) && place == records.len(),
         Answer::Rejected { place, .. } => {
@@ -52,7 +102,7 @@ pub fn agrees_with_traces(nodes: &[u16], meaning: &Meaning, records: &[u16]) -> 
     if right {
         return Ok(answer);
     }
-    let flow = drawing::of_table(nodes).show();
+    let flow = setting.show(nodes);
     Err(format!("{flow}, records {records:?}: {answer}, but traces {:?}", meaning.lists()))
 }
 
@@ -69,7 +119,8 @@ pub fn random_flows_against_traces(flows: u64, seed: u64) -> Result<Seen, String
             _ => random::drawing(&mut rng, taste, sort, room, events),
         };
         let nodes = flow.table_in_any_order(&mut rng);
-        let Some(meaning) = meaning(&nodes, PATIENCE) else {
+        let setting = Setting::any(&mut rng, events);
+        let Some(meaning) = meaning(&nodes, &setting.matching, PATIENCE) else {
             seen.left_out += 1;
             continue;
         };
@@ -80,9 +131,9 @@ pub fn random_flows_against_traces(flows: u64, seed: u64) -> Result<Seen, String
             let records = match rng.below(3) {
                 0 => trace,
                 1 => random::changed(&mut rng, &trace, events),
-                _ => random::records_for(&mut rng, &root(&nodes), events),
+                _ => random::records_for(&mut rng, &root(&nodes), &setting.matching, events),
             };
-            seen.count(agrees_with_traces(&nodes, &meaning, &records)?);
+            seen.count(agrees_with_traces(&setting, &nodes, &meaning, &records)?);
         }
     }
     Ok(seen)
@@ -90,16 +141,20 @@ pub fn random_flows_against_traces(flows: u64, seed: u64) -> Result<Seen, String
 
 /// Every flow of at most `most_nodes` nodes over two events with every record list of at most so many
 /// events before each closing.
-pub fn every_small_flow_against_traces(most_nodes: usize, most_events: usize) -> Result<Seen, String> {
+pub fn every_small_flow_against_traces(
+    setting: &Setting,
+    most_nodes: usize,
+    most_events: usize,
+) -> Result<Seen, String> {
     let mut seen = Seen::default();
     for sort in [Sort::Standard, Sort::Compensable] {
         let lists = every_record_list(sort, most_events);
         for flow in (1..=most_nodes).flat_map(|size| every_flow(sort, size)) {
             let nodes = flow.table();
-            let meaning = meaning(&nodes, u64::MAX).expect("patience without end");
+            let meaning = meaning(&nodes, &setting.matching, u64::MAX).expect("patience without end");
             seen.flows += 1;
             for records in &lists {
-                seen.count(agrees_with_traces(&nodes, &meaning, records)?);
+                seen.count(agrees_with_traces(setting, &nodes, &meaning, records)?);
             }
         }
     }
@@ -170,30 +225,31 @@ pub fn guided_against_lists(flows: u64, seed: u64) -> Result<Seen, String> {
             _ => random::drawing(&mut rng, taste, sort, room, events),
         };
         let nodes = flow.table_in_any_order(&mut rng);
+        let setting = Setting::any(&mut rng, events);
         seen.flows += 1;
         for _ in 0..4 {
-            let records = random::records_for(&mut rng, &root(&nodes), events);
-            let work_len = work_wanted(&nodes, &records);
-            let Some(answer) = judge_within(3_000, &nodes, &records, work_len, ALLOWANCE) else {
+            let records = random::records_for(&mut rng, &root(&nodes), &setting.matching, events);
+            let lent = setting.lent(&nodes, &records);
+            let Some(answer) = lent.judged_within(3_000) else {
                 seen.left_out += 1;
                 continue;
             };
             seen.count(answer);
             let wrong = |what: &str, other: Answer| {
-                Err(format!("{}, records {records:?}: {answer}, but {what} {other}", flow.show()))
+                Err(format!("{}, records {records:?}: {answer}, but {what} {other}", setting.show(&nodes)))
             };
-            let listed = judge_by_lists(&nodes, &records, work_len, ALLOWANCE);
+            let listed = lent.judged_by_lists();
             if listed != answer {
                 return wrong("by the lists", listed);
             }
             let (Answer::Accepted { count, .. } | Answer::Rejected { count, .. }) = answer else {
                 return wrong("it should be decided:", answer);
             };
-            let just = judge(&nodes, &records, work_len, count);
+            let just = Lent { allowance: count, ..lent }.judged();
             if just != answer {
                 return wrong("allowed just its count", just);
             }
-            let short = judge(&nodes, &records, work_len, count - 1);
+            let short = Lent { allowance: count - 1, ..lent }.judged();
             if short != (Answer::Undecided { allowance: count - 1 }) {
                 return wrong("allowed one less", short);
             }
@@ -209,24 +265,105 @@ pub fn remembering_against_plain(flows: u64, seed: u64) -> Result<Seen, String> 
     while seen.flows < flows {
         seen.flows += 1;
         for case in repeating::cases(&mut rng) {
-            let Case::Judge { nodes, records, allowance, .. } = case else { continue };
-            let Some(Effort { entered, .. }) = effort(&nodes, &records, 20_000, usize::MAX) else {
+            let lent = case.lent_to_judge().expect("a call of the judge");
+            let enough = Lent::enough(lent.names, lent.nodes, lent.records, 20_000);
+            let Some(Effort { entered, .. }) = enough.effort_within(usize::MAX) else {
                 seen.left_out += 1;
                 continue;
             };
-            let work_len = work_wanted(&nodes, &records);
             let fewer = rng.below(entered as usize) as u32;
-            for allowance in [entered - 1, entered, allowance, fewer] {
-                let answer = judge(&nodes, &records, work_len, allowance);
-                let plain = judge_without_memory(&nodes, &records, work_len, allowance);
+            for allowance in [entered - 1, entered, lent.allowance, fewer] {
+                let allowed = Lent { allowance, ..enough };
+                let (answer, plain) = (allowed.judged(), allowed.judged_without_memory());
                 if answer != plain {
-                    let flow = drawing::of_table(&nodes).show();
-                    return Err(format!(
-                        "{flow}, records {records:?}, allowance {allowance}: {answer}, not {plain}"
-                    ));
+                    return Err(format!("{answer}, not {plain}, allowance {allowance}\n{}", case.show()));
                 }
                 seen.count(answer);
             }
+        }
+    }
+    Ok(seen)
+}
+
+/// A leaf without a machine is read "as the choice of all those entries, counted as one step": a flow with names is judged as the flow
+/// whose leaves are such choices is judged by number, count and all, and has the same traces.
+pub fn machineless_against_choices(flows: u64, seed: u64) -> Result<Seen, String> {
+    let mut rng = Rng::new(seed);
+    let mut seen = Seen::default();
+    while seen.flows < flows {
+        let (taste, sort) = (*rng.pick(&TASTES), random::sort(&mut rng));
+        let (events, room) = (rng.between(2, 4), rng.between(1, 16));
+        let flow = match rng.below(4) {
+            0 => random::undone_drawing(&mut rng, taste, room, events),
+            _ => random::drawing(&mut rng, taste, sort, room, events),
+        };
+        let setting = Setting::named(naming::names(&mut rng, events));
+        let chosen = as_choices(&flow, &setting.matching);
+        if chosen == flow || chosen.size() > MOST_NODES {
+            continue;
+        }
+        seen.flows += 1;
+        let (nodes, choices) = (flow.table_in_any_order(&mut rng), chosen.table_in_any_order(&mut rng));
+        let wrong = |what: String| Err(format!("{}: {what}", setting.show(&nodes)));
+        if let Some(named) = meaning(&nodes, &setting.matching, PATIENCE) {
+            let by_number = meaning(&choices, &Matching::ByNumber, u64::MAX).expect("patience without end");
+            if named != by_number {
+                return wrong(format!("traces {:?}, not {:?}", named.lists(), by_number.lists()));
+            }
+        }
+        for _ in 0..4 {
+            let records = random::records_for(&mut rng, &root(&nodes), &setting.matching, events);
+            let Some(answer) = setting.lent(&nodes, &records).judged_within(20_000) else {
+                seen.left_out += 1;
+                continue;
+            };
+            let of_choices = Lent::enough(None, &choices, &records, ALLOWANCE).judged();
+            if answer != of_choices {
+                return wrong(format!("records {records:?}: {answer}, but as choices {of_choices}"));
+            }
+            seen.count(answer);
+        }
+    }
+    Ok(seen)
+}
+
+/// The flow with a choice of all events that it takes in the place of each leaf.
+fn as_choices(flow: &Drawing, matching: &Matching) -> Drawing {
+    let leaves = flow.paths().into_iter().filter(|path| flow.at(path).kind == kind::EVENT);
+    leaves.fold(flow.clone(), |whole, path| {
+        let taken = matching.taken_by(flow.at(&path).event);
+        let choice = taken.into_iter().map(drawing::event).reduce(drawing::choice);
+        whole.replaced(&path, &choice.expect("its own event at least"))
+    })
+}
+
+/// Names that all have a machine, or no step name twice, change nothing.
+pub fn names_that_change_nothing(flows: u64, seed: u64) -> Result<Seen, String> {
+    let mut rng = Rng::new(seed);
+    let mut seen = Seen::default();
+    while seen.flows < flows {
+        let (taste, sort) = (*rng.pick(&TASTES), random::sort(&mut rng));
+        let (events, room) = (rng.between(1, 4), rng.between(1, 20));
+        let mut names = naming::names(&mut rng, events);
+        if rng.once_in(2) {
+            names.iter_mut().filter(|name| name.1.is_empty()).for_each(|name| name.1 = b"the one".to_vec());
+        } else {
+            names.iter_mut().zip(b'a'..).for_each(|(name, letter)| name.0[0] = letter);
+        }
+        let nodes = random::drawing(&mut rng, taste, sort, room, events).table_in_any_order(&mut rng);
+        let setting = Setting::named(names);
+        seen.flows += 1;
+        for _ in 0..4 {
+            let records = random::records_for(&mut rng, &root(&nodes), &Matching::ByNumber, events);
+            let Some(answer) = Lent::enough(None, &nodes, &records, ALLOWANCE).judged_within(20_000) else {
+                seen.left_out += 1;
+                continue;
+            };
+            let named = setting.lent(&nodes, &records).judged();
+            if named != answer {
+                return Err(format!("{}, records {records:?}: {named}, not {answer}", setting.show(&nodes)));
+            }
+            seen.count(answer);
         }
     }
     Ok(seen)
@@ -242,11 +379,12 @@ fn judged_alike(
 ) -> Result<(), String> {
     let tables = [x, y].map(|flow| flow.table_in_any_order(rng));
     let roots = [&tables[0], &tables[1]].map(|nodes| root(nodes));
+    let setting = Setting::any(rng, events);
     for _ in 0..4 {
         let either = rng.below(2);
-        let records = random::records_for(rng, &roots[either], events);
-        let answers = [&tables[0], &tables[1]]
-            .map(|nodes| judge_within(20_000, nodes, &records, work_wanted(nodes, &records), ALLOWANCE));
+        let records = random::records_for(rng, &roots[either], &setting.matching, events);
+        let answers =
+            [&tables[0], &tables[1]].map(|nodes| setting.lent(nodes, &records).judged_within(20_000));
         let alike = match answers {
             [Some(Answer::Accepted { .. }), Some(Answer::Accepted { .. })] => true,
             [Some(Answer::Rejected { place: p, .. }), Some(Answer::Rejected { place: q, .. })] => p == q,
@@ -254,7 +392,7 @@ fn judged_alike(
             _ => false,
         };
         if !alike {
-            let shown = format!("{} and {}, records {records:?}", x.show(), y.show());
+            let shown = format!("{} and {}, records {records:?}", x.show(), setting.show(&tables[1]));
             return Err(format!("{shown}: {:?}", answers.map(|a| a.map(|a| a.to_string()))));
         }
         match answers {

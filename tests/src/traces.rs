@@ -1,8 +1,10 @@
 //! The published trace semantics as explicit sets, for small flows: Fig. 1 of 000 and Fig. 3 of 001 as
 //! document 01 settles them (no extra pair trace, no partial behaviours, compensation traces combined with
 //! compensation traces, no trace of a block whose inside ends ?). Nothing of rules.rs is used: this reads
-//! the node table and builds sets from sets.
+//! the node table and builds sets from sets. Where names are lent, a leaf without a machine is read "as the
+//! choice of all those entries" (request Two).
 
+use crate::matching::Matching;
 use crate::term::{is_event, kind, sort_of, Sort, DONE, FAILED, WITHDRAWN};
 use std::collections::BTreeSet;
 
@@ -17,8 +19,8 @@ pub enum Meaning {
 }
 
 /// The meaning of a table that is not refused; None if it takes more than `patience` steps to write down.
-pub fn meaning(nodes: &[u16], patience: u64) -> Option<Meaning> {
-    let mut build = Build { nodes, patience };
+pub fn meaning(nodes: &[u16], matching: &Matching, patience: u64) -> Option<Meaning> {
+    let mut build = Build { nodes, matching, patience };
     let last = nodes.len() / 3 - 1;
     match sort_of(nodes[3 * last]) {
         Sort::Standard => build.standard(last).map(Meaning::Standard),
@@ -107,6 +109,7 @@ fn joint_closing(first: u16, second: u16) -> u16 {
 
 struct Build<'a> {
     nodes: &'a [u16],
+    matching: &'a Matching,
     patience: u64,
 }
 
@@ -124,7 +127,7 @@ impl Build<'_> {
         let (kind, first, second) = self.node(i);
         let (left, right) = (first as usize, second as usize);
         Some(match kind {
-            kind::EVENT => BTreeSet::from([vec![first, DONE]]),
+            kind::EVENT => self.matching.taken_by(first).into_iter().map(|event| vec![event, DONE]).collect(),
             kind::SKIP => BTreeSet::from([vec![DONE]]),
             kind::THROW => BTreeSet::from([vec![FAILED]]),
             kind::YIELD => BTreeSet::from([vec![WITHDRAWN], vec![DONE]]),

@@ -1,17 +1,11 @@
 //! The flow file's writer, request One of document 02.
 
-use crate::reader::{events_have_names, names_section};
-use crate::refusals::{node_count, node_table, record_count, record_list, refuse, Refusal};
+use crate::reader::lent_lists;
+use crate::refusals::{refuse, Refusal};
 
-/// What is written at the beginning of so many lent bytes. `names` is a names section, its count included. Refused "by the reader's
-/// own numbers and in its order", but "2 stands between 1 and 3; 1, 2, 3, 10 and 11 have place 0", and 14 comes last.
+/// What is written at the beginning of so many lent bytes. `names` is a names section, its count included. 14 comes last.
 pub fn write(names: &[u8], nodes: &[u16], records: &[u16], room: usize) -> Result<Vec<u8>, Refusal> {
-    let entries = names_section(names)?;
-    node_count(nodes)?;
-    record_count(records)?;
-    node_table(nodes)?;
-    record_list(nodes, records)?;
-    events_have_names(nodes, records, entries.len())?;
+    lent_lists(names, nodes, records)?;
     let file = file_of(names, nodes, records);
     if room < file.len() {
         return refuse(14, 0);

@@ -2,8 +2,8 @@
 
 use oracle::by_hand::{self, A, B, C, D, MILLION};
 use oracle::drawing::*;
-use oracle::judge::{judge, judge_by_lists, with_deep_stack};
-use oracle::refusals::work_wanted;
+use oracle::judge::{judge, with_deep_stack, Lent};
+use oracle::matching::Matching;
 use oracle::term::{DONE, FAILED, WITHDRAWN};
 use oracle::traces::meaning;
 
@@ -11,15 +11,11 @@ use oracle::traces::meaning;
 fn judged_by_hand() {
     for case in by_hand::table() {
         let (nodes, records) = (case.flow.table(), &case.records);
-        let work_len = work_wanted(&nodes, records);
+        let lent = Lent::enough(None, &nodes, records, case.allowance);
         let shown = case.flow.show();
-        assert_eq!(judge(&nodes, records, work_len, case.allowance).to_string(), case.line, "{shown}");
-        assert_eq!(
-            judge_by_lists(&nodes, records, work_len, case.allowance).to_string(),
-            case.line,
-            "{shown}"
-        );
-        let is_trace = meaning(&nodes, u64::MAX).unwrap().has(records);
+        assert_eq!(lent.judged().to_string(), case.line, "{shown}");
+        assert_eq!(lent.judged_by_lists().to_string(), case.line, "{shown}");
+        let is_trace = meaning(&nodes, &Matching::ByNumber, u64::MAX).unwrap().has(records);
         assert_eq!(is_trace, case.line.starts_with("accepted"), "{shown}");
     }
 }

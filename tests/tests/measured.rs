@@ -1,6 +1,6 @@
 //! The flow files that are measured: what the generator writes, and the states that they are about.
 
-use oracle::judge::{effort_allowed, with_deep_stack, Effort};
+use oracle::judge::{with_deep_stack, Effort, Lent};
 use oracle::measured::files;
 use oracle::reader::read;
 use std::path::PathBuf;
@@ -32,7 +32,8 @@ fn states_and_how_many_differ() {
     with_deep_stack(move || {
         for (name, entered, different) in figures {
             let file = read(&std::fs::read(folder().join(format!("{name}.flow"))).unwrap()).unwrap();
-            let effort = effort_allowed(&file.nodes, &file.records, u32::MAX);
+            let names = file.names_section();
+            let effort = Lent::enough(Some(&names), &file.nodes, &file.records, u32::MAX).effort();
             assert_eq!(effort, Effort { entered, different }, "{name}");
         }
     });

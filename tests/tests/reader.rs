@@ -3,7 +3,8 @@
 use oracle::drawing::{block, skip, skipp, tower};
 use oracle::flowfile::{self, FlowFile};
 use oracle::judge::with_deep_stack;
-use oracle::reader::{program, read, read_into, NODE_ROOM, RECORD_ROOM};
+use oracle::program::program;
+use oracle::reader::{read, read_into, NODE_ROOM, RECORD_ROOM};
 use oracle::term::DONE;
 
 fn worked() -> Vec<u8> {

@@ -2,7 +2,7 @@
 //! worked file.
 
 use oracle::judge::with_deep_stack;
-use oracle::reader::program;
+use oracle::program::program;
 use oracle::samples::{all, expected, readme};
 use std::path::PathBuf;
 

@@ -1,13 +1,35 @@
-//! The search against the published trace semantics, and the laws of demand 3.
+//! The search against the published trace semantics, leaves without a machine against choices, and the laws of demand 3. What is drawn
+//! at random is judged with names and without.
 
+use oracle::flowfile::entry;
 use oracle::judge::with_deep_stack;
 use oracle::laws::{errors_that_look_right, laws};
 use oracle::selfcheck::*;
 
 #[test]
 fn every_small_flow_means_its_traces() {
-    let seen = every_small_flow_against_traces(5, 3).unwrap();
+    let seen = every_small_flow_against_traces(&Setting::plain(), 5, 3).unwrap();
     assert!(seen.flows > 6_000 && seen.accepted > 10_000 && seen.left_out == 0, "{seen:?}");
+}
+
+/// The first event is a step without a machine, the second the same step on one.
+#[test]
+fn every_small_flow_with_names_means_its_traces() {
+    let names = vec![entry("press", ""), entry("press", "P1")];
+    let seen = every_small_flow_against_traces(&Setting::named(names), 5, 2).unwrap();
+    assert!(seen.flows > 6_000 && seen.accepted > 10_000 && seen.left_out == 0, "{seen:?}");
+}
+
+#[test]
+fn a_leaf_without_a_machine_is_a_choice() {
+    let seen = machineless_against_choices(8_000, 7).unwrap();
+    assert!(seen.accepted > 10_000 && seen.rejected > 10_000, "{seen:?}");
+}
+
+#[test]
+fn names_without_a_second_sense_change_nothing() {
+    let seen = names_that_change_nothing(4_000, 8).unwrap();
+    assert!(seen.accepted > 5_000 && seen.rejected > 5_000, "{seen:?}");
 }
 
 #[test]

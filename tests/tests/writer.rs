@@ -59,7 +59,7 @@ fn faults_alone_and_in_pairs() {
     let mut numbers: Vec<u32> = writing::FAULTS.iter().map(|fault| fault.refusal.number).collect();
     numbers.dedup();
     assert_eq!(numbers, [15, 16, 17, 15, 18, 15, 21, 1, 2, 3, 10, 11, 4, 5, 6, 7, 8, 9, 12, 13, 19, 20, 14]);
-    let all = writing::faults_alone_and_in_pairs();
+    let all = writing::faults_alone_and_in_pairs(&whole, &writing::FAULTS.each_ref());
     assert_eq!(all.len(), 24 + 24 * 23 / 2);
     for (refusal, call) in all {
         assert_eq!(write_call(&call), Err(refusal), "{call:?}");

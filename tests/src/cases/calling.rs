@@ -1,12 +1,16 @@
 //! Cases `C`: one form of call for every function that takes a flow, with everything that may be lent.
 
-use super::Reply;
+use super::{Reply, MOST_WORK};
+use crate::by_hand::MILLION;
+use crate::judge::Lent;
+use crate::refusals::work_wanted;
 use crate::writer::{file_of, write};
 
 /// The functions by their numbers.
+pub const JUDGE: u8 = 0;
 pub const WRITE: u8 = 3;
 
-/// What a function does not use may be anything: a write looks at no edition, allowance or work length.
+/// What a function does not use may be anything: a judge looks at no room, a write at no edition, allowance or work length.
 #[derive(Clone, PartialEq, Eq, Debug)]
 pub struct Call {
     pub function: u8,
@@ -16,6 +20,7 @@ pub struct Call {
     pub allowance: u32,
     pub work_len: u32,
     pub room: u32,
+    /// Empty if they are not lent.
     pub names: Vec<u8>,
     pub nodes: Vec<u16>,
     pub records: Vec<u16>,
@@ -24,6 +29,14 @@ pub struct Call {
 }
 
 impl Call {
+    /// A call of the judge, lent just the work bytes that it wants, as far as `replay` has so many.
+    pub fn judge(names: Option<Vec<u8>>, nodes: Vec<u16>, records: Vec<u16>) -> Call {
+        let work_len = work_wanted(&nodes, &records).min(MOST_WORK) as u32;
+        let (function, edition, names_lent) = (JUDGE, 1, names.is_some() as u8);
+        let (allowance, room, names, sets) = (MILLION, 0, names.unwrap_or_default(), vec![]);
+        Call { function, edition, names_lent, allowance, work_len, room, names, nodes, records, sets }
+    }
+
     /// A write of these three sections, lent just the bytes that it wants.
     pub fn write(names: Vec<u8>, nodes: Vec<u16>, records: Vec<u16>) -> Call {
         let room = file_of(&names, &nodes, &records).len() as u32;
@@ -44,20 +57,35 @@ impl Call {
         all
     }
 
-    pub fn reply(&self) -> Reply {
+    /// What a judge is called with.
+    pub fn lent(&self) -> Lent<'_> {
+        Lent {
+            names: Some(&self.names[..]).filter(|_| self.names_lent == 1),
+            nodes: &self.nodes,
+            records: &self.records,
+            work_len: self.work_len as usize,
+            allowance: self.allowance,
+        }
+    }
+
+    /// None where more states than `patience` would have to be entered to know.
+    pub fn reply(&self, patience: u32) -> Option<Reply> {
         match self.function {
-            WRITE => match write(&self.names, &self.nodes, &self.records, self.room as usize) {
+            JUDGE => self.lent().judged_within(patience).map(Reply::Judged),
+            WRITE => Some(match write(&self.names, &self.nodes, &self.records, self.room as usize) {
                 Ok(file) => Reply::Written(file),
                 Err(refusal) => Reply::Refused(refusal),
-            },
+            }),
             other => unreachable!("no case is made of function {other}"),
         }
     }
 
     pub fn asked(&self) -> &'static str {
-        match self.function {
-            WRITE => "writer",
-            other => unreachable!("no case is made of function {other}"),
+        match (self.function, self.names_lent) {
+            (JUDGE, 0) => "judge",
+            (JUDGE, _) => "judge with names",
+            (WRITE, _) => "writer",
+            (other, _) => unreachable!("no case is made of function {other}"),
         }
     }
 }

@@ -1,86 +1,25 @@
-//! Flow files: whole ones with names that are easily mixed up, files cut at every kind of item, damaged ones,
-//! and files at the limits.
+//! Flow files: whole ones, files cut at every kind of item, damaged ones, and files at the limits.
 
-use super::judging;
 use super::spoiling::spoil;
-use crate::flowfile::{Entry, FlowFile, Item, ItemKind};
+use super::{judging, naming};
+use crate::flowfile::{FlowFile, Item, ItemKind};
+use crate::matching::Matching;
 use crate::random::{self, TASTES};
 use crate::reader::MOST_NAMES;
 use crate::refusals::{MOST_NODES, MOST_RECORDS};
 use crate::rng::Rng;
-use crate::term::{is_event, kind, root, MOST_EVENT};
+use crate::term::{kind, root, MOST_EVENT};
 
 /// A file that the reader takes, whatever comes of its judging.
 pub fn whole(rng: &mut Rng) -> FlowFile {
-    let most_names = if rng.once_in(40) { rng.between(1, MOST_NAMES) } else { rng.between(1, 6) };
-    let (nodes, records) = judging::flow_and_records(rng, most_names);
-    let needed = events(&nodes, &records).into_iter().max().unwrap_or(0) as usize;
-    let count = if rng.once_in(2) { needed } else { most_names.max(needed) };
-    FlowFile { names: names(rng, count), nodes, records }
+    let events = rng.between(1, 4);
+    let flow = judging::flow(rng, events);
+    naming::file(rng, &flow)
 }
 
-/// The events of nodes and records.
-fn events(nodes: &[u16], records: &[u16]) -> Vec<u16> {
-    let of_nodes = nodes.chunks(3).filter(|node| node[0] == kind::EVENT).map(|node| node[1]);
-    of_nodes.chain(records.iter().copied().filter(|r| is_event(*r))).collect()
-}
-
-// ---- names ----
-
-/// So many different entries, all in one style.
-pub fn names(rng: &mut Rng, count: usize) -> Vec<Entry> {
-    let style = *rng.pick(&[plant_entry, split_entry, other_machine, any_bytes, long_entry]);
-    let mut all: Vec<Entry> = vec![];
-    let mut tries = 0;
-    while all.len() < count {
-        let style = if tries < 4 * count { style } else { any_bytes };
-        let entry = style(rng);
-        if !all.contains(&entry) {
-            all.push(entry);
-        }
-        tries += 1;
-    }
-    all
-}
-
-/// As a plant would name them, commas and all.
-fn plant_entry(rng: &mut Rng) -> Entry {
-    let step = *rng.pick(&["wash", "hold hot", "dry", "book van", "unload", "drain", "2,wash", "wash,W1"]);
-    let machine = *rng.pick(&["", "W1", "W2", "W1,2", "2", "1,2", "D1", ",", ",,", "W1,", "w1", "W1 "]);
-    (step.into(), machine.into())
-}
-
-/// The same bytes split at different places, so that only the lengths tell entries apart.
-fn split_entry(rng: &mut Rng) -> Entry {
-    let bytes = b"W1,2,W1,2,W1,2,W1,2,W1,2,W1,2,W1,2,W1,2,W1,2,W1,2,W1,2,W1,2,";
-    let (step, machine) = (rng.between(1, 40), rng.between(0, 20));
-    (bytes[..step].to_vec(), bytes[step..step + machine].to_vec())
-}
-
-/// One step on machines that differ in a byte or in length only.
-fn other_machine(rng: &mut Rng) -> Entry {
-    let length = rng.between(0, 40);
-    let mut machine = vec![b'W'; length];
-    if length > 0 && rng.once_in(2) {
-        machine[rng.below(length)] = rng.byte();
-    }
-    (b"wash".to_vec(), machine)
-}
-
-/// Every byte value.
-fn any_bytes(rng: &mut Rng) -> Entry {
-    let lengths = [rng.between(1, 40), rng.between(0, 40)];
-    let [step, machine] = lengths.map(|length| (0..length).map(|_| rng.byte()).collect());
-    (step, machine)
-}
-
-/// Both names at their longest, or nearly, and different in the first or the last byte only.
-fn long_entry(rng: &mut Rng) -> Entry {
-    let mut entry = (vec![0; rng.between(39, 40)], vec![255; rng.between(39, 40)]);
-    let name = if rng.once_in(2) { &mut entry.0 } else { &mut entry.1 };
-    let at = if rng.once_in(2) { 0 } else { name.len() - 1 };
-    name[at] = rng.byte();
-    entry
+/// The events of nodes.
+fn events(nodes: &[u16]) -> Vec<u16> {
+    nodes.chunks(3).filter(|node| node[0] == kind::EVENT).map(|node| node[1]).collect()
 }
 
 // ---- cuts ----
@@ -176,7 +115,7 @@ pub fn damage_lists(rng: &mut Rng, damage: Damage, file: &mut FlowFile) {
             file.names.truncate(MOST_NAMES);
         }
         Damage::FewerNames => {
-            let asked = events(&file.nodes, &[]);
+            let asked = events(&file.nodes);
             if !asked.is_empty() {
                 let event = *rng.pick(&asked) as usize;
                 file.names.truncate(rng.below(event.max(1)));
@@ -237,15 +176,16 @@ pub fn at_limits(rng: &mut Rng) -> FlowFile {
     let (taste, sort) = (*rng.pick(&TASTES), random::sort(rng));
     let size = if rng.once_in(2) { rng.between(MOST_NODES - 1, MOST_NODES + 1) } else { rng.between(3, 20) };
     let nodes = random::drawing_of_size(rng, taste, sort, size, 3).table_in_any_order(rng);
-    let mut records = random::records_for(rng, &root(&nodes), 3);
+    let count = if rng.once_in(2) { rng.between(MOST_NAMES - 1, MOST_NAMES + 1) } else { 3 };
+    let names = naming::names(rng, count);
+    let mut records = random::records_for(rng, &root(&nodes), &Matching::ByName(names.clone()), 3);
     if rng.once_in(2) {
         let length = rng.between(MOST_RECORDS - 1, MOST_RECORDS + 1);
         while records.len() < length {
             records.insert(records.len() - 1, rng.between(1, 3) as u16);
         }
     }
-    let count = if rng.once_in(2) { rng.between(MOST_NAMES - 1, MOST_NAMES + 1) } else { 3 };
-    FlowFile { names: names(rng, count), nodes, records }
+    FlowFile { names, nodes, records }
 }
 
 /// The same, now and then with bytes after the end.

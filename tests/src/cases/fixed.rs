@@ -1,11 +1,11 @@
 //! The cases that every stream begins with, whatever its seed: those of document 01 and one or more for
 //! each boundary that chance might miss.
 
-use super::{reading, writing, Case, MOST_WORK};
+use super::{lending, reading, writing, Case, MOST_WORK};
 use crate::by_hand::{self, A, B, C, MILLION};
 use crate::drawing::*;
 use crate::flowfile::{self, entry, Entry, FlowFile};
-use crate::judge::effort_allowed;
+use crate::judge::Lent;
 use crate::measured::{lines, seven, withdrawing};
 use crate::refusals::work_wanted;
 use crate::term::{is_event, Sort, DONE, FAILED, WITHDRAWN};
@@ -26,6 +26,8 @@ pub fn cases() -> Vec<(&'static str, Case)> {
     add("fixed: long files", long_files());
     add("fixed: reading", reading::fixed());
     add("fixed: writing", writing::fixed());
+    add("fixed: any machine", lending::fixed());
+    add("fixed: any machine", lending::files());
     all
 }
 
@@ -181,7 +183,7 @@ fn orders(n: usize) -> (Drawing, Vec<u16>) {
 }
 
 fn count(flow: &Drawing, records: &[u16]) -> u32 {
-    effort_allowed(&flow.table(), records, u32::MAX).entered
+    Lent::enough(None, &flow.table(), records, u32::MAX).effort().entered
 }
 
 /// Searches in which the same states come again, with allowances on both sides of what is needed and of powers of two; and record lists that

@@ -3,7 +3,8 @@
 
 use super::{Case, MOST_NUMBERS, MOST_WORK};
 use crate::drawing::Drawing;
-use crate::judge::{judge_within, Answer};
+use crate::judge::{Answer, Lent};
+use crate::matching::Matching;
 use crate::random::{self, TASTES};
 use crate::refusals::{work_wanted, MOST_NODES, MOST_RECORDS};
 use crate::rng::Rng;
@@ -22,7 +23,7 @@ pub fn flow_and_records(rng: &mut Rng, most_event: usize) -> (Vec<u16>, Vec<u16>
     let events = rng.between(1, 4.min(most_event));
     let flow = flow(rng, events);
     let mut nodes = flow.table_in_any_order(rng);
-    let mut records = random::records_for(rng, &root(&nodes), events);
+    let mut records = random::records_for(rng, &root(&nodes), &Matching::ByNumber, events);
     if rng.once_in(2) {
         let numbers = different_numbers(rng, events, most_event);
         rename(&mut nodes, &mut records, &numbers);
@@ -30,7 +31,7 @@ pub fn flow_and_records(rng: &mut Rng, most_event: usize) -> (Vec<u16>, Vec<u16>
     (nodes, records)
 }
 
-fn flow(rng: &mut Rng, events: usize) -> Drawing {
+pub fn flow(rng: &mut Rng, events: usize) -> Drawing {
     let (taste, sort) = (*rng.pick(&TASTES), random::sort(rng));
     let room = if rng.once_in(6) { rng.between(15, MOST_NODES) } else { rng.between(1, 14) };
     match rng.below(12) {
@@ -41,7 +42,7 @@ fn flow(rng: &mut Rng, events: usize) -> Drawing {
 }
 
 /// Different events, by preference ones whose bytes are easily mixed up.
-fn different_numbers(rng: &mut Rng, how_many: usize, most: usize) -> Vec<u16> {
+pub fn different_numbers(rng: &mut Rng, how_many: usize, most: usize) -> Vec<u16> {
     let mut numbers: Vec<u16> = vec![];
     while numbers.len() < how_many {
         let number = match rng.below(3) {
@@ -56,7 +57,7 @@ fn different_numbers(rng: &mut Rng, how_many: usize, most: usize) -> Vec<u16> {
 }
 
 /// Event k becomes the k-th of the numbers.
-fn rename(nodes: &mut [u16], records: &mut [u16], numbers: &[u16]) {
+pub fn rename(nodes: &mut [u16], records: &mut [u16], numbers: &[u16]) {
     let new = |event: u16| numbers[event as usize - 1];
     for node in nodes.chunks_mut(3).filter(|node| node[0] == kind::EVENT) {
         node[1] = new(node[1]);
@@ -68,8 +69,14 @@ fn rename(nodes: &mut [u16], records: &mut [u16], numbers: &[u16]) {
 
 /// The call with an allowance near the count of its search and a work length near the one wanted.
 pub fn around_the_count(rng: &mut Rng, patience: u32, nodes: Vec<u16>, records: Vec<u16>) -> Case {
-    let wanted = work_wanted(&nodes, &records);
-    let allowance = match judge_within(patience, &nodes, &records, wanted, u32::MAX) {
+    let allowance = near_the_count(rng, patience, Lent::enough(None, &nodes, &records, u32::MAX));
+    let work_len = near(rng, work_wanted(&nodes, &records), MOST_WORK);
+    Case::Judge { allowance, work_len, nodes, records }
+}
+
+/// An allowance near the count of the search, or any below `patience` where the count is above that.
+pub fn near_the_count(rng: &mut Rng, patience: u32, lent: Lent) -> u32 {
+    match lent.judged_within(patience) {
         Some(Answer::Accepted { count, .. } | Answer::Rejected { count, .. }) => match rng.below(12) {
             0 | 1 => count - 1,
             2..=5 => count,
@@ -80,8 +87,7 @@ pub fn around_the_count(rng: &mut Rng, patience: u32, nodes: Vec<u16>, records: 
             _ => 1_000_000,
         },
         _ => rng.below(patience as usize) as u32,
-    };
-    Case::Judge { allowance, work_len: near(rng, wanted, MOST_WORK), nodes, records }
+    }
 }
 
 /// Mostly the length wanted, one less or one more; also none, half or the most that `replay` has.
@@ -110,7 +116,7 @@ pub fn case_at_limits(rng: &mut Rng) -> Case {
     };
     let flow = random::drawing_of_size(rng, taste, sort, size, events);
     let mut nodes = flow.table_in_any_order(rng);
-    let mut records = random::records_for(rng, &root(&nodes), events);
+    let mut records = random::records_for(rng, &root(&nodes), &Matching::ByNumber, events);
     if rng.once_in(2) {
         let length = match rng.below(6) {
             0 => MOST_NUMBERS,

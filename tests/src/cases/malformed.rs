@@ -64,26 +64,47 @@ fn calls_of_the_judge() -> Vec<Malformed> {
 
 /// Calls with everything that may be lent.
 fn calls() -> Vec<Malformed> {
-    let good = || Call::write(vec![0, 0], vec![2, 0, 0], vec![DONE]);
+    let write = || Call::write(vec![0, 0], vec![2, 0, 0], vec![DONE]);
+    let judge = || Call::judge(Some(vec![0, 0]), vec![2, 0, 0], vec![DONE]);
+    let plain = || Call::judge(None, vec![2, 0, 0], vec![DONE]);
     let call = |what, call: Call| whole(what, call.bytes());
     let mut all = vec![
-        call("a judge's call with names, not there yet", Call { function: 0, work_len: 40_000, ..good() }),
-        call("function 1, not there yet", Call { function: 1, work_len: 40_000, room: 259, ..good() }),
-        call("function 2, not there yet", Call { function: 2, work_len: 40_000, ..good() }),
-        call("function 4", Call { function: 4, ..good() }),
-        call("function 255", Call { function: 255, ..good() }),
-        call("a write that is lent no names", Call { names_lent: 0, names: vec![], ..good() }),
-        call("a write that is lent no names but has some", Call { names_lent: 0, ..good() }),
-        call("names lent twice", Call { names_lent: 2, ..good() }),
-        call("names lent often", Call { names_lent: 255, ..good() }),
-        call("too much room", Call { room: MOST_ROOM as u32 + 1, ..good() }),
-        call("far too much room", Call { room: u32::MAX, ..good() }),
-        call("too many node numbers in a call", Call { nodes: vec![2; 401], ..good() }),
-        call("too many records in a call", Call { records: vec![DONE; 401], ..good() }),
-        call("a byte of a set", Call { sets: vec![0], ..good() }),
-        call("a set, not there yet", Call { sets: vec![0; 32], ..good() }),
-        call("too many bytes of sets", Call { sets: vec![0; 601], ..good() }),
+        call("function 1, not there yet", Call { function: 1, work_len: 40_000, room: 259, ..write() }),
+        call("function 2, not there yet", Call { function: 2, work_len: 40_000, ..write() }),
+        call("function 4", Call { function: 4, ..write() }),
+        call("function 255", Call { function: 255, ..judge() }),
+        call("a write that is lent no names", Call { names_lent: 0, names: vec![], ..write() }),
+        call("a write that is lent no names but has some", Call { names_lent: 0, ..write() }),
+        call("too much room", Call { room: MOST_ROOM as u32 + 1, ..write() }),
+        call("far too much room", Call { room: u32::MAX, ..write() }),
+        call("a judge that is lent no names but has some", Call { names_lent: 0, ..judge() }),
+        call("a judge that is lent no names but a byte", Call { names: vec![0], ..plain() }),
+        call("edition 0", Call { edition: 0, ..judge() }),
+        call("edition 2, not there yet", Call { edition: 2, ..judge() }),
+        call("edition 2 without names", Call { edition: 2, ..plain() }),
+        call("edition 255", Call { edition: 255, ..judge() }),
+        call("too many work bytes in a call", Call { work_len: 40_001, ..judge() }),
+        call("too many work bytes without names", Call { work_len: 40_001, ..plain() }),
+        call("far too many work bytes in a call", Call { work_len: u32::MAX, ..judge() }),
     ];
-    all.extend(cuts("a cut call", Case::Call(good())));
+    for good in [write(), judge(), plain()] {
+        let of = |change: fn(&mut Call)| {
+            let mut call = good.clone();
+            change(&mut call);
+            call
+        };
+        all.extend([
+            call("names lent twice", of(|call| call.names_lent = 2)),
+            call("names lent often", of(|call| call.names_lent = 255)),
+            call("too many node numbers in a call", of(|call| call.nodes = vec![2; 401])),
+            call("too many records in a call", of(|call| call.records = vec![DONE; 401])),
+            call("a byte of a set", of(|call| call.sets = vec![0])),
+            call("a set, not there yet", of(|call| call.sets = vec![0; 32])),
+            call("too many bytes of sets", of(|call| call.sets = vec![0; 601])),
+        ]);
+    }
+    all.extend(cuts("a cut call of the writer", Case::Call(write())));
+    all.extend(cuts("a cut call of the judge with names", Case::Call(judge())));
+    all.extend(cuts("a cut call of the judge without names", Case::Call(plain())));
     all
 }

@@ -1,18 +1,23 @@
 //! Cases for the program `replay`, each with the line it has to print. This file says what a case is and
 //! what it looks like on the way; the other files here make cases:
-//! - `fixed`: the same three thousand in every stream: hand cases, limits, every kind of node, every cut of the
-//!   worked file, and those that `reading` and `writing` begin with.
+//! - `fixed`: the same in every stream: hand cases, limits, every kind of node, every cut of the worked file, and those that
+//!   `reading`, `writing` and `lending` begin with.
 //! - `judging`: flows and records for the judge; `undoing`: small flows that are all about compensations;
 //!   `wide`: families with many runs or many compensations; `repeating`: flows of equal parts.
-//! - `spoiling`: one damage for each refusal number; `filing`: flow files, whole, cut and damaged.
-//! - `reading`: files for the reader itself; `writing`: calls of the writer; `calling`: what such a call looks like.
+//! - `naming`: names, and flows whose leaves carry them; `filing`: flow files, whole, cut and damaged.
+//! - `spoiling`: one damage for each refusal number; `damaging`: damages to names, nodes and records lent one by one.
+//! - `reading`: files for the reader itself; `writing`: calls of the writer; `lending`: calls of the judge with names and without;
+//!   `calling`: what such a call looks like.
 //! - `malformed`: what is no case at all; `showing`: a case as a person reads it.
 
 pub mod calling;
+pub mod damaging;
 pub mod filing;
 pub mod fixed;
 pub mod judging;
+pub mod lending;
 pub mod malformed;
+pub mod naming;
 pub mod reading;
 pub mod repeating;
 pub mod showing;
@@ -21,10 +26,11 @@ pub mod undoing;
 pub mod wide;
 pub mod writing;
 
-use self::calling::Call;
+use self::calling::{Call, JUDGE};
 use self::malformed::malformed;
-use crate::judge::{judge_within, Answer};
-use crate::reader::{program_within, read_into};
+use crate::judge::{Answer, Lent};
+use crate::program::program_within;
+use crate::reader::read_into;
 use crate::refusals::Refusal;
 use crate::rng::Rng;
 use std::collections::{BTreeMap, VecDeque};
@@ -149,9 +155,7 @@ impl Case {
     pub fn reply(&self, patience: u32) -> Option<Reply> {
         match self {
             Case::File(file) => program_within(patience, file).map(Reply::Judged),
-            Case::Judge { allowance, work_len, nodes, records } => {
-                judge_within(patience, nodes, records, *work_len, *allowance).map(Reply::Judged)
-            }
+            Case::Judge { .. } => self.lent_to_judge()?.judged_within(patience).map(Reply::Judged),
             Case::Read { node_room, record_room, file } => {
                 Some(match read_into(*node_room as usize, *record_room as usize, file) {
                     Ok(file) => Reply::Read {
@@ -162,7 +166,18 @@ impl Case {
                     Err(refusal) => Reply::Refused(refusal),
                 })
             }
-            Case::Call(call) => Some(call.reply()),
+            Case::Call(call) => call.reply(patience),
+        }
+    }
+
+    /// What a judge is called with, if the case is a call of one.
+    pub fn lent_to_judge(&self) -> Option<Lent<'_>> {
+        match self {
+            Case::Judge { allowance, work_len, nodes, records } => {
+                Some(Lent { names: None, nodes, records, work_len: *work_len, allowance: *allowance })
+            }
+            Case::Call(call) if call.function == JUDGE => Some(call.lent()),
+            _ => None,
         }
     }
 
@@ -201,7 +216,7 @@ impl Stream {
     /// A random case of a random family, or some that belong together; none if it asks for too many states.
     fn random(&mut self) -> VecDeque<Made> {
         let rng = &mut self.rng;
-        let (family, case) = match rng.below(120) {
+        let (family, case) = match rng.below(150) {
             0..=21 => ("judge", judging::case(rng)),
             22..=39 => ("judge, undoing", undoing::case(rng)),
             40..=46 => ("judge, wide flow", wide::case(rng)),
@@ -215,10 +230,13 @@ impl Stream {
             80..=86 => ("file, cut", Case::File(filing::cut(rng))),
             87..=98 => ("file, damaged", Case::File(filing::damaged(rng))),
             99 => ("file, at the limits", Case::File(filing::at_limits_or_longer(rng))),
-            100..=105 => ("read", reading::case(rng)),
-            106..=109 => ("write", writing::case(rng)),
-            110..=118 => ("write, damaged", writing::damaged_case(rng)),
-            _ => ("write, at the limits", writing::case_at_limits(rng)),
+            100..=106 => ("read", reading::case(rng)),
+            107..=110 => ("write", writing::case(rng)),
+            111..=119 => ("write, damaged", writing::damaged_case(rng)),
+            120 => ("write, at the limits", writing::case_at_limits(rng)),
+            121..=138 => ("names", lending::case(rng)),
+            139..=148 => ("names, damaged", lending::damaged_case(rng)),
+            _ => ("names, at the limits", lending::case_at_limits(rng)),
         };
         Made::within(PATIENCE, family, case).into_iter().collect()
     }
@@ -243,7 +261,7 @@ impl Iterator for Stream {
 }
 
 /// The gate's stored run, `crates/replay/stdin` and `stdout`: so many cases of this seed.
-pub const STORED_CASES: usize = 7_000;
+pub const STORED_CASES: usize = 8_500;
 pub const STORED_SEED: u64 = 1;
 
 /// A run of `replay`: its input, and the lines that it has to print.

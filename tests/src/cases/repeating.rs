@@ -1,14 +1,17 @@
 //! Flows of equal parts, in which the same states come again and again by different ways. A judge that remembers the states it has gone
 //! through, and brings back a wrong count or a wrong place, or what belongs to another state, place or record list, is found out here.
 
+use super::calling::Call;
 use super::judging::near;
-use super::{Case, MOST_WORK};
+use super::{naming, Case, MOST_WORK};
 use crate::by_hand::{A, B, C, D};
 use crate::drawing::*;
-use crate::judge::{effort, Effort};
+use crate::flowfile::section_of;
+use crate::judge::{Effort, Lent};
+use crate::matching::Matching;
 use crate::measured::withdrawing;
 use crate::random;
-use crate::refusals::{work_wanted, MOST_NODES};
+use crate::refusals::MOST_NODES;
 use crate::rng::Rng;
 use crate::term::{is_event, root, CLOSING_RECORDS, DONE, WITHDRAWN};
 
@@ -24,9 +27,16 @@ pub fn cases(rng: &mut Rng) -> Vec<Case> {
         if flow.size() > MOST_NODES {
             continue;
         }
-        let nodes = flow.table_in_any_order(rng);
-        let run = random::run(rng, &root(&nodes), EVENTS);
-        let some = around(rng, &nodes, &run, 3_000);
+        let mut nodes = flow.table_in_any_order(rng);
+        let some = if rng.once_in(3) {
+            let names = naming::named(rng, &mut nodes);
+            let (section, events) = (section_of(&names), names.len());
+            let run = random::run(rng, &root(&nodes), &Matching::ByName(names), events);
+            around(rng, Some(&section), &nodes, &run, 3_000, events)
+        } else {
+            let run = random::run(rng, &root(&nodes), &Matching::ByNumber, EVENTS);
+            around(rng, None, &nodes, &run, 3_000, EVENTS)
+        };
         if !some.is_empty() {
             return some;
         }
@@ -39,7 +49,7 @@ fn cases_with_many_states(rng: &mut Rng) -> Vec<Case> {
         let stepping = rng.between(2, 3);
         let nodes = withdrawing(stepping, rng.between(10, 12)).table_in_any_order(rng);
         let run = [vec![A; stepping], vec![WITHDRAWN], vec![B; rng.between(0, 2)], vec![DONE]].concat();
-        let some = around(rng, &nodes, &run, 25_000);
+        let some = around(rng, None, &nodes, &run, 25_000, EVENTS);
         if !some.is_empty() {
             return some;
         }
@@ -47,26 +57,34 @@ fn cases_with_many_states(rng: &mut Rng) -> Vec<Case> {
 }
 
 /// No cases if the search is not worth it: few states, no equal ones, or more than `most` different ones.
-fn around(rng: &mut Rng, nodes: &[u16], run: &[u16], most: usize) -> Vec<Case> {
+fn around(
+    rng: &mut Rng,
+    names: Option<&[u8]>,
+    nodes: &[u16],
+    run: &[u16],
+    most: usize,
+    events: usize,
+) -> Vec<Case> {
     let (least_entered, most_entered) =
         *rng.pick(&[(24, 1_000), (100, 10_000), (1_000, 100_000), (1_000, 500_000)]);
     let mut all = vec![];
-    let mut records = spoiled(rng, run);
+    let mut records = spoiled(rng, run, events);
     for _ in 0..rng.between(1, 3) {
-        match effort(nodes, &records, most_entered, most) {
+        let lent = Lent::enough(names, nodes, &records, most_entered);
+        match lent.effort_within(most) {
             Some(e) if e.entered >= least_entered && e.entered as usize > e.different + e.different / 4 => {
-                all.push(call(rng, nodes, &records, e));
+                all.push(call(rng, lent, e));
             }
             _ => break,
         }
         if rng.once_in(2) {
-            records = spoiled(rng, run);
+            records = spoiled(rng, run, events);
         }
     }
     all
 }
 
-fn call(rng: &mut Rng, nodes: &[u16], records: &[u16], effort: Effort) -> Case {
+fn call(rng: &mut Rng, lent: Lent, effort: Effort) -> Case {
     let count = effort.entered;
     let allowance = match rng.below(16) {
         0..=4 => count,
@@ -78,21 +96,27 @@ fn call(rng: &mut Rng, nodes: &[u16], records: &[u16], effort: Effort) -> Case {
         12 => rng.below(count as usize) as u32,
         _ => u32::MAX,
     };
-    let wanted = work_wanted(nodes, records);
-    let work_len = if rng.once_in(8) { near(rng, wanted, MOST_WORK) } else { wanted };
-    Case::Judge { allowance, work_len, nodes: nodes.to_vec(), records: records.to_vec() }
+    let work_len = if rng.once_in(8) { near(rng, lent.work_len, MOST_WORK) } else { lent.work_len };
+    let (nodes, records) = (lent.nodes.to_vec(), lent.records.to_vec());
+    match lent.names {
+        None => Case::Judge { allowance, work_len, nodes, records },
+        Some(names) => {
+            let work_len = work_len as u32;
+            Case::Call(Call { allowance, work_len, ..Call::judge(Some(names.to_vec()), nodes, records) })
+        }
+    }
 }
 
 /// A run that goes wrong near its end, so that much is tried before it is given up; now and then the run itself.
-fn spoiled(rng: &mut Rng, run: &[u16]) -> Vec<u16> {
+fn spoiled(rng: &mut Rng, run: &[u16], events: usize) -> Vec<u16> {
     let mut records = run.to_vec();
     let last = records.len() - 1;
     let late: Vec<usize> = (last.saturating_sub(3)..last).filter(|&i| is_event(records[i])).collect();
     match rng.below(8) {
         0 => {}
-        1 | 2 if !late.is_empty() => records[*rng.pick(&late)] = rng.between(1, EVENTS) as u16,
+        1 | 2 if !late.is_empty() => records[*rng.pick(&late)] = rng.between(1, events) as u16,
         3 if !late.is_empty() => drop(records.remove(*rng.pick(&late))),
-        4 => records.insert(last, rng.between(1, EVENTS) as u16),
+        4 => records.insert(last, rng.between(1, events) as u16),
         _ => records[last] = *rng.pick(&CLOSING_RECORDS),
     }
     records

@@ -32,13 +32,17 @@ impl Case {
 }
 
 fn show_call(call: &Call) -> String {
-    let Call { function, edition, allowance, work_len, room, names, nodes, records, .. } = call;
+    let Call { function, edition, allowance, work_len, room, nodes, records, .. } = call;
     let head =
         format!("function {function}, edition {edition}, allowance {allowance}, {work_len} work bytes");
+    let names = if call.names_lent == 0 { "no names\n".into() } else { show_names(&call.names) };
+    format!("{head}, room {room}\n{names}{}", show_flow(nodes, records))
+}
+
+fn show_names(names: &[u8]) -> String {
     let mut section = Walk::of(names);
     section.items_of_names();
-    let names = format!("a names section of {} bytes\n{}", names.len(), section.shown());
-    format!("{head}, room {room}\n{names}{}", show_flow(nodes, records))
+    format!("a names section of {} bytes\n{}", names.len(), section.shown())
 }
 
 fn show_flow(nodes: &[u16], records: &[u16]) -> String {

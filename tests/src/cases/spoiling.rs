@@ -9,7 +9,7 @@ use crate::rng::Rng;
 use crate::term::{is_event, kind, sort_of, Sort, CLOSING_RECORDS, MOST_EVENT};
 
 /// The numbers aimed at, 1 to 14; those that a damage easily misses stand here more often.
-pub const AIMS: [u32; 21] = [1, 2, 3, 4, 5, 6, 7, 7, 7, 8, 8, 8, 9, 9, 10, 11, 12, 12, 13, 13, 14];
+pub const AIMS: [u32; 22] = [1, 2, 3, 4, 5, 6, 7, 7, 7, 8, 8, 8, 9, 9, 10, 10, 11, 12, 12, 13, 13, 14];
 
 /// A call of the judge with one or two damages.
 pub fn judge_case(rng: &mut Rng) -> Case {

@@ -4,6 +4,7 @@
 use super::{judging, Case};
 use crate::by_hand::{A, B};
 use crate::drawing::*;
+use crate::matching::Matching;
 use crate::random;
 use crate::rng::Rng;
 use crate::term::root;
@@ -11,11 +12,11 @@ use crate::term::root;
 pub fn case(rng: &mut Rng) -> Case {
     let flow = flow(rng);
     let nodes = flow.table_in_any_order(rng);
-    let records = random::records_for(rng, &root(&nodes), 2);
+    let records = random::records_for(rng, &root(&nodes), &Matching::ByNumber, 2);
     judging::around_the_count(rng, 60_000, nodes, records)
 }
 
-fn flow(rng: &mut Rng) -> Drawing {
+pub fn flow(rng: &mut Rng) -> Drawing {
     let pairs = rng.between(1, 4);
     let pp = compensable(rng, pairs);
     match rng.below(8) {

@@ -4,22 +4,18 @@
 use super::{judging, Case};
 use crate::by_hand::{A, B, C};
 use crate::drawing::*;
+use crate::matching::Matching;
 use crate::random;
 use crate::refusals::MOST_NODES;
 use crate::rng::Rng;
 use crate::term::root;
 
 pub fn case(rng: &mut Rng) -> Case {
-    let flow = loop {
-        let flow = flow(rng);
-        if flow.size() <= MOST_NODES {
-            break flow;
-        }
-    };
+    let flow = flow(rng);
     let nodes = flow.table_in_any_order(rng);
     let records = match rng.below(3) {
         0 => only_a(rng, &flow),
-        _ => random::records_for(rng, &root(&nodes), 3),
+        _ => random::records_for(rng, &root(&nodes), &Matching::ByNumber, 3),
     };
     judging::around_the_count(rng, 60_000, nodes, records)
 }
@@ -30,7 +26,17 @@ fn only_a(rng: &mut Rng, flow: &Drawing) -> Vec<u16> {
     random::records(rng, flow.sort(), 1, most)
 }
 
-fn flow(rng: &mut Rng) -> Drawing {
+/// A flow within the limit of nodes.
+pub fn flow(rng: &mut Rng) -> Drawing {
+    loop {
+        let flow = any_flow(rng);
+        if flow.size() <= MOST_NODES {
+            return flow;
+        }
+    }
+}
+
+fn any_flow(rng: &mut Rng) -> Drawing {
     let leaves = |e: u16| pair(skip(), event(e));
     let either = || choice(leaves(B), leaves(C));
     let undone = |pp: Drawing| block(seq(pp, throww()));

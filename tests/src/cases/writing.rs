@@ -1,12 +1,12 @@
 //! Calls of the writer: whole files taken apart, with one or two damages to the names section's bytes, the nodes, the records or the
-//! room, and calls at the limits.
+//! room, and calls at the limits. The faults here are planned for everything that is lent the three lists.
 
 use super::calling::Call;
+use super::damaging::{self, Lists};
 use super::judging::near;
-use super::spoiling::{spoil, AIMS};
-use super::{filing, fixed, Case, MOST_NUMBERS, MOST_ROOM};
+use super::{filing, fixed, Case, MOST_ROOM};
 use crate::drawing::{event, pair, skip, Drawing};
-use crate::flowfile::{self, entry, Entry, FlowFile, ItemKind};
+use crate::flowfile::{self, entry, Entry, FlowFile};
 use crate::refusals::Refusal;
 use crate::rng::Rng;
 use crate::term::{is_event, DONE};
@@ -25,7 +25,8 @@ fn write(names: &[Entry], flow: &Drawing, records: &[u16]) -> Call {
 pub fn fixed() -> Vec<Case> {
     let mut calls = rooms();
     calls.push(planned());
-    calls.extend(faults_alone_and_in_pairs().into_iter().map(|(_, call)| call));
+    let faults = faults_alone_and_in_pairs(&planned(), &FAULTS.each_ref());
+    calls.extend(faults.into_iter().map(|(_, call)| call));
     calls.extend(lower_nodes_first());
     calls.extend(sections());
     calls.extend(lengths());
@@ -66,7 +67,8 @@ const fn fault(number: u32, place: usize, damage: fn(&mut Call)) -> Fault {
     Fault { refusal: Refusal { number, place }, damage }
 }
 
-/// In the order in which the writer is to find them. Done one upon the other, the last first, they leave the first to be found.
+/// In the order in which the writer, or a judge that is lent names, is to find them. Done one upon the other, the last first, they leave
+/// the first to be found.
 pub const FAULTS: [Fault; 24] = [
     fault(15, 0, |call| call.names.truncate(1)),
     fault(16, 0, |call| call.names[..2].copy_from_slice(&[1, 1])),
@@ -94,16 +96,19 @@ pub const FAULTS: [Fault; 24] = [
     fault(13, 3, |call| call.records.push(1)),
     fault(19, 0, |call| call.nodes[1] = 4),
     fault(20, 1, |call| call.records[1] = 4),
-    fault(14, 0, |call| call.room -= 1),
+    fault(14, 0, |call| {
+        call.room = call.room.saturating_sub(1);
+        call.work_len = call.work_len.saturating_sub(1);
+    }),
 ];
 
-/// `planned` with each fault and with each two of them, and what the writer is to find.
-pub fn faults_alone_and_in_pairs() -> Vec<(Refusal, Call)> {
+/// A planned call with each fault and with each two of them, and what is to be found if they stand in their order.
+pub fn faults_alone_and_in_pairs(planned: &Call, faults: &[&Fault]) -> Vec<(Refusal, Call)> {
     let mut all = vec![];
-    for (i, fault) in FAULTS.iter().enumerate() {
-        let later = FAULTS[i + 1..].iter().map(Some);
+    for (i, fault) in faults.iter().enumerate() {
+        let later = faults[i + 1..].iter().map(Some);
         for other in [None].into_iter().chain(later) {
-            let mut call = planned();
+            let mut call = planned.clone();
             other.iter().for_each(|other| (other.damage)(&mut call));
             (fault.damage)(&mut call);
             all.push((fault.refusal, call));
@@ -113,7 +118,7 @@ pub fn faults_alone_and_in_pairs() -> Vec<(Refusal, Call)> {
 }
 
 /// A fault with a lower number in a higher node, which is not found.
-fn lower_nodes_first() -> Vec<Call> {
+pub fn lower_nodes_first() -> Vec<Call> {
     let tables: [&[u16]; 6] = [
         &[1, 0, 0, 17, 0, 0],
         &[5, 0, 0, 17, 0, 0],
@@ -126,7 +131,7 @@ fn lower_nodes_first() -> Vec<Call> {
 }
 
 /// The worked names section: every cut of it, every byte of it exchanged, and bytes after it.
-fn sections() -> Vec<Call> {
+pub fn sections() -> Vec<Call> {
     let file = flowfile::worked();
     let names = file.names_section();
     let mut sections: Vec<Vec<u8>> = (0..names.len()).map(|length| names[..length].to_vec()).collect();
@@ -144,7 +149,7 @@ fn sections() -> Vec<Call> {
 }
 
 /// Node numbers and records of many lengths: 1 only for no node number, then 2 for any length that is no multiple of 3, then 3.
-fn lengths() -> Vec<Call> {
+pub fn lengths() -> Vec<Call> {
     let mut all = vec![];
     for length in (0..=9).chain(187..=200).chain([300, 398, 399, 400]) {
         let nodes = [2, 0, 0].repeat(134)[..length].to_vec();
@@ -158,7 +163,7 @@ fn lengths() -> Vec<Call> {
 }
 
 /// Events of nodes and of records just within the names and just beyond them.
-fn missing_names() -> Vec<Call> {
+pub fn missing_names() -> Vec<Call> {
     let mut all = vec![];
     for count in [0, 1, 2, 255, 256] {
         let names: Vec<Entry> = (0..count).map(|i| (vec![i as u8], vec![])).collect();
@@ -210,76 +215,11 @@ fn with_room(rng: &mut Rng, call: Call, room: usize) -> Case {
     Case::Call(Call { edition: rng.byte(), allowance, work_len, room: room as u32, ..call })
 }
 
-#[derive(Clone, Copy)]
-enum Damage {
-    /// Aimed at one of 1 to 13.
-    Tables(u32),
-    /// 14.
-    Room,
-    /// 15.
-    Cut,
-    /// 15 to 20, and 21 for bytes after the section, as in files.
-    Names(filing::Damage),
-}
-
-const DAMAGES_TO_NAMES: [Damage; 18] = [
-    Damage::Cut,
-    Damage::Cut,
-    Damage::Names(filing::Damage::EqualEntry),
-    Damage::Names(filing::Damage::EqualEntry),
-    Damage::Names(filing::Damage::FewerNames),
-    Damage::Names(filing::Damage::FewerNames),
-    Damage::Names(filing::Damage::RecordBeyondNames),
-    Damage::Names(filing::Damage::RecordBeyondNames),
-    Damage::Names(filing::Damage::OutOfRange(ItemKind::NameCount)),
-    Damage::Names(filing::Damage::OutOfRange(ItemKind::StepLength)),
-    Damage::Names(filing::Damage::OutOfRange(ItemKind::MachineLength)),
-    Damage::Names(filing::Damage::CountOffByOne),
-    Damage::Names(filing::Damage::CountOffByOne),
-    Damage::Names(filing::Damage::MoreBytes),
-    Damage::Names(filing::Damage::MoreBytes),
-    Damage::Names(filing::Damage::ChangedBytes),
-    Damage::Names(filing::Damage::ChangedBytes),
-    Damage::Names(filing::Damage::MissingByte),
-];
-
-fn any_damage(rng: &mut Rng) -> Damage {
-    if rng.once_in(2) {
-        return *rng.pick(&DAMAGES_TO_NAMES);
-    }
-    match *rng.pick(&AIMS) {
-        14 => Damage::Room,
-        number => Damage::Tables(number),
-    }
-}
-
 /// A call with one or two damages.
 pub fn damaged_case(rng: &mut Rng) -> Case {
-    let two = rng.once_in(2);
-    let damages: Vec<Damage> = (0..if two { 2 } else { 1 }).map(|_| any_damage(rng)).collect();
-    let of_names = |damage: &Damage| match damage {
-        Damage::Names(damage) => Some(*damage),
-        _ => None,
-    };
-    let to_names: Vec<filing::Damage> = damages.iter().filter_map(of_names).collect();
-    let mut file = filing::whole(rng);
-    to_names.iter().for_each(|&damage| filing::damage_lists(rng, damage, &mut file));
-    let mut items = file.names_items();
-    to_names.iter().for_each(|&damage| filing::damage_items(rng, damage, &mut items));
-    let mut names = filing::bytes(&items);
-    to_names.iter().for_each(|&damage| filing::damage_bytes(rng, damage, &mut names));
-    let (mut nodes, mut records) = (file.nodes, file.records);
-    for damage in &damages {
-        match damage {
-            Damage::Tables(number) => spoil(rng, *number, &mut nodes, &mut records),
-            Damage::Cut => names.truncate(rng.below(names.len().max(1))),
-            Damage::Room | Damage::Names(_) => {}
-        }
-    }
-    nodes.truncate(MOST_NUMBERS);
-    records.truncate(MOST_NUMBERS);
+    let Lists { names, nodes, records, short } = damaging::lists(rng);
     let call = Call::write(names, nodes, records);
-    if damages.iter().any(|damage| matches!(damage, Damage::Room)) {
+    if short {
         let room = rng.below(call.room as usize);
         return with_room(rng, call, room);
     }
@@ -288,14 +228,6 @@ pub fn damaged_case(rng: &mut Rng) -> Case {
 
 /// 255 to 257 names, 63 to 65 nodes, 255 to 257 records, alone or together, and the most numbers that `replay` takes.
 pub fn case_at_limits(rng: &mut Rng) -> Case {
-    let mut file = filing::at_limits(rng);
-    if rng.once_in(6) {
-        let length = *rng.pick(&[190, 191, 193, 194, 195, 196, 198, 398, 399, 400]);
-        file.nodes.resize(length, rng.below(17) as u16);
-    }
-    if rng.once_in(6) {
-        file.records.resize(*rng.pick(&[258, 300, 399, 400]), DONE);
-    }
-    let call = write_of(file);
+    let call = write_of(damaging::at_limits(rng));
     around_the_room(rng, call)
 }
