@@ -1,7 +1,7 @@
 -- One outcome for every input. 01, "How tight the contracts are": "For each public function and every input, refused ones too, the
 -- contract leaves one possible outcome: the result and each lent byte. That uniqueness is itself a proved fact."
 -- An outcome is the answer with all that was lent to be written, as it is after the call. Here: the general lemma, and the entry points
--- of `line` and `program`. The others have theirs beside their promises: `judge-unique` (Demands), `read-once` and `scan-names-once`
+-- of `line` and `program`. The others have theirs beside their promises: `judge-unique` (Demands), `named-unique` (NamedDemands), `read-once` and `scan-names-once`
 -- (Reader), `write-once` (Writer), `rewrite-once` (Rewritten).
 -- Theorems only. Assumes nothing.
 use Prim.Native.Nat.{ℕ, _+_}
@@ -11,7 +11,8 @@ use lib.ListN.{length, take, drop}
 use Rattle.judge.specs.declared.Answer.{Answer}
 use Rattle.line.specs.declared.Line.{Line}
 use Rattle.line.specs.Line.{line-of, Put, LineWritten}
-use Rattle.program.specs.Program.{answer-of-file, line-for, printed, FileAnswered, AnswerTold, FilePrinted}
+use Rattle.program.specs.Program.{line-for}
+use Rattle.program.specs.Answering.{answer-of-file, printed, FileAnswered, AnswerTold, FilePrinted}
 
 -- a contract on outcomes leaves one
 abbrev pub LeavesOne : {A : Type 0} → (A → Type 0) → Type 0

@@ -12,8 +12,8 @@ use Rattle.flow.specs.Trees.{descend}
 use Rattle.flow.specs.Records.{record-of, is-event-number, is-closing-number}
 use Rattle.flow.specs.Refusals.{no-nodes, not-whole, too-many-nodes, unknown-kind, wrong-field, not-lower, is-child, taken, wrong-sort, child-taken, nobodys-child, no-records, too-many-records, no-record, closings-wanted, closed, wrong-closings, after-closings, node-grounds, child-grounds, value-grounds}
 use Rattle.flow.specs.Checks.{refused, first, answer, or-else-check, each, nodes-check, table-check, values-check, closings-check, records-check}
-use Rattle.flow.specs.Drawn.{made, drawn, flow-of}
-use Rattle.judge.specs.Judged.{VerdictWord, Told, told, verdict, refusal, room-wanted, too-short, judge-check, answer-of, unless-refused, judged, cleared, work-after}
+use Rattle.flow.specs.Drawn.{made, drawn, flow-by}
+use Rattle.judge.specs.Judged.{VerdictWord, Told, told, verdict, refusal, room-of, too-short, judge-check, answer-of, unless-refused, judged-by, judged, cleared, bytes-by, work-after}
 
 ---- The judge ----
 
@@ -69,17 +69,17 @@ abbrev told-of : Line → Told
 told-of l = told (judged (l .nodes) (l .batch) (l .room) (l .allowance))
 
 pub lines-told : map told-of lines ≡ map (λ l. l .answer) lines
-unfolding lines told judged unless-refused answer-of judge-check too-short room-wanted search.judge flow-of drawn made descend first answer or-else-check each no-nodes not-whole too-many-nodes unknown-kind wrong-field not-lower is-child taken wrong-sort child-taken nobodys-child no-records too-many-records no-record closings-wanted closed wrong-closings after-closings node-grounds child-grounds value-grounds record-of is-event-number is-closing-number xor
+unfolding lines told judged-by unless-refused answer-of judge-check too-short room-of search.judge flow-by drawn made descend first answer or-else-check each no-nodes not-whole too-many-nodes unknown-kind wrong-field not-lower is-child taken wrong-sort child-taken nobodys-child no-records too-many-records no-record closings-wanted closed wrong-closings after-closings node-grounds child-grounds value-grounds record-of is-event-number is-closing-number xor
 lines-told = refl
 
 -- A judge that touches nothing, or clears too little, leaves bytes that are not zero: of 50 bytes lent the first 48 are cleared.
 pub bytes-cleared : work-after nodes batch (replicate 50 7) ≡ replicate 48 0 ++ replicate 2 7
-unfolding work-after unless-refused cleared judge-check too-short room-wanted first answer or-else-check each no-nodes not-whole too-many-nodes unknown-kind wrong-field not-lower is-child taken wrong-sort child-taken nobodys-child no-records too-many-records no-record closings-wanted closed wrong-closings after-closings node-grounds child-grounds value-grounds record-of is-event-number is-closing-number xor
+unfolding bytes-by unless-refused cleared judge-check too-short room-of first answer or-else-check each no-nodes not-whole too-many-nodes unknown-kind wrong-field not-lower is-child taken wrong-sort child-taken nobodys-child no-records too-many-records no-record closings-wanted closed wrong-closings after-closings node-grounds child-grounds value-grounds record-of is-event-number is-closing-number xor
 bytes-cleared = refl
 
 -- A refusal that clears the bytes lent: here 14.
 pub bytes-kept : work-after nodes batch (replicate 47 7) ≡ replicate 47 7
-unfolding work-after unless-refused cleared judge-check too-short room-wanted first answer or-else-check each no-nodes not-whole too-many-nodes unknown-kind wrong-field not-lower is-child taken wrong-sort child-taken nobodys-child no-records too-many-records no-record closings-wanted closed wrong-closings after-closings node-grounds child-grounds value-grounds record-of is-event-number is-closing-number xor
+unfolding bytes-by unless-refused cleared judge-check too-short room-of first answer or-else-check each no-nodes not-whole too-many-nodes unknown-kind wrong-field not-lower is-child taken wrong-sort child-taken nobodys-child no-records too-many-records no-record closings-wanted closed wrong-closings after-closings node-grounds child-grounds value-grounds record-of is-event-number is-closing-number xor
 bytes-kept = refl
 
 ---- The checks ----

@@ -1,9 +1,11 @@
--- What the demands are stated with: what the place and the count of a rejection are, and when two answers are the same.
--- Definitions only: Demands and Files have the theorems. Assumes nothing.
-use Prim.Native.Nat.{ℕ, _≤_}
+-- What the demands are stated with: what the place and the count of a rejection are, what demand 2 says of an answer, and when two
+-- answers are the same. Definitions only: Demands, NamedDemands and Files have the theorems. Assumes nothing.
+use Prim.Native.Nat.{ℕ, _≤_, _<_}
 use mathlib.Core.List.{List}
+use mathlib.Core.Logic.{_↔_}
 use mathlib.Core.Path.{_≡_}
-use Rattle.calculus.specs.Records.{Record, State, Follows}
+use lib.ListN.{length}
+use Rattle.calculus.specs.Records.{Record, State, Follows, Complete, InTraces}
 use Rattle.calculus.specs.Search.{visit}
 use Rattle.judge.specs.Told.{VerdictWord, Told, verdict, refusal}
 
@@ -12,6 +14,20 @@ pub record Rejection (flow : State) (batch : List Record) (place count : ℕ) : 
   pub follows : Follows flow batch place
   pub longest : (n : ℕ) → Follows flow batch n → n ≤ place
   pub counted : count ≡ (visit batch flow) .entered
+
+-- Demand 2, of what is told of a flow, its records and an allowance: "undecided exactly if the search that document 01 defines enters more
+-- states than the caller allowed. If not undecided, it is accepted exactly if its records are a complete run of the flow under the
+-- published transition rules, and equally if they are one of its traces under the published trace semantics. Else it is rejected."
+pub record Decides (flow : State) (batch : List Record) (allowance : ℕ) (t : Told) : Type 0 where
+  pub undecided-exactly : (t .word ≡ VerdictWord.undecided) ↔ (allowance < (visit batch flow) .entered)
+  pub accepted-exactly : (t .word ≡ VerdictWord.undecided → ⊥) → (t .word ≡ VerdictWord.accepted) ↔ Complete flow batch
+  pub accepted-traces : (t .word ≡ VerdictWord.undecided → ⊥) → (t .word ≡ VerdictWord.accepted) ↔ InTraces flow batch
+  pub else-rejected : (t .word ≡ VerdictWord.undecided → ⊥) → (Complete flow batch → ⊥) → t .word ≡ VerdictWord.rejected
+  -- 01: "undecided: place 0; count = allowance"
+  pub undecided-is : t .word ≡ VerdictWord.undecided → t ≡ verdict VerdictWord.undecided 0 allowance
+  -- 01: "accepted: place = number of records; count"
+  pub accepted-is : t .word ≡ VerdictWord.accepted → t ≡ verdict VerdictWord.accepted (length batch) ((visit batch flow) .entered)
+  pub rejected-is : t .word ≡ VerdictWord.rejected → Rejection flow batch (t .place) (t .count)
 
 -- both refused, with the same number and place; or both accepted; or both rejected, at the same place; or either undecided
 pub data SameAnswer : Told → Told → Type 0 where
