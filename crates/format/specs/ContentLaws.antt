@@ -18,16 +18,16 @@ use Rattle.format.specs.ContentChecks.{leaves-grounds, events-grounds, g
 
 module _ (names : ℕ) (ns rs : List ℕ) where
   -- from each check on
-  abbrev leaves-on : Check
+  abbrev pub leaves-on : Check
   leaves-on = or-else-check (first (leaves-grounds names ns)) (first (events-grounds names rs))
 
-  abbrev closings-on : Check
+  abbrev pub closings-on : Check
   closings-on = or-else-check (closings-check ns rs) leaves-on
 
-  abbrev values-on : Check
+  abbrev pub values-on : Check
   values-on = or-else-check (values-check rs) closings-on
 
-  contents-is : first (grounds-of names ns rs) ≡ or-else-check (nodes-check ns) values-on
+  pub contents-is : first (grounds-of names ns rs) ≡ or-else-check (nodes-check ns) values-on
   unfolding grounds-of leaves-grounds events-grounds nodes-check values-check closings-check
   contents-is =
       orders-append (nodes-order ns) (values-order rs ++ (closing-order ns rs ++ names-order names ns rs))

@@ -65,11 +65,11 @@ module _ (s ns rs : List ℕ) where
   alone-refused e = ap (by-entries _) e
 
   module _ {es : List Entry} {at : ℕ} (e : section-alone s ≡ got es at) where
-    contents : Check
+    abbrev pub contents : Check
     contents = first (grounds-of (length es) ns rs)
 
-    lists-is : lists-check s ns rs ≡ or-else-check (table-length-check ns) (or-else-check (records-length-check rs) contents)
-    unfolding lists-check named-check by-entries contents grounds-of table-length-check records-length-check
+    pub lists-is : lists-check s ns rs ≡ or-else-check (table-length-check ns) (or-else-check (records-length-check rs) contents)
+    unfolding lists-check named-check by-entries grounds-of table-length-check records-length-check
     lists-is =
         ap (by-entries _) e
         ∙ orders-append (table-length-order ns) (records-length-order rs ++ content-order (length es) ns rs)
@@ -83,7 +83,6 @@ module _ (s ns rs : List ℕ) where
       records-length-refused q h = q ∙ or-else-refused _ (sym q ∙ h) ∙ or-else-fine _ a ∙ sym lists-is
 
       pub contents-last : {c : Check} {n : ℕ} → records-length-check rs ≡ Fine → n ≡ length es → c ≡ first (grounds-of n ns rs) → c ≡ lists-check s ns rs
-      unfolding contents
       contents-last b d q = q ∙ ap (λ (k : ℕ). first (grounds-of k ns rs)) d ∙ or-else-fine _ b ∙ or-else-fine _ a ∙ sym lists-is
 
 ---- Nothing is refused ----
@@ -97,7 +96,6 @@ pub record ListsPassed (s ns rs : List ℕ) : Type 0 where
 
 module _ (s ns rs : List ℕ) where
   pub lists-passed : lists-check s ns rs ≡ Fine → ListsPassed s ns rs
-  unfolding contents
   lists-passed f = by (section-alone s) refl
     where
       by : (x : Ran (List Entry)) → section-alone s ≡ x → ListsPassed s ns rs

@@ -1,25 +1,28 @@
 -- The file as a whole, over what the program answers to its bytes (`answer-of-file`), told in 01's words. A file that is read is never
 -- refused by the judge: the reader's checks are the judge's, and the program lends work bytes enough. So the program refuses exactly
--- what the reader refuses; and demand 2 for files, of the flow that the file's nodes mean and the records that it holds.
+-- what the reader refuses; and demand 2 for files, of the flow that the file's nodes draw with its names, and the records that it holds.
 -- Theorems only. Assumes nothing.
 use Prim.Native.Nat.{ℕ, _+_, _*_, _<_, _≤_}
 use native.Mathlib.Nat.{mul-le-mul}
 use native.Mathlib.Omega.{arith}
+use mathlib.Core.Bool.{not}
 use mathlib.Core.List.{List}
 use mathlib.Core.Logic.{_↔_}
 use mathlib.Core.Path.{_≡_, refl, sym, ap, _∙_, subst}
-use lib.ListN.{length}
+use lib.Dec.{T}
+use lib.ListN.{length, length-map}
+use borrow.Author.Tests.{le-ltb}
 use Rattle.calculus.specs.Records.{Record, State, Complete, InTraces}
 use Rattle.calculus.specs.Search.{visit}
 use Rattle.flow.specs.declared.Refusal.{Refusal}
 use Rattle.flow.specs.declared.Check.the-variants.{Fine}
-use Rattle.flow.specs.Records.{records}
-use Rattle.flow.specs.Refusals.{count, table-order, records-order}
-use Rattle.flow.specs.Checks.{table-check, records-check}
-use Rattle.flow.specs.Earliest.{Nowhere, end, not-lone, not-sweep}
-use Rattle.flow.specs.Drawn.{flow-of}
-use Rattle.format.specs.Format.{File}
+use Rattle.flow.specs.Records.{record-of, records}
+use Rattle.flow.specs.Refusals.{count}
+use Rattle.flow.specs.Earliest.{Nowhere, end, not-lone}
+use Rattle.flow.specs.Drawn.{flow-by}
+use Rattle.format.specs.Format.{names-section, File}
 use Rattle.format.specs.Limits.{WithinLimits, Bytes}
+use Rattle.format.specs.Matching.{named}
 use Rattle.format.specs.Contents.{file-order}
 use Rattle.format.specs.Items.{refusal-of}
 use Rattle.reader.specs.declared.Reading.{Reading}
@@ -27,14 +30,15 @@ use Rattle.reader.specs.declared.Reading.the-variants as read
 use Rattle.reader.specs.Reading.{reported, Outcome, reading}
 use Rattle.reader.specs.Faults.{Refuses}
 use Rattle.reader.specs.ReaderLaws.{read-not-refused}
-use Rattle.judge.specs.Judged.{VerdictWord, Told, told, verdict, refusal, room-wanted, judge-check, judged}
-use Rattle.program.specs.Program.{states-allowed, work-lent, answered, answer-of-file}
-use Rattle.promises.specs.Stated.{Rejection}
-use Rattle.promises.specs.ExactlyWhen.{nowhere-exactly, passes-exactly}
-use Rattle.promises.specs.Verdicts.{records-decide}
-use Rattle.promises.specs.ListRefusals.{nowhere-both}
-use Rattle.promises.specs.Writer.{table-length-good, records-length-good}
-use Rattle.promises.specs.Demands as demand
+use Rattle.judge.specs.Judged.{VerdictWord, Told, told, verdict, refusal, room-of, room-wanted, too-short, named-judge-order, named-judge-check, named-flow, judged-named}
+use Rattle.program.specs.Program.{states-allowed, work-lent}
+use Rattle.program.specs.Answering.{answered, answer-of-file}
+use Rattle.promises.specs.Stated.{Rejection, Decides}
+use Rattle.promises.specs.Verdicts.{fine-not-refused}
+use Rattle.promises.specs.ListRefusals.{nowhere-both, named-passes}
+use Rattle.promises.specs.Writer.{writable-lists}
+use Rattle.promises.specs.RoundTrip.{names-handed}
+use Rattle.promises.specs.NamedDemands.{named-decides}
 use Rattle.promises.specs.Reader.{Readable, readable-read, read-readable, report-refused}
 use Rattle.promises.specs.ReaderRefusals.{refused-when}
 
@@ -47,49 +51,45 @@ module _ (f : File) (within : WithinLimits f) (fine : Nowhere (file-order f)) wh
   abbrev rs : List ℕ
   rs = f .records
 
-  -- 1 to 3 and 10, 11 by the two counts of the file; with 4 to 9
-  table-passes : Nowhere (file-order f) → Nowhere (table-order ns)
-  table-passes (not-sweep nodes (not-sweep children rest)) = nowhere-both (table-length-good ns .1 (within .nodes)) (not-sweep nodes (not-sweep children end))
-
-  -- with 12 and 13; 19 and 20 the judge does not know
-  records-pass : Nowhere (file-order f) → Nowhere (records-order ns rs)
-  records-pass (not-sweep nodes (not-sweep children (not-sweep values (not-lone closings rest)))) =
-      nowhere-both (records-length-good rs .1 (within .records)) (not-sweep values (not-lone closings end))
-
-  table-fine : table-check ns ≡ Fine
-  unfolding table-check
-  table-fine = nowhere-exactly (table-order ns) .1 (table-passes fine)
-
-  records-fine : records-check ns rs ≡ Fine
-  unfolding records-check
-  records-fine = nowhere-exactly (records-order ns rs) .1 (records-pass fine)
-
   -- 14: the largest flow wants 2 × 64 × (256 + 1)
   enough : room-wanted ns rs ≤ work-lent
-  unfolding room-wanted
+  unfolding room-of
   enough =
       let n : 2 * count ns ≤ 128 = omega (arith, within .nodes .whole, within .nodes .counted .high) in
       let k : length rs + 1 ≤ 257 = omega (arith, within .records .whole, within .records .counted .high) in
       mul-le-mul n k
 
-  pub contents-judged : judge-check ns rs work-lent ≡ Fine
-  contents-judged = records-decide ns rs work-lent table-fine enough ∙ records-fine
+  roomy : T (not (too-short ns rs work-lent))
+  unfolding too-short
+  roomy = rw (le-ltb work-lent (room-wanted ns rs) enough) tt
+
+  -- 1 to 3, 10 and 11 by the two counts of the file, then its contents
+  pub contents-judged : named-judge-check (names-section (f .names)) ns rs work-lent ≡ Fine
+  unfolding named-judge-check
+  contents-judged =
+      named-passes (names-section (f .names)) (named-judge-order ns rs work-lent) (f .names) (within .names) refl
+      (nowhere-both (writable-lists (length (f .names)) ns rs .1 (within .nodes, within .records, fine)) (not-lone roomy end))
 
 ---- A file that is read ----
 
 module _ (s : List ℕ) (f : File) (readable : Readable s 192 256 f) where
-  -- it is judged by its nodes and records
-  pub file-judged : answer-of-file s ≡ judged (f .nodes) (f .records) work-lent states-allowed
-  unfolding answer-of-file answered
-  file-judged = ap (λ (o : Outcome). answered (o .answer) (o .nodes) (o .records)) (readable-read s 192 256 f readable)
+  abbrev section : List ℕ
+  section = names-section (f .names)
 
-  judged-so : told (judged (f .nodes) (f .records) work-lent states-allowed) .word ≡ VerdictWord.refused → ⊥
+  -- it is judged by its names, nodes and records
+  pub file-judged : answer-of-file s ≡ judged-named section (f .nodes) (f .records) work-lent states-allowed
+  unfolding answer-of-file answered
+  file-judged =
+      ap (λ (o : Outcome). answered s (o .answer) (o .nodes) (o .records)) (readable-read s 192 256 f readable)
+      ∙ ap (λ (part : List ℕ). judged-named part (f .nodes) (f .records) work-lent states-allowed) (names-handed s readable)
+
+  judged-so : told (judged-named section (f .nodes) (f .records) work-lent states-allowed) .word ≡ VerdictWord.refused → ⊥
   judged-so =
-      demand.judged-when (f .nodes) (f .records) work-lent states-allowed .1
-      (passes-exactly (f .nodes) (f .records) work-lent .0 (contents-judged f (readable .within) (readable .fine)))
+      fine-not-refused (named-judge-check section (f .nodes) (f .records) work-lent) (named-flow section (f .nodes)) (f .records) states-allowed
+      (contents-judged f (readable .within) (readable .fine))
 
   -- what holds of the judge's answer holds of the program's
-  moved : (P : Told → Type 0) → P (told (judged (f .nodes) (f .records) work-lent states-allowed)) → P (told (answer-of-file s))
+  moved : (P : Told → Type 0) → P (told (judged-named section (f .nodes) (f .records) work-lent states-allowed)) → P (told (answer-of-file s))
   moved P = subst P (sym (ap told file-judged))
 
   -- and never refused
@@ -102,7 +102,7 @@ module _ (s : List ℕ) (f : File) (readable : Readable s 192 256 f) where
 module _ (s : List ℕ) (bytes : Bytes s) where
   refused-told : (r : Refusal) → reading s 192 256 .answer ≡ read.Refused r → told (answer-of-file s) ≡ refusal (r .number) (r .place)
   unfolding answer-of-file answered told
-  refused-told r e = ap (λ (a : Reading). told (answered a (reading s 192 256 .nodes) (reading s 192 256 .records))) e
+  refused-told r e = ap (λ (a : Reading). told (answered s a (reading s 192 256 .nodes) (reading s 192 256 .records))) e
 
   -- the program refuses exactly what the reader refuses, with its number and place
   pub file-refused-exactly : (number place : ℕ)
@@ -144,9 +144,9 @@ module _ (s : List ℕ) (f : File) (readable : Readable s 192 256 f) where
   abbrev answer : Told
   answer = told (answer-of-file s)
 
-  -- what the file holds
+  -- what the file holds: the flow that its nodes draw with its names, and its records
   abbrev flow : State
-  flow = flow-of (f .nodes)
+  flow = flow-by (named (f .names)) (f .nodes)
 
   abbrev batch : List Record
   batch = records (f .records)
@@ -154,56 +154,39 @@ module _ (s : List ℕ) (f : File) (readable : Readable s 192 256 f) where
   abbrev entered : ℕ
   entered = (visit batch flow) .entered
 
-  abbrev judge-answer : Told
-  judge-answer = told (judged (f .nodes) (f .records) work-lent states-allowed)
-
-  not-refused : judge-answer .word ≡ VerdictWord.refused → ⊥
-  not-refused = judged-so s f readable
-
-  moves : (P : Told → Type 0) → P judge-answer → P answer
-  moves = moved s f readable
+  -- all of it, in one record (Stated)
+  pub file-decides : Decides flow batch states-allowed answer
+  file-decides =
+      moved s f readable (Decides flow batch states-allowed)
+      (named-decides (f .names) (readable .within .names) (f .nodes) (f .records) work-lent states-allowed (judged-so s f readable))
 
   -- "allows 1,000,000 states"
   pub file-undecided-exactly : (answer .word ≡ VerdictWord.undecided) ↔ (states-allowed < entered)
-  file-undecided-exactly =
-      moves (λ (t : Told). (t .word ≡ VerdictWord.undecided) ↔ (states-allowed < entered))
-      (demand.undecided-exactly (f .nodes) (f .records) work-lent states-allowed not-refused)
+  file-undecided-exactly = file-decides .undecided-exactly
 
   pub file-undecided-is : answer .word ≡ VerdictWord.undecided → answer ≡ verdict VerdictWord.undecided 0 states-allowed
-  file-undecided-is =
-      moves (λ (t : Told). t .word ≡ VerdictWord.undecided → t ≡ verdict VerdictWord.undecided 0 states-allowed)
-      (demand.undecided-is (f .nodes) (f .records) work-lent states-allowed not-refused)
+  file-undecided-is = file-decides .undecided-is
 
   module _ (few : entered ≤ states-allowed) where
-    decided : judge-answer .word ≡ VerdictWord.undecided → ⊥
-    decided e = omega (arith, demand.undecided-exactly (f .nodes) (f .records) work-lent states-allowed not-refused .0 e)
+    decided : answer .word ≡ VerdictWord.undecided → ⊥
+    decided e = omega (arith, file-undecided-exactly .0 e)
 
     -- "accepted exactly if its records are a complete run"
     pub file-accepted-exactly : (answer .word ≡ VerdictWord.accepted) ↔ Complete flow batch
-    file-accepted-exactly =
-        moves (λ (t : Told). (t .word ≡ VerdictWord.accepted) ↔ Complete flow batch)
-        (demand.accepted-exactly (f .nodes) (f .records) work-lent states-allowed not-refused decided)
+    file-accepted-exactly = file-decides .accepted-exactly decided
 
     -- "and equally if they are one of its traces"
     pub file-accepted-traces : (answer .word ≡ VerdictWord.accepted) ↔ InTraces flow batch
-    file-accepted-traces =
-        moves (λ (t : Told). (t .word ≡ VerdictWord.accepted) ↔ InTraces flow batch)
-        (demand.accepted-traces (f .nodes) (f .records) work-lent states-allowed not-refused decided)
+    file-accepted-traces = file-decides .accepted-traces decided
 
     -- "Else it is rejected."
     pub file-else-rejected : (Complete flow batch → ⊥) → answer .word ≡ VerdictWord.rejected
-    file-else-rejected n =
-        moves (λ (t : Told). t .word ≡ VerdictWord.rejected)
-        (demand.else-rejected (f .nodes) (f .records) work-lent states-allowed not-refused decided n)
+    file-else-rejected = file-decides .else-rejected decided
 
   -- "accepted: place = number of records; count"
   pub file-accepted-is : answer .word ≡ VerdictWord.accepted → answer ≡ verdict VerdictWord.accepted (length (f .records)) entered
-  file-accepted-is =
-      moves (λ (t : Told). t .word ≡ VerdictWord.accepted → t ≡ verdict VerdictWord.accepted (length (f .records)) entered)
-      (demand.accepted-is (f .nodes) (f .records) work-lent states-allowed not-refused)
+  file-accepted-is w = file-decides .accepted-is w ∙ ap (λ (n : ℕ). verdict VerdictWord.accepted n entered) (length-map (f .records) record-of)
 
   -- "rejected: place = the longest beginning ..; count"
   pub file-rejected-is : answer .word ≡ VerdictWord.rejected → Rejection flow batch (answer .place) (answer .count)
-  file-rejected-is =
-      moves (λ (t : Told). t .word ≡ VerdictWord.rejected → Rejection flow batch (t .place) (t .count))
-      (demand.rejected-is (f .nodes) (f .records) work-lent states-allowed not-refused)
+  file-rejected-is = file-decides .rejected-is

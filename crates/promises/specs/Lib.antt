@@ -19,6 +19,7 @@ pub mod ContentRefusals
 pub mod ReaderRefusals
 pub mod Reads
 pub mod ListRefusals
+pub mod NamedDemands
 pub mod Writer
 pub mod RoundTrip
 pub mod Cuts

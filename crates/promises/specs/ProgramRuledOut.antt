@@ -12,33 +12,38 @@ use Rattle.flow.specs.Trees.{descend}
 use Rattle.flow.specs.Records.{record-of, is-event-number, is-closing-number}
 use Rattle.flow.specs.Refusals.{no-nodes, not-whole, too-many-nodes, unknown-kind, wrong-field, not-lower, is-child, taken, wrong-sort, child-taken, nobodys-child, no-records, too-many-records, no-record, closings-wanted, closed, wrong-closings, after-closings, node-grounds, child-grounds, value-grounds}
 use Rattle.flow.specs.Checks.{or-else-check, answer, first, each}
-use Rattle.flow.specs.Drawn.{made, drawn, flow-of}
-use Rattle.format.specs.Format.{encode}
+use Rattle.flow.specs.Drawn.{made, drawn, flow-by}
+use Rattle.format.specs.Format.{number-bytes, numbers-bytes, name-bytes, entry-bytes, entries-bytes, names-section, numbers-section, encode}
+use Rattle.format.specs.Matching.{no-machine, matches}
+use Rattle.format.specs.Contents.{unnamed-leaf, unnamed-event}
+use Rattle.format.specs.ListChecks.{nothing-behind, section-alone, entries-of, entries-in, by-entries, named-check}
 use Rattle.format.specs.Plan.{_>>=_, run}
 use Rattle.format.specs.Sections.{byte, number, ranged, name, entry, same-bytes, same-step, same-entry, met, new-entry, entries, names, numbers, section, layout}
 use Rattle.format.specs.Items.{refusal-of}
 use Rattle.reader.specs.Reading.{Outcome, refused-outcome, checked, laid, reading}
 use Rattle.judge.specs.declared.Answer.{Answer}
 use Rattle.judge.specs.declared.Answer.the-variants.{Accepted, Rejected, Refused}
-use Rattle.judge.specs.Judged.{told, verdict, refusal, room-wanted, too-short, judge-check, answer-of, unless-refused, judged}
+use Rattle.judge.specs.Judged.{told, verdict, refusal, room-of, too-short, named-judge-check, answer-of, unless-refused, judged-by, judged-named}
 use Rattle.judge.specs.Judged as judge
 use Rattle.line.specs.declared.VerdictWord.{VerdictWord}
 use Rattle.line.specs.declared.VerdictWord.the-variants as word
 use Rattle.line.specs.declared.Line.{Line}
 use Rattle.line.specs.Line.{places, size, decimal, spaced, spelled, text-of, line-of, Put, LineWritten}
-use Rattle.program.specs.Program.{states-allowed, work-lent, answered, answer-of-file, line-for, printed, FileAnswered, AnswerTold, FilePrinted}
+use Rattle.program.specs.Program.{states-allowed, work-lent, line-for}
+use Rattle.program.specs.FileNames.{scanned, names-of}
+use Rattle.program.specs.Answering.{answered, answer-of-file, printed, FileAnswered, AnswerTold, FilePrinted}
 use Rattle.promises.specs.Worked.{worked, worked-read}
 
 ---- The answer to a file ----
 -- a program that only refuses, or has one verdict, fails at the worked file; one that judges whatever it gets at a file of no bytes
 
-worked-judged : judged (worked .nodes) (worked .records) work-lent states-allowed ≡ Accepted (record { place = 3; count = 4 })
-unfolding judged unless-refused answer-of judge-check too-short room-wanted search.judge flow-of drawn made descend first answer or-else-check each no-nodes not-whole too-many-nodes unknown-kind wrong-field not-lower is-child taken wrong-sort child-taken nobodys-child no-records too-many-records no-record closings-wanted closed wrong-closings after-closings node-grounds child-grounds value-grounds record-of is-event-number is-closing-number xor
+worked-judged : judged-named (names-of (encode worked)) (worked .nodes) (worked .records) work-lent states-allowed ≡ Accepted (record { place = 3; count = 4 })
+unfolding names-of scanned encode names-section numbers-section entries-bytes entry-bytes name-bytes numbers-bytes number-bytes run _>>=_ byte number ranged name entry same-bytes same-step same-entry met new-entry entries names unnamed-leaf unnamed-event nothing-behind section-alone entries-of entries-in by-entries named-check matches no-machine judged-by unless-refused answer-of named-judge-check too-short room-of search.judge flow-by drawn made descend first answer or-else-check each no-nodes not-whole too-many-nodes unknown-kind wrong-field not-lower is-child taken wrong-sort child-taken nobodys-child no-records too-many-records no-record closings-wanted closed wrong-closings after-closings node-grounds child-grounds value-grounds record-of is-event-number is-closing-number xor
 worked-judged = refl
 
 worked-is : answer-of-file (encode worked) ≡ Accepted (record { place = 3; count = 4 })
 unfolding answer-of-file answered
-worked-is = ap (λ (o : Outcome). answered (o .answer) (o .nodes) (o .records)) worked-read ∙ worked-judged
+worked-is = ap (λ (o : Outcome). answered (encode worked) (o .answer) (o .nodes) (o .records)) worked-read ∙ worked-judged
 
 empty-read : reading [] 192 256 ≡ refused-outcome (refusal-of 15 0)
 unfolding run _>>=_ byte number ranged name entry same-bytes same-step same-entry met new-entry entries names numbers section layout checked laid reading
@@ -46,7 +51,7 @@ empty-read = refl
 
 empty-is : answer-of-file [] ≡ Refused (refusal-of 15 0)
 unfolding answer-of-file answered
-empty-is = ap (λ (o : Outcome). answered (o .answer) (o .nodes) (o .records)) empty-read
+empty-is = ap (λ (o : Outcome). answered [] (o .answer) (o .nodes) (o .records)) empty-read
 
 pub worked-answered : (r : Answer) → FileAnswered (encode worked) r → told r ≡ verdict judge.VerdictWord.accepted 3 4
 unfolding told

@@ -20,14 +20,13 @@ use Rattle.writer.specs.declared.Writing.{Writing}
 use Rattle.writer.specs.Told.{WritingTold, writing-told, writing-written, writing-refused}
 use Rattle.writer.specs.Writes.{WriteRefuses}
 use Rattle.writer.specs.Writing.{writing, bytes-first, WrittenAs}
-use Rattle.program.specs.Rewriting.{Copy, refused-copy, written-again, copied, rewriting, FileRewritten}
-use Rattle.promises.specs.FileExact.{names-read}
+use Rattle.program.specs.Rewriting.{Copy, refused-copy, copied, rewriting, FileRewritten}
 use Rattle.promises.specs.Reader.{readable-read}
 use Rattle.promises.specs.ReaderRefusals.{refuses-refused}
 use Rattle.promises.specs.Reads.{read-or-refused}
 use Rattle.promises.specs.ListRefusals.{earliest-after}
 use Rattle.promises.specs.Writer.{writable-lists, writable-some, refuse-tells, write-keeps}
-use Rattle.promises.specs.RoundTrip.{names-first, names-taken, readable-writable, parts-written}
+use Rattle.promises.specs.RoundTrip.{names-handed, readable-writable, parts-written}
 
 ---- What is made of a file ----
 
@@ -38,11 +37,10 @@ module _ (file : List ℕ) (room : ℕ) where
         answer = writing (names-section (f .names)) (f .nodes) (f .records) room;
         bytes = bytes-first (names-section (f .names)) (f .nodes) (f .records) room;
       }
-  unfolding rewriting copied written-again
+  unfolding rewriting copied
   rewriting-readable f r =
       ap (λ (o : Outcome). copied file room (o .answer) (o .nodes) (o .records)) (readable-read file 192 256 f r)
-      ∙ ap (written-again file room (f .nodes) (f .records)) (names-read file (r .within .names) (names-first f (r .encoded)))
-      ∙ ap (λ (s : List ℕ). record { answer = writing s (f .nodes) (f .records) room; bytes = bytes-first s (f .nodes) (f .records) room }) (names-taken f (r .encoded))
+      ∙ ap (λ (s : List ℕ). record { answer = writing s (f .nodes) (f .records) room; bytes = bytes-first s (f .nodes) (f .records) room }) (names-handed file r)
 
   -- any other is refused
   rewriting-refuses : {k p : ℕ} → Refuses file 192 256 k p → rewriting file room ≡ refused-copy (refusal-of k p)

@@ -20,6 +20,8 @@ use Rattle.writer.specs.declared.Writing.{Writing}
 use Rattle.writer.specs.Told.{writing-told, writing-written}
 use Rattle.writer.specs.Writes.{Writable}
 use Rattle.writer.specs.Writing.{writing, bytes-first, WrittenAs}
+use Rattle.program.specs.FileNames.{names-of, scanned as scanned-as}
+use Rattle.promises.specs.FileExact.{names-read}
 use Rattle.promises.specs.Returned.{ReadBack, WrittenFor}
 use Rattle.promises.specs.FileStands.{stands-left, stands-take}
 use Rattle.promises.specs.Reader.{readable-read, scanned, names-scanned}
@@ -41,6 +43,11 @@ module _ {t : List ℕ} (f : File) (e : t ≡ encode f) where
 
   pub names-taken : take (length (names-section (f .names))) t ≡ names-section (f .names)
   names-taken = stands-take t 0 (names-section (f .names)) names-first
+
+-- a file that is read hands on its own names section
+pub names-handed : (t : List ℕ) {f : File} → Readable t 192 256 f → names-of t ≡ names-section (f .names)
+unfolding names-of scanned-as
+names-handed t {f} r = ap (scanned-as t) (names-read t (r .within .names) (names-first f (r .encoded))) ∙ names-taken f (r .encoded)
 
 ---- Written, then read ----
 

@@ -1,12 +1,18 @@
--- What the demands are stated with: what the place and the count of a rejection are, what demand 2 says of an answer, and when two
--- answers are the same. Definitions only: Demands, NamedDemands and Files have the theorems. Assumes nothing.
+-- What the demands are stated with: what the place and the count of a rejection are, what demand 2 says of an answer, when two answers
+-- are the same, and what is asked of names. Definitions only: Demands, NamedDemands and Files have the theorems. Assumes nothing.
 use Prim.Native.Nat.{ℕ, _≤_, _<_}
-use mathlib.Core.List.{List}
+use mathlib.Core.Bool.{not}
+use mathlib.Core.List.{List, List·Memᴰ}
 use mathlib.Core.Logic.{_↔_}
 use mathlib.Core.Path.{_≡_}
+use lib.Dec.{T}
 use lib.ListN.{length}
 use Rattle.calculus.specs.Records.{Record, State, Follows, Complete, InTraces}
 use Rattle.calculus.specs.Search.{visit}
+use Rattle.flow.specs.Refusals.{count}
+use Rattle.format.specs.Format.{Entry}
+use Rattle.format.specs.Matching.{no-machine}
+use Rattle.format.specs.Contents.{unnamed-leaf}
 use Rattle.judge.specs.Told.{VerdictWord, Told, verdict, refusal}
 
 -- 01: "rejected: place = the longest beginning of the records, in records, that some run follows; count"
@@ -36,3 +42,11 @@ pub data SameAnswer : Told → Told → Type 0 where
   both-rejected : {place count count′ : ℕ} → SameAnswer (verdict VerdictWord.rejected place count) (verdict VerdictWord.rejected place count′)
   first-undecided : {place count : ℕ} {t : Told} → SameAnswer (verdict VerdictWord.undecided place count) t
   second-undecided : {place count : ℕ} {t : Told} → SameAnswer t (verdict VerdictWord.undecided place count)
+
+-- 02, Two: "The laws stay for flows whose events all have entries."
+abbrev pub EventsNamed : List Entry → List ℕ → Type 0
+EventsNamed es ns = (i : ℕ) → i < count ns → T (not (unnamed-leaf (length es) ns i))
+
+-- no entry has an empty machine name
+abbrev pub AllMachines : List Entry → Type 0
+AllMachines es = (e : Entry) → List·Memᴰ e es → T (not (no-machine e))
