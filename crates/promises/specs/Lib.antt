@@ -3,6 +3,7 @@ pub mod Plain
 pub mod Stated
 pub mod FileItems
 pub mod Returned
+pub mod Takers
 -- Theorems about the contracts of the crates below.
 -- Tables and the judge.
 pub mod ExactlyWhen
@@ -10,6 +11,7 @@ pub mod PlainRows
 pub mod Verdicts
 pub mod Demands
 pub mod RuledOut
+pub mod Machines
 -- The flow file.
 pub mod SameNames
 pub mod FileStands
