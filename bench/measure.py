@@ -39,7 +39,7 @@ NOTE = f"""
 - independent: the implementation in `tests/`, plain Rust, going through equal states again, timed inside itself (`oracle bench FILE`).
 - Prolog: the transition rules as published, in SWI-Prolog (`rules.pl`), one run, timed inside itself.
 - other, where it is there: one more program that was named to `bench/run`, timed inside itself.
-- stored: all cases of `crates/replay/stdin` that are judged, and a call is all of them. small: those of them that enter {FEW} states or fewer.
+- stored: all cases `J` of `crates/replay/stdin`, calls of the judge without names, and a call is all of them. small: those of them that enter {FEW} states or fewer.
 - `throww` is allowed {FLOWS["throww"]:,} states, all others {MOST:,}. A dash: over {LIMIT} seconds, or not tried: what goes through equal
   states again is not asked for more than {WORTH_TRYING:,}, and Prolog for none that stays undecided.
 
@@ -198,11 +198,11 @@ def flows():
 
 
 def stored():
-    """The stored cases of `replay` that are judged: all, and those that enter few states."""
+    """The stored calls of the judge without names, which every build answers alike: all, and those that enter few states."""
     folder = HOME / "crates" / "replay"
     cases, lines = split((folder / "stdin").read_bytes()), (folder / "stdout").read_text().splitlines()
     assert len(cases) + 1 == len(lines)  # the last is no case
-    both = [(c, l) for c, l in zip(cases, lines) if c[:1] in (b"F", b"J")]
+    both = [(c, l) for c, l in zip(cases, lines) if c[:1] == b"J"]
     few = [(c, l) for c, l in both if not l.startswith("refused") and int(l.split()[3]) <= FEW]
     for name, some in [("stored", both), ("small", few)]:
         yield f"{name}: {len(some):,} cases", Input([c for c, _ in some], [l for _, l in some])

@@ -1,5 +1,5 @@
 #!/usr/bin/env python3
-"""Compiles the judge and the reader as plain Rust for this machine, over `native.rs`.
+"""Compiles the judge as plain Rust for this machine, over `native.rs`.
 
 Rattle's programs are compiled for x86-64 and are emulated elsewhere, where their time says nothing. Their code is nearly Rust: what is
 taken out here is contracts, ghost imports and checks of bounds, and what is added is that values are copied. So the code that is measured
@@ -14,7 +14,7 @@ HERE = pathlib.Path(__file__).resolve().parent
 
 
 def crates(checkout):
-    """The libraries that build on nothing of the kit, lowest first: the judge, the reader and all below them."""
+    """The libraries that build on nothing of the kit, lowest first: the judge, what it builds on, and the reader."""
     taken = []
     for line in (checkout / "crates.txt").read_text().splitlines():
         name, colon, below = line.partition(":")

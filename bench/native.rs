@@ -1,15 +1,11 @@
-// The cases of `replay` that are judged (F and J), in plain Rust, for measuring: `native.py` puts the judge and the reader beside this as
-// modules.
+// The cases of `replay` that call the judge without names (J), in plain Rust, for measuring: `native.py` puts the judge beside this as
+// modules. Every build answers them alike, so that two builds can be set beside each other.
 //
 // native [TIMES]: reads cases from standard input as `replay` does (tests/README.md says how they are written), judges each so many times,
 // once if nothing is said, and prints its line. Time is taken outside.
 use judge::Answer;
 use std::hint::black_box;
 use std::io::{self, Read, Write};
-
-// What the program allows and lends for a file.
-const ALLOWANCE: u32 = 1_000_000;
-const WORK: usize = 32_896;
 
 // The most that a case asks for.
 const MOST_NUMBERS: usize = 400;
@@ -24,16 +20,6 @@ fn text(answer: &Answer) -> String {
         Answer::Rejected(r) => format!("rejected 0 {} {}", r.place, r.count),
         Answer::Undecided(r) => format!("undecided 0 {} {}", r.place, r.count),
         Answer::Refused(r) => format!("refused {} {} 0", r.number, r.place),
-    }
-}
-
-fn judge_file(file: &[u8]) -> Answer {
-    let (mut nodes, mut records, mut work) = ([0u16; 192], [0u16; 256], [0u8; WORK]);
-    match reader::read(file, &mut nodes, &mut records) {
-        reader::Reading::Read(c) => {
-            judge::judge(&nodes[..3 * c.nodes as usize], &records[..c.records as usize], &mut work, ALLOWANCE)
-        }
-        reader::Reading::Refused(r) => Answer::Refused(r),
     }
 }
 
@@ -68,12 +54,6 @@ impl<R: Read> Cases<R> {
     // The line of the next case, or that it is none.
     fn line(&mut self, letter: u8) -> Option<String> {
         match letter {
-            b'F' => {
-                let length = self.two()?;
-                let file = self.bytes(length as usize)?;
-                let answer = (0..self.times).map(|_| judge_file(black_box(&file))).last();
-                Some(text(&answer?))
-            }
             b'J' => {
                 let (allowance, room) = (self.four()?, self.four()? as usize);
                 let (n, m) = (self.two()? as usize, self.two()? as usize);

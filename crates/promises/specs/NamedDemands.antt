@@ -38,7 +38,7 @@ use Rattle.judge.specs.declared.Answer.{Answer}
 use Rattle.judge.specs.Judged.{VerdictWord, told, refusal, room-wanted, named-judge-order, named-judge-check, judged, judged-named, named-flow, cleared, named-work-after, answer-of, NamedJudged}
 use Rattle.judge.specs.Settled.{room-check}
 use Rattle.judge.specs.JudgedLaws.{refused-bytes, fine-bytes, fine-is, named-parts, room-passes, named-passed}
-use Rattle.promises.specs.Stated.{Decides, SameAnswer, EventsNamed, AllMachines}
+use Rattle.promises.specs.Stated.{Decides, SameAnswer, EventsNamed}
 use Rattle.promises.specs.ExactlyWhen.{nowhere-exactly}
 use Rattle.promises.specs.Verdicts.{not-refused-fine, decided-told, told-refused, fine-not-refused, refusal-told, redrawn-answers, redrawn-closings}
 use Rattle.promises.specs.Demands.{one-flow-by, redrawn-flow-runs, redrawn-flow-traces}

@@ -2,7 +2,7 @@
 -- are the same, and what is asked of names. Definitions only: Demands, NamedDemands and Files have the theorems. Assumes nothing.
 use Prim.Native.Nat.{ℕ, _≤_, _<_}
 use mathlib.Core.Bool.{not}
-use mathlib.Core.List.{List, List·Memᴰ}
+use mathlib.Core.List.{List}
 use mathlib.Core.Logic.{_↔_}
 use mathlib.Core.Path.{_≡_}
 use lib.Dec.{T}
@@ -11,7 +11,6 @@ use Rattle.calculus.specs.Records.{Record, State, Follows, Complete, InTraces}
 use Rattle.calculus.specs.Search.{visit}
 use Rattle.flow.specs.Refusals.{count}
 use Rattle.format.specs.Format.{Entry}
-use Rattle.format.specs.Matching.{no-machine}
 use Rattle.format.specs.Contents.{unnamed-leaf}
 use Rattle.judge.specs.Told.{VerdictWord, Told, verdict, refusal}
 
@@ -46,7 +45,3 @@ pub data SameAnswer : Told → Told → Type 0 where
 -- 02, Two: "The laws stay for flows whose events all have entries."
 abbrev pub EventsNamed : List Entry → List ℕ → Type 0
 EventsNamed es ns = (i : ℕ) → i < count ns → T (not (unnamed-leaf (length es) ns i))
-
--- no entry has an empty machine name
-abbrev pub AllMachines : List Entry → Type 0
-AllMachines es = (e : Entry) → List·Memᴰ e es → T (not (no-machine e))
