@@ -1,13 +1,18 @@
 -- One outcome for every input. 01, "How tight the contracts are": "For each public function and every input, refused ones too, the
 -- contract leaves one possible outcome: the result and each lent byte. That uniqueness is itself a proved fact."
--- An outcome is the answer with all that was lent to be written, as it is after the call. Here: the general lemma, and the entry points
--- of `line` and `program`. The others have theirs beside their promises: `judge-unique` (Demands), `named-unique` (NamedDemands), `read-once` and `scan-names-once`
+-- An outcome is the answer with all that was lent to be written, as it is after the call. Here: the general lemma, the search, and the
+-- entry points of `line` and `program`. The others have theirs beside their promises: `judge-unique` (Demands), `named-unique` (NamedDemands), `read-once` and `scan-names-once`
 -- (Reader), `write-once` (Writer), `rewrite-once` (Rewritten).
 -- Theorems only. Assumes nothing.
 use Prim.Native.Nat.{ℕ, _+_}
 use mathlib.Core.List.{List, _++_}
-use mathlib.Core.Path.{_≡_, sym, ap, _∙_}
+use mathlib.Core.Path.{_≡_, refl, sym, ap, _∙_}
+use native.Mathlib.Omega.{arith}
 use lib.ListN.{length, take, drop}
+use Rattle.search.specs.declared.Out.{Out}
+use Rattle.search.specs.declared.Out.the-variants.{Spent, Back}
+use Rattle.search.specs.Visits.{out-of}
+use Rattle.search.specs.Searches.{Searched}
 use Rattle.judge.specs.declared.Answer.{Answer}
 use Rattle.line.specs.declared.Line.{Line}
 use Rattle.line.specs.Line.{line-of, Put, LineWritten}
@@ -29,6 +34,24 @@ judge-file-once file = equation-once (FileAnswered file) (answer-of-file file) (
 
 pub line-for-once : (a : Answer) → LeavesOne (AnswerTold a)
 line-for-once a = equation-once (AnswerTold a) (line-for a) (λ r e. e)
+
+---- What searches ----
+
+-- what a search brings back is told in full
+out-once : (a b : Out) → out-of a ≡ out-of b → a ≡ b
+unfolding out-of
+out-once Spent Spent e = refl
+out-once Spent (Back trip) e = let z : _≡_ {A = ℕ} 0 1 = cc in absurd (omega arith)
+out-once (Back trip) Spent e = let z : _≡_ {A = ℕ} 0 1 = cc in absurd (omega arith)
+out-once (Back trip) (Back trip′) e =
+    let f : trip .found ≡ trip′ .found = cc in
+    let d : trip .far ≡ trip′ .far = cc in
+    let l : trip .left ≡ trip′ .left = cc in
+    λ i. Back (record { found = f i; far = d i; left = l i })
+
+pub search-once : {ns xs : List ℕ} {allowance : ℕ} {work : List ℕ} {a b : Out} {after after′ : List ℕ}
+    → Searched ns xs allowance work a after → Searched ns xs allowance work b after′ → (a ≡ b) × (after ≡ after′)
+search-once {a = a} {b} p q = (out-once a b (p .out ∙ sym (q .out)), p .leaves ∙ sym (q .leaves))
 
 ---- What writes ----
 
