@@ -12,6 +12,7 @@ pub mod Verdicts
 pub mod Demands
 pub mod RuledOut
 pub mod Machines
+pub mod NamedRuledOut
 -- The flow file.
 pub mod SameNames
 pub mod FileStands
