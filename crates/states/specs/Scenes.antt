@@ -48,7 +48,7 @@ pub record Redrawn (ns : List ℕ) (i : ℕ) (t t′ : List ℕ) : Type 0 where
   pub kept : Kept ns i (modes t) (modes t′)
   pub long : length t′ ≡ length t
 
--- A state and the event of the next record: the table ns, the modes t, the event a
+-- A state and the cue of the next record: the table ns, the modes t, the cue a
 pub record Scene : Type 0 where
   pub ns : List ℕ
   pub t : List ℕ

@@ -1,4 +1,4 @@
--- The counts that a pass over a state leaves in its table: how many steps a live part has by the event a, capped. Only those that a
+-- The counts that a pass over a state leaves in its table: how many steps a live part has by the cue a, capped. Only those that a
 -- step looks at have to be right. Definitions only. Assumes nothing.
 use Prim.Native.Nat.{ℕ}
 use mathlib.Core.Bool.{Bool, true, false, _&&_}

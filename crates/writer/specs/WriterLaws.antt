@@ -10,23 +10,24 @@ use lib.ListN.{length}
 use Rattle.flow.specs.declared.Refusal.{Refusal}
 use Rattle.flow.specs.declared.Check.{Check}
 use Rattle.flow.specs.declared.Check.the-variants as check
-use Rattle.flow.specs.Refusals.{ground, lone, table-length-order, records-length-order}
-use Rattle.flow.specs.Checks.{refused, first, grounds, or-else-check, table-length-check, records-length-check}
-use Rattle.flow.specs.FirstRefusal.{is-fine, both-fine, or-else-refused, or-else-fine, orders-append, single-held, single-passed, fine-length, fine-records-length}
+use Rattle.flow.specs.Refusals.{ground, lone}
+use Rattle.flow.specs.Checks.{refused, first, or-else-check}
+use Rattle.flow.specs.FirstRefusal.{is-fine, both-fine, or-else-refused, or-else-fine, single-held, single-passed}
+use Rattle.flow.specs.FineTable.{fine-table}
+use Rattle.flow.specs.RecordsFit.{fine-records}
 use Rattle.format.specs.Format.{Entry}
 use Rattle.format.specs.Plan.{Ran, got, bad, run}
 use Rattle.format.specs.Sections.{names}
 use Rattle.format.specs.SectionLaws.{names-there}
-use Rattle.format.specs.Contents.{content-order, lists-order}
 use Rattle.format.specs.Told.{at-front}
 use Rattle.format.specs.ItemLaws.{got-not-bad}
-use Rattle.format.specs.ListChecks.{section-alone, by-entries, named-check, lists-check}
-use Rattle.format.specs.ListLaws.{alone-bad, alone-longer, alone-refused}
+use Rattle.format.specs.ListChecks.{section-alone, lists-check}
+use Rattle.format.specs.ListLaws.{alone-bad, alone-longer, lists-passed, lists-then}
 use Rattle.writer.specs.declared.Extent.{Extent}
 use Rattle.writer.specs.declared.Writing.{Writing}
 use Rattle.writer.specs.declared.Writing.the-variants.{Written, Refused}
 use Rattle.writer.specs.Told.{writing-told}
-use Rattle.writer.specs.Writing.{lists-bytes, order-by-bytes, write-check, wrote, put-first, writing, bytes-first, WrittenAs}
+use Rattle.writer.specs.Writing.{lists-bytes, write-check, wrote, put-first, writing, bytes-first, WrittenAs}
 use Rattle.writer.specs.Fronts.{lists-length}
 
 -- lists that are written: what stands first then, how long it is, and that there is room for it
@@ -56,19 +57,11 @@ alone-short s {es} {at} e = by-run (run s 0 names) refl
     by-run (got ds end) r = by-end r (ltb end (length s)) refl
     by-run (bad n p) r = got-not-bad e (alone-bad s r)
 
-module _ (s ns rs : List ℕ) where
-  pub fine-lists : lists-check s ns rs ≡ check.Fine → FineLists s ns rs
-  unfolding lists-check named-check by-entries table-length-check records-length-check
-  fine-lists f = by (section-alone s) refl
-    where
-      by : (x : Ran (List Entry)) → section-alone s ≡ x → FineLists s ns rs
-      by (got es at) e =
-          let order = lists-order (length es) ns rs in
-          let f₁ : first (grounds order) ≡ check.Fine = sym (ap (by-entries (λ ds. lists-order (length ds) ns rs)) e) ∙ f in
-          let tables = both-fine _ _ (sym (orders-append (table-length-order ns) (records-length-order rs ++ content-order (length es) ns rs)) ∙ f₁) in
-          let lists = both-fine _ _ (sym (orders-append (records-length-order rs) (content-order (length es) ns rs)) ∙ tables .1) in
-          record { names-few = alone-short s e; nodes-few = fine-length ns (tables .0) .few; records-few = fine-records-length rs (lists .0) .1 }
-      by (bad n p) e = absurd (subst is-fine (sym f ∙ alone-refused s ns rs e) tt)
+pub fine-lists : (s ns rs : List ℕ) → lists-check s ns rs ≡ check.Fine → FineLists s ns rs
+fine-lists s ns rs f =
+    let p = lists-passed s ns rs f in
+    let t = fine-table ns (p .table) in
+    record { names-few = alone-short s (p .section .is); nodes-few = omega (arith, t .few, t .whole); records-few = fine-records ns rs (p .records) .few }
 
 ---- The check in two parts ----
 
@@ -81,12 +74,8 @@ module _ (s ns rs : List ℕ) (room : ℕ) where
   room-check = first (ground 14 0 short-of-room ∷ [])
 
   check-parts : write-check s ns rs room ≡ or-else-check (lists-check s ns rs) room-check
-  unfolding write-check lists-check named-check by-entries or-else-check
-  check-parts = by (section-alone s)
-    where
-      by : (x : Ran (List Entry)) → by-entries (order-by-bytes s ns rs room) x ≡ or-else-check (by-entries (λ es. lists-order (length es) ns rs) x) room-check
-      by (got es at) = orders-append (lists-order (length es) ns rs) (lone (ground 14 0 short-of-room) ∷ [])
-      by (bad n p) = refl
+  unfolding write-check
+  check-parts = lists-then s ns rs (lone (ground 14 0 short-of-room) ∷ [])
 
   pub lists-refused : {r : Refusal} → lists-check s ns rs ≡ check.Refused r → write-check s ns rs room ≡ check.Refused r
   lists-refused e = check-parts ∙ sym (or-else-refused room-check e) ∙ e
