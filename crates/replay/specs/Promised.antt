@@ -1,26 +1,23 @@
 -- When the work bytes of a case count as clean, and the line of the case. They are all 165 before the call. 01, "What comes back":
 -- "After any verdict but a refusal the first 2 × nodes × (records + 1) are zero and the others unchanged. After a refusal all are
 -- unchanged." Definitions only: PromisedLaws has that the judge leaves them clean. Assumes nothing.
-use Prim.Native.Nat.{ℕ, _+_, _-_, _*_, _/_}
+use Prim.Native.Nat.{ℕ, _-_, _/_}
 use mathlib.Core.Bool.{Bool, _&&_}
 use mathlib.Core.List.{List, _++_}
 use lib.ListN.{take, replicate}
 use Rattle.judge.specs.declared.Answer.{Answer}
 use Rattle.judge.specs.declared.Answer.the-variants.{Accepted, Rejected, Undecided, Refused}
+use Rattle.judge.specs.Judged.{room-of}
 use Rattle.line.specs.Line.{text-of}
 use Rattle.program.specs.Program.{line-for}
 use Rattle.replay.specs.Filler.{filler, all-are, kept}
 use Rattle.replay.specs.Text.{noted}
 
--- so many node numbers and records want so many work bytes
-unfoldable pub work-wanted : ℕ → ℕ → ℕ
-work-wanted numbers records = 2 * (numbers / 3) * (records + 1)
-
--- how many bytes are promised to be zero
+-- how many bytes are promised to be zero, by how many numbers the nodes have and how many records there are
 unfoldable pub zeros-after : Answer → ℕ → ℕ → ℕ
-zeros-after (Accepted v) numbers records = work-wanted numbers records
-zeros-after (Rejected v) numbers records = work-wanted numbers records
-zeros-after (Undecided v) numbers records = work-wanted numbers records
+zeros-after (Accepted v) numbers records = room-of (numbers / 3) records
+zeros-after (Rejected v) numbers records = room-of (numbers / 3) records
+zeros-after (Undecided v) numbers records = room-of (numbers / 3) records
 zeros-after (Refused r) numbers records = 0
 
 -- the promised bytes, of so many in all

@@ -1,26 +1,27 @@
--- Clean work bytes are exactly those that are promised, and the judge leaves them so. Assumes nothing.
+-- Clean work bytes are exactly those that are promised, and the judge leaves them so, with names and without: whatever is refused, and
+-- whatever the flow. Assumes nothing.
 use Prim.Native.Nat.{ℕ, _+_, _-_, _≤_}
 use native.Mathlib.Omega.{arith}
 use mathlib.Core.Bool.{Bool, true}
 use mathlib.Core.List.{List, _++_}
 use mathlib.Core.Logic.{_↔_}
-use mathlib.Core.Path.{_≡_, sym, ap, ap₂, _∙_, subst, subst₂}
+use mathlib.Core.Path.{_≡_, sym, ap, ap₂, _∙_, subst₂}
 use lib.ListN.{length, take, drop, replicate, length-append, length-replicate, take-append-drop}
 use lib.Seq.{length-take-le, take-at, drop-at}
+use Rattle.calculus.specs.Records.{State}
 use Rattle.calculus.specs.Search.{Verdict, accepted, rejected, undecided}
 use Rattle.calculus.specs.Search as search
 use Rattle.flow.specs.declared.Check.{Check}
 use Rattle.flow.specs.declared.Check.the-variants.{Fine}
 use Rattle.flow.specs.declared.Check.the-variants as check
 use Rattle.flow.specs.Records.{records}
-use Rattle.flow.specs.Drawn.{flow-of}
 use Rattle.flow.specs.Tests.{both-true}
 use Rattle.judge.specs.declared.Answer.{Answer}
 use Rattle.judge.specs.declared.Answer.the-variants.{Refused}
-use Rattle.judge.specs.Judged.{Judged, judged, judge-check, room-wanted, cleared, work-after, answer-of, unless-refused}
+use Rattle.judge.specs.Judged.{JudgedBy, judged-by, bytes-by, room-wanted, cleared, answer-of, unless-refused}
 use Rattle.line.specs.Line.{Put}
 use Rattle.replay.specs.Filler.{filler, all-are, kept}
-use Rattle.replay.specs.Promised.{work-wanted, zeros-after, promised, is-clean, case-line}
+use Rattle.replay.specs.Promised.{zeros-after, promised, is-clean, case-line}
 use Rattle.replay.specs.FillerLaws.{all-replicate, all-is, kept-exactly, replicate-rest}
 
 ---- The promise ----
@@ -51,44 +52,42 @@ clean-exactly zeros work = (λ e. to e, λ e. from e)
 
 ---- The judge leaves them clean ----
 
-module _ (ns rs : List ℕ) (allowance n : ℕ) where
-  abbrev filled : List ℕ
-  filled = replicate n filler
+-- all filler but for the first, which are zero
+cleared-clean : (n zeros : ℕ) → is-clean zeros (cleared zeros (replicate n filler)) ≡ true
+unfolding cleared
+cleared-clean n zeros =
+    let nought : ℕ = 0 in
+    let front : List ℕ = replicate zeros nought in
+    let rest : List ℕ = drop zeros (replicate n filler) in
+    let l : length (front ++ rest) ≡ zeros + (n - zeros) =
+    length-append front rest ∙ (λ i. length-replicate zeros nought i + length (replicate-rest filler n zeros i)) ∙ ap (λ (k : ℕ). zeros + k) (length-replicate (n - zeros) filler) in
+    let m : n - zeros ≡ length (front ++ rest) - zeros = omega arith in
+    clean-exactly zeros (front ++ rest) .1 (ap (λ (x : List ℕ). front ++ x) (replicate-rest filler n zeros ∙ ap (λ (k : ℕ). replicate k filler) m))
 
-  cleared-clean : (zeros : ℕ) → is-clean zeros (cleared zeros filled) ≡ true
-  unfolding cleared
-  cleared-clean zeros =
-      let nought : ℕ = 0 in
-      let front : List ℕ = replicate zeros nought in
-      let rest : List ℕ = drop zeros filled in
-      let l : length (front ++ rest) ≡ zeros + (n - zeros) =
-      length-append front rest ∙ (λ i. length-replicate zeros nought i + length (replicate-rest filler n zeros i)) ∙ ap (λ (k : ℕ). zeros + k) (length-replicate (n - zeros) filler) in
-      let m : n - zeros ≡ length (front ++ rest) - zeros = omega arith in
-      clean-exactly zeros (front ++ rest) .1 (ap (λ (x : List ℕ). front ++ x) (replicate-rest filler n zeros ∙ ap (λ (k : ℕ). replicate k filler) m))
-
+module _ (flow : State) (ns rs : List ℕ) (allowance n : ℕ) where
   by-check : (c : Check) (v : Verdict)
-      → is-clean (zeros-after (unless-refused c Refused (answer-of v)) (length ns) (length rs)) (unless-refused c (λ r. filled) (cleared (room-wanted ns rs) filled)) ≡ true
-  unfolding unless-refused answer-of zeros-after work-wanted room-wanted cleared
-  by-check Fine (accepted place count) = cleared-clean (room-wanted ns rs)
-  by-check Fine (rejected place count) = cleared-clean (room-wanted ns rs)
-  by-check Fine (undecided place count) = cleared-clean (room-wanted ns rs)
-  by-check (check.Refused r) v = cleared-clean 0
+      → is-clean (zeros-after (unless-refused c Refused (answer-of v)) (length ns) (length rs)) (bytes-by c (room-wanted ns rs) (replicate n filler)) ≡ true
+  unfolding bytes-by unless-refused answer-of zeros-after cleared
+  by-check Fine (accepted place count) = cleared-clean n (room-wanted ns rs)
+  by-check Fine (rejected place count) = cleared-clean n (room-wanted ns rs)
+  by-check Fine (undecided place count) = cleared-clean n (room-wanted ns rs)
+  by-check (check.Refused r) v = cleared-clean n 0
 
   -- `dirty` is never printed
-  pub always-clean : {work after : List ℕ} {r : Answer} → work ≡ filled → Judged ns rs allowance work r after → is-clean (zeros-after r (length ns) (length rs)) after ≡ true
-  unfolding judged work-after
-  always-clean {work} {after} {r} e h =
-      let q = subst (λ (x : List ℕ). Judged ns rs allowance x r after) e h in
-      ap₂ (λ (a : Answer) (x : List ℕ). is-clean (zeros-after a (length ns) (length rs)) x) (q .answers) (q .leaves)
-      ∙ by-check (judge-check ns rs (length filled)) (search.judge (flow-of ns) (records rs) allowance)
+  pub always-clean : {c : Check} {work after : List ℕ} {r : Answer} → work ≡ replicate n filler → JudgedBy c flow ns rs allowance work r after
+      → is-clean (zeros-after r (length ns) (length rs)) after ≡ true
+  unfolding judged-by
+  always-clean {c} e h =
+      ap₂ (λ (a : Answer) (x : List ℕ). is-clean (zeros-after a (length ns) (length rs)) x) (h .answers) (h .leaves ∙ ap (bytes-by c (room-wanted ns rs)) e)
+      ∙ by-check c (search.judge flow (records rs) allowance)
 
 ---- The line ----
 
--- so the line of a case ends in `clean`, whatever is judged
-pub case-clean : (n : ℕ) {ns rs given after out out′ : List ℕ} {allowance zeros r : ℕ} {a : Answer} {b : Bool}
-    → given ≡ replicate n filler → Judged ns rs allowance given a after → zeros ≡ zeros-after a (length ns) (length rs) → b ≡ is-clean zeros after
-    → Put (case-line a b) out 0 out′ r → Put (case-line (judged ns rs n allowance) true) out 0 out′ r
-case-clean n {ns} {rs} {after = after} {out = out} {out′ = out′} {allowance = allowance} {r = r} f j z c w =
+-- so the line of a case ends in `clean`, whatever is judged; what is refused may depend on how many work bytes are lent
+pub case-clean : (c : ℕ → Check) (n : ℕ) {flow : State} {ns rs given after out out′ : List ℕ} {allowance r : ℕ} {a : Answer}
+    → given ≡ replicate n filler → JudgedBy (c (length given)) flow ns rs allowance given a after
+    → Put (case-line a (is-clean (zeros-after a (length ns) (length rs)) after)) out 0 out′ r → Put (case-line (judged-by (c n) flow rs allowance) true) out 0 out′ r
+case-clean c n {flow} {ns} {rs} {out = out} {out′ = out′} {allowance = allowance} {r = r} f j w =
     subst₂ (λ (x : Answer) (y : Bool). Put (case-line x y) out 0 out′ r)
-    (j .answers ∙ ap (λ (k : ℕ). judged ns rs k allowance) (ap length f ∙ length-replicate n filler))
-    (c ∙ ap (λ (k : ℕ). is-clean k after) z ∙ always-clean ns rs allowance n f j) w
+    (j .answers ∙ ap (λ (k : ℕ). judged-by (c k) flow rs allowance) (ap length f ∙ length-replicate n filler))
+    (always-clean flow ns rs allowance n f j) w

@@ -1,7 +1,7 @@
 // Cases from standard input to its end, one line for each. A case is a letter and what its kind wants, all little-endian. Here is what
-// reads a case and prints its line, a function for each kind: what it answers depends on standard input, so it promises nothing of it
-// and nothing outside this file calls it. The line itself comes from a function on the bytes that were read, with its whole contract.
-// Anything else prints `bad case` and ends.
+// reads a case and prints its line, a function for each kind; two kinds are calls, whose lists are fetched in one place. What these
+// functions answer depends on standard input, so they promise nothing of it and nothing outside this file calls them. The line itself
+// comes from a function on the bytes that were read, with its whole contract. Anything else prints `bad case` and ends.
 mod filler;
 mod input;
 mod judge_line;
@@ -12,6 +12,7 @@ mod write_line;
 
 use libc::STDOUT_FILENO;
 ghost use Prim.Native.Nat.{_≤_};
+ghost use lib.ListN.{length};
 
 // What a case begins with.
 const FILE_CASE: u8 = 70;
@@ -22,8 +23,15 @@ const READ_CASE: u8 = 82;
 
 const CALL_CASE: u8 = 67;
 
-// The function of a call with everything that may be lent.
+// The functions of a call with everything that may be lent.
+const JUDGE: u8 = 0;
+
 const WRITE: u8 = 3;
+
+// The one edition, and names that are lent.
+const EDITION: u8 = 1;
+
+const NAMED: u8 = 1;
 
 // The most that a case asks for.
 const MOST_NUMBERS: usize = 400;
@@ -31,6 +39,18 @@ const MOST_NUMBERS: usize = 400;
 const MOST_WORK: usize = 40000;
 
 const MOST_ROOM: usize = 70000;
+
+// A call as its case tells it: the function and whether names are lent; the allowance; and how many work bytes, how much room, how many
+// node numbers and records are lent. What the function does not use may be anything.
+struct Call {
+    function: u8,
+    named: bool,
+    allowance: u32,
+    work: u32,
+    room: u32,
+    nodes: u16,
+    records: u16,
+}
 
 // A flow file: a length of two bytes and the file. Prints the program's line.
 fn file_case() -> bool {
@@ -48,12 +68,67 @@ fn file_case() -> bool {
     io::write_all(STDOUT_FILENO, &out[..end])
 }
 
-// The numbers of a call of the judge, two bytes each.
-fn judge_numbers(allowance: u32, room: usize, nodes: usize, records: usize) -> bool
-    requires { ⌜ room ≤ 40000 ⌝ }
-    requires { ⌜ nodes ≤ 400 ⌝ }
-    requires { ⌜ records ≤ 400 ⌝ }
+// A call of the judge, with the names or without.
+fn judge_call(call: Call, names: &[u8], nodes: &[u16], records: &[u16]) -> bool
+    requires { ⌜ length (now nodes) ≤ 400 ⌝ }
+    requires { ⌜ length (now records) ≤ 400 ⌝ }
 {
+    let lent = call.work as usize;
+    if MOST_WORK < lent {
+        return input::bad_case();
+    }
+    let mut work = [0u8; 40000];
+    let mut out = [0u8; 64];
+    if call.named {
+        let end = judge_line::judge_named_lists(
+            names,
+            nodes,
+            records,
+            &mut work[..lent],
+            call.allowance,
+            &mut out,
+        );
+        return io::write_all(STDOUT_FILENO, &out[..end]);
+    }
+    let end = judge_line::judge_lists(nodes, records, &mut work[..lent], call.allowance, &mut out);
+    io::write_all(STDOUT_FILENO, &out[..end])
+}
+
+// A call of the writer.
+fn write_call(call: Call, names: &[u8], nodes: &[u16], records: &[u16]) -> bool {
+    let room = call.room as usize;
+    if MOST_ROOM < room {
+        return input::bad_case();
+    }
+    let mut file = [0u8; 70000];
+    let mut out = [0u8; 43814];
+    let end = write_line::write_lists(names, nodes, records, &mut file[..room], &mut out);
+    io::write_all(STDOUT_FILENO, &out[..end])
+}
+
+// The call of its function on what was fetched for it.
+fn call_with(call: Call, names: &[u8], nodes: &[u16], records: &[u16]) -> bool
+    requires { ⌜ length (now nodes) ≤ 400 ⌝ }
+    requires { ⌜ length (now records) ≤ 400 ⌝ }
+{
+    let function = call.function;
+    match function {
+        JUDGE => judge_call(call, names, nodes, records),
+        WRITE => write_call(call, names, nodes, records),
+        _ => input::bad_case(),
+    }
+}
+
+// The numbers of the nodes and the records of a call, two bytes each; and the call.
+fn numbers_lent(call: Call, names: &[u8]) -> bool {
+    let nodes = call.nodes as usize;
+    let records = call.records as usize;
+    if MOST_NUMBERS < nodes {
+        return input::bad_case();
+    }
+    if MOST_NUMBERS < records {
+        return input::bad_case();
+    }
     let mut ns = [0u16; 400];
     if !input::fetch_numbers(&mut ns, nodes) {
         return input::bad_case();
@@ -62,39 +137,84 @@ fn judge_numbers(allowance: u32, room: usize, nodes: usize, records: usize) -> b
     if !input::fetch_numbers(&mut rs, records) {
         return input::bad_case();
     }
-    let mut work = [0u8; 40000];
-    let mut out = [0u8; 64];
-    let end = judge_line::judge_lists(
-        &ns[..nodes],
-        &rs[..records],
-        &mut work[..room],
-        allowance,
-        &mut out,
-    );
-    io::write_all(STDOUT_FILENO, &out[..end])
+    call_with(call, names, &ns[..nodes], &rs[..records])
 }
 
-// A call of the judge: an allowance and a work length of four bytes each, the number of node numbers and of records of two bytes
-// each, and the numbers.
+// The names section of a call, of so many bytes, before the numbers.
+fn names_lent(call: Call, bytes: usize) -> bool
+    requires { ⌜ bytes ≤ 65535 ⌝ }
+{
+    let mut names = [0u8; 65535];
+    if !input::fetch(&mut names, bytes) {
+        return input::bad_case();
+    }
+    numbers_lent(call, &names[..bytes])
+}
+
+// A call of the judge without names: an allowance and a work length of four bytes each, the number of node numbers and of records of two
+// bytes each, and the numbers.
 fn judge_case() -> bool {
     let mut head = [0u8; 12];
     if !input::fetch(&mut head, 12) {
         return input::bad_case();
     }
-    let allowance = input::four(head[0], head[1], head[2], head[3]);
-    let room = input::four(head[4], head[5], head[6], head[7]) as usize;
-    let nodes = format::number_from(head[8], head[9]) as usize;
-    let records = format::number_from(head[10], head[11]) as usize;
-    if MOST_WORK < room {
+    let call = Call {
+        function: JUDGE,
+        named: false,
+        allowance: input::four(head[0], head[1], head[2], head[3]),
+        work: input::four(head[4], head[5], head[6], head[7]),
+        room: 0,
+        nodes: format::number_from(head[8], head[9]),
+        records: format::number_from(head[10], head[11]),
+    };
+    numbers_lent(call, b"")
+}
+
+// Whether a function takes the edition and the names, so many bytes of them: the judge the one edition, with names or without; the
+// writer names, in any edition.
+fn takes(function: u8, edition: u8, lent: u8, names: usize) -> bool {
+    match function {
+        JUDGE => {
+            if edition != EDITION {
+                return false;
+            }
+            match lent {
+                0 => names == 0,
+                NAMED => true,
+                _ => false,
+            }
+        }
+        WRITE => lent == NAMED,
+        _ => false,
+    }
+}
+
+// A call with everything that may be lent: a function, an edition and whether names are lent, of a byte each; an allowance, a work
+// length and a room of four bytes each; the length of the names section, the number of node numbers and of records and the length
+// of the sets, of two bytes each; and all of these. No function takes sets.
+fn call_case() -> bool {
+    let mut head = [0u8; 23];
+    if !input::fetch(&mut head, 23) {
         return input::bad_case();
     }
-    if MOST_NUMBERS < nodes {
+    let names = format::number_from(head[15], head[16]) as usize;
+    if !takes(head[0], head[1], head[2], names) {
         return input::bad_case();
     }
-    if MOST_NUMBERS < records {
+    let sets = format::number_from(head[21], head[22]);
+    if sets != 0 {
         return input::bad_case();
     }
-    judge_numbers(allowance, room, nodes, records)
+    let call = Call {
+        function: head[0],
+        named: head[2] == NAMED,
+        allowance: input::four(head[3], head[4], head[5], head[6]),
+        work: input::four(head[7], head[8], head[9], head[10]),
+        room: input::four(head[11], head[12], head[13], head[14]),
+        nodes: format::number_from(head[17], head[18]),
+        records: format::number_from(head[19], head[20]),
+    };
+    names_lent(call, names)
 }
 
 // A call of the reader: the room for node numbers, for records and the length of the file, of two bytes each, and the file.
@@ -120,72 +240,6 @@ fn read_case() -> bool {
         &mut out,
     );
     io::write_all(STDOUT_FILENO, &out[..end])
-}
-
-// What is lent to a call of the writer: the names section, and the numbers of the nodes and the records, two bytes each.
-fn write_lent(room: usize, names: usize, nodes: usize, records: usize) -> bool
-    requires { ⌜ room ≤ 70000 ⌝ }
-    requires { ⌜ names ≤ 65535 ⌝ }
-    requires { ⌜ nodes ≤ 400 ⌝ }
-    requires { ⌜ records ≤ 400 ⌝ }
-{
-    let mut section = [0u8; 65535];
-    if !input::fetch(&mut section, names) {
-        return input::bad_case();
-    }
-    let mut ns = [0u16; 400];
-    if !input::fetch_numbers(&mut ns, nodes) {
-        return input::bad_case();
-    }
-    let mut rs = [0u16; 400];
-    if !input::fetch_numbers(&mut rs, records) {
-        return input::bad_case();
-    }
-    let mut file = [0u8; 70000];
-    let mut out = [0u8; 43814];
-    let end = write_line::write_lists(
-        &section[..names],
-        &ns[..nodes],
-        &rs[..records],
-        &mut file[..room],
-        &mut out,
-    );
-    io::write_all(STDOUT_FILENO, &out[..end])
-}
-
-// A call with everything that may be lent: a function, an edition and whether names are lent, of a byte each; an allowance, a work
-// length and a room of four bytes each; the length of the names section, the number of node numbers and of records and the length
-// of the sets, of two bytes each; and all of these. The one function is `write`: it wants names, no sets, and nothing of the edition,
-// the allowance and the work.
-fn call_case() -> bool {
-    let mut head = [0u8; 23];
-    if !input::fetch(&mut head, 23) {
-        return input::bad_case();
-    }
-    let room = input::four(head[11], head[12], head[13], head[14]) as usize;
-    let names = format::number_from(head[15], head[16]) as usize;
-    let nodes = format::number_from(head[17], head[18]) as usize;
-    let records = format::number_from(head[19], head[20]) as usize;
-    let sets = format::number_from(head[21], head[22]);
-    if head[0] != WRITE {
-        return input::bad_case();
-    }
-    if head[2] != 1 {
-        return input::bad_case();
-    }
-    if sets != 0 {
-        return input::bad_case();
-    }
-    if MOST_ROOM < room {
-        return input::bad_case();
-    }
-    if MOST_NUMBERS < nodes {
-        return input::bad_case();
-    }
-    if MOST_NUMBERS < records {
-        return input::bad_case();
-    }
-    write_lent(room, names, nodes, records)
 }
 
 // One case; whether to go on.

@@ -2,8 +2,9 @@
 use crate::filler;
 use judge::Answer;
 ghost use mathlib.Core.Path.{_≡_};
-ghost use Prim.Native.Nat.{_≤_};
-ghost use Rattle.replay.specs.Promised.{work-wanted, zeros-after, is-clean};
+ghost use Prim.Native.Nat.{_≤_, _/_};
+ghost use Rattle.judge.specs.Judged.{room-of};
+ghost use Rattle.replay.specs.Promised.{zeros-after, is-clean};
 
 // Whether so many work bytes are zero, and the others filler.
 pub fn clean(zeros: usize, work: &[u8]) -> bool
@@ -20,7 +21,7 @@ pub fn clean(zeros: usize, work: &[u8]) -> bool
 fn wanted(numbers: usize, records: usize) -> usize
     requires { ⌜ numbers ≤ 400 ⌝ }
     requires { ⌜ records ≤ 400 ⌝ }
-    ensures { λ r. ⌜ r ≡ work-wanted numbers records ⌝ }
+    ensures { λ r. ⌜ r ≡ room-of (numbers / 3) records ⌝ }
 {
     2 * (numbers / 3) * (records + 1)
 }

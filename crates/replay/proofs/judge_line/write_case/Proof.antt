@@ -8,6 +8,12 @@ use Rattle.replay.specs.TextLaws.{noted-length}
 use Rattle.replay.proofs.judge_line.write_case.Statement.{statement}
 use Rattle.replay.proofs.judge_line.write_case.Tie as tie
 
+zeros-after-requires : tie.Need-zeros-after-requires
+zeros-after-requires c κs = search needs
+
+clean-requires : tie.Need-clean-requires
+clean-requires c κs = search needs
+
 line-for-requires : tie.Need-line-for-requires
 line-for-requires c κs = search needs
 
@@ -15,7 +21,7 @@ write-text-requires : tie.Need-write-text-requires
 write-text-requires c κs = search needs
 
 put-note-requires : tie.Need-put-note-requires
-put-note-requires c κs = omega (arith, put-length (c .before .before .before .write-text .ensures .0) (omega arith))
+put-note-requires c κs = search needs
 
 same-length : tie.Need-same-length
 same-length c = search needs
@@ -23,12 +29,23 @@ same-length c = search needs
 returns : tie.Need-returns
 unfolding case-line
 returns c =
-    let s = c .before .before .before .before .before .before .before .before .before .before in
-    let t = c .before .before .before .before .before .before .write-text in
     let n = c .before .before .put-note in
-    (rw (sym (c .before .before .before .before .before .before .before .before .line-for .ensures)) (put-then (t .ensures .0) (omega arith) (n .ensures)), omega (arith, n .ensures .end, noted-length (s .args .clean)))
+    let at-text = c .before .before .before .before .before .before in
+    let at-line = at-text .before .before in
+    let k = at-line .before .clean in
+    let z = at-line .before .before .zeros-after in (
+      rw (sym (at-line .line-for .ensures), sym (z .ensures), sym (k .ensures)) (put-then (at-text .write-text .ensures .0) (omega arith) (n .ensures)),
+      omega (arith, n .ensures .end, noted-length (k .result)),
+    )
 
 pub write-case-spec : {M : Type 1} → statement M
 write-case-spec =
     tie.close
-    (tie.spec line-for-requires write-text-requires put-note-requires same-length returns)
+    (tie.spec
+    zeros-after-requires
+    clean-requires
+    line-for-requires
+    write-text-requires
+    put-note-requires
+    same-length
+    returns)

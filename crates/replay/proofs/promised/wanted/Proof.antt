@@ -4,7 +4,7 @@ use native.Mathlib.Nat.{mul-le-mul}
 use native.Mathlib.Omega.{arith}
 use mathlib.Core.Path.{refl}
 use borrow.Author.Needs.{needs}
-use Rattle.replay.specs.Promised.{work-wanted}
+use Rattle.judge.specs.Judged.{room-of}
 use Rattle.replay.proofs.promised.wanted.Statement.{statement}
 use Rattle.replay.proofs.promised.wanted.Tie as tie
 
@@ -21,7 +21,7 @@ mul-result-2 c =
     omega (arith, mul-le-mul p q)
 
 returns : tie.Need-returns
-unfolding work-wanted
+unfolding room-of
 returns c = refl
 
 pub wanted-spec : {M : Type 1} → statement M
