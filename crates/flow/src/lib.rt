@@ -74,6 +74,11 @@ pub const WITHDRAWN: u16 = 61442;
 
 pub const FAILED: u16 = 61443;
 
+// The cues of the first two, beside 65535, which is no event's (specs/Cues.antt); that of the third is above them.
+pub const DONE_CUE: u32 = 4294963201;
+
+pub const WITHDRAWN_CUE: u32 = 4294963202;
+
 const MOST_EVENTS: u16 = 256;
 
 pub const MOST_NODES: usize = 64;

@@ -39,18 +39,13 @@ pub enum Out {
     Back(Trip),
 }
 
-// The cues of two closings; that of the third, failed, is above them.
-const DONE: u32 = 4294963201;
-
-const WITHDRAWN: u32 = 4294963202;
-
 // A closing's rank.
 fn rank_of(cue: u32) -> u8
     ensures { λ r. ⌜ (r < 3) × (closing r ≡ closing-of cue) ⌝ }
 {
     match cue {
-        DONE => tallies::RANK_DONE,
-        WITHDRAWN => tallies::RANK_WITHDRAWN,
+        flow::DONE_CUE => tallies::RANK_DONE,
+        flow::WITHDRAWN_CUE => tallies::RANK_WITHDRAWN,
         _ => tallies::RANK_FAILED,
     }
 }
@@ -60,8 +55,8 @@ fn ends_by(v: View, cue: u32) -> bool
     ensures { λ r. ⌜ r ≡ ends-by v (closing-of cue) ⌝ }
 {
     match cue {
-        DONE => v.done,
-        WITHDRAWN => v.withdraws,
+        flow::DONE_CUE => v.done,
+        flow::WITHDRAWN_CUE => v.withdraws,
         _ => v.fails,
     }
 }
@@ -116,7 +111,7 @@ fn apply(ns: &[u16], t: &mut [u8], cue: u32, c: &[u32; 64], d: &[u32], role: Rol
     match role {
         Role::Plain(sense) => steps::step_std(ns, t, cue, c, i, sense, k),
         Role::Running => {
-            if cue < DONE {
+            if cue < flow::DONE_CUE {
                 steps::step_run(ns, t, cue, c, i, k);
             } else {
                 seek::choose(
@@ -145,7 +140,7 @@ fn role_after(role: Role, cue: u32) -> Role
     match role {
         Role::Plain(sense) => Role::Plain(sense),
         Role::Running => {
-            if cue < DONE {
+            if cue < flow::DONE_CUE {
                 Role::Running
             } else {
                 Role::Plain(Sense::Undoing)
@@ -333,7 +328,7 @@ fn closes(role: Role, cue: u32) -> bool
 {
     match role {
         Role::Plain(_) => false,
-        Role::Running => cue >= DONE,
+        Role::Running => cue >= flow::DONE_CUE,
     }
 }
 
