@@ -229,20 +229,23 @@ abbrev throw-pair : CTrace
 throw-pair = ct (tr [] failed) (tr [] done)
 
 module _ {A B C : Type 0} (R : A → B → C → Type 0) {P P′ : A → Type 0} {Q Q′ : B → Type 0} where
-  lift-cong : ((x : A) → P x ↔ P′ x) → ((y : B) → Q y ↔ Q′ y) → (z : C) → lift R P Q z ↔ lift R P′ Q′ z
+  pub lift-cong : ((x : A) → P x ↔ P′ x) → ((y : B) → Q y ↔ Q′ y) → (z : C) → lift R P Q z ↔ lift R P′ Q′ z
   lift-cong f g z = (lift-map R (λ x. f x .0) (λ y. g y .0) z, lift-map R (λ x. f x .1) (λ y. g y .1) z)
 
 iff-then : {P Q R : Type 0} → P ↔ Q → Q ↔ R → P ↔ R
 iff-then f g = (λ x. g .0 (f .0 x), λ x. f .1 (g .1 x))
 
-iff-self : {P : Type 0} → P ↔ P
+pub iff-self : {P : Type 0} → P ↔ P
 iff-self = (λ x. x, λ x. x)
 
 iff-back : {P Q : Type 0} → P ↔ Q → Q ↔ P
 iff-back f = (f .1, f .0)
 
-sum-iff : {P P′ Q Q′ : Type 0} → P ↔ P′ → Q ↔ Q′ → (P ⊎ Q) ↔ (P′ ⊎ Q′)
+pub sum-iff : {P P′ Q Q′ : Type 0} → P ↔ P′ → Q ↔ Q′ → (P ⊎ Q) ↔ (P′ ⊎ Q′)
 sum-iff f g = (sum-map (f .0) (g .0), sum-map (f .1) (g .1))
+
+pub blk-cong : {P P′ : CTrace → Type 0} → ((x : CTrace) → P x ↔ P′ x) → (z : Trace) → ((x : CTrace) × P x × BlkT x z) ↔ ((x : CTrace) × P′ x × BlkT x z)
+blk-cong f z = (λ t. (t .0, f (t .0) .0 (t .1), t .2), λ t. (t .0, f (t .0) .1 (t .1), t .2))
 
 blk-of : (e : CTrace) (z : Trace) (Z : Type 0) → (BlkT e z ↔ Z) → (P : CTrace → Type 0) → ((x : CTrace) → P x ↔ (x ≡ e)) → ((x : CTrace) × P x × BlkT x z) ↔ Z
 blk-of e z Z b P f = (λ t. b .0 (subst (λ x. BlkT x z) (f (t .0) .0 (t .1)) (t .2)), λ h. (e, f e .1 refl, b .1 h))
@@ -408,7 +411,7 @@ mutual
   same-traces (in-alt h k) z = sum-iff (same-traces h z) (same-traces k z)
   same-traces (in-par h k) z = lift-cong ParT (λ x. same-traces h x) (λ y. same-traces k y) z
   same-traces (in-hnd h k) z = lift-cong (by (onT failed)) (λ x. same-traces h x) (λ y. same-traces k y) z
-  same-traces (in-blk h) z = (λ t. (t .0, csame-traces h (t .0) .0 (t .1), t .2), λ t. (t .0, csame-traces h (t .0) .1 (t .1), t .2))
+  same-traces (in-blk h) z = blk-cong (λ x. csame-traces h x) z
   same-traces (law h) z = law-traces std-meaning h z
   same-traces (hnd-assoc {p} {q} {r}) z = lift-assoc (onT failed) (on-assoc failed) (Tr p) (Tr q) (Tr r) z
   same-traces (hnd-throw-right {p}) z = lift-unit-right (onT failed) (Tr p) z (tr [] failed) (on-none failed)

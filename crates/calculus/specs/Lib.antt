@@ -10,8 +10,10 @@ pub mod Entered
 pub mod Spending
 pub mod Alike
 pub mod Choices
+pub mod Spelled
 -- Definitions that need not be believed.
 pub mod Renames
+pub mod Leaves
 -- Theorems.
 pub mod Equations
 pub mod Members
@@ -26,4 +28,5 @@ pub mod Budget
 pub mod JudgedByHand
 pub mod RuledOut
 pub mod LeafChoice
+pub mod SpelledTraces
 pub mod Renamed

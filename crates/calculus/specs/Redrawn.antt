@@ -67,19 +67,26 @@ any-end (cmp pp) = let c = has-firm-crun pp in (c .0, complete-ends (cmp pp) (c 
 
 -- Redrawing keeps the complete runs ------------------------------------------------------------------------------------------
 
-std-traces : {p q : Std} → Same p q → (rs : List Record) → InTraces (std p) rs → InTraces (std q) rs
-std-traces h rs c = (c .0, c .1, c .2, same-traces h (tr (c .0) (c .1)) .0 (c .3))
+-- parts of the same traces have the same traces over record lists
+pub std-traces : (p q : Std) → ((z : Trace) → Tr p z ↔ Tr q z) → (rs : List Record) → InTraces (std p) rs ↔ InTraces (std q) rs
+std-traces p q h rs = (
+  λ c. (c .0, c .1, c .2, h (tr (c .0) (c .1)) .0 (c .3)),
+  λ c. (c .0, c .1, c .2, h (tr (c .0) (c .1)) .1 (c .3)),
+)
 
-cmp-traces : {pp qq : Cmp} → CSame pp qq → (rs : List Record) → InTraces (cmp pp) rs → InTraces (cmp qq) rs
-cmp-traces h rs c = (c .0, c .1, c .2, c .3, c .4, csame-traces h (ct (tr (c .0) (c .1)) (tr (c .2) (c .3))) .0 (c .5))
+pub cmp-traces : (pp qq : Cmp) → ((z : CTrace) → CTr pp z ↔ CTr qq z) → (rs : List Record) → InTraces (cmp pp) rs ↔ InTraces (cmp qq) rs
+cmp-traces pp qq h rs = (
+  λ c. (c .0, c .1, c .2, c .3, c .4, h (ct (tr (c .0) (c .1)) (tr (c .2) (c .3))) .0 (c .5)),
+  λ c. (c .0, c .1, c .2, c .3, c .4, h (ct (tr (c .0) (c .1)) (tr (c .2) (c .3))) .1 (c .5)),
+)
 
 pub redrawn-flip : {s t : State} → Redrawn s t → Redrawn t s
 redrawn-flip (Redrawn.standard h) = Redrawn.standard (Same.flip h)
 redrawn-flip (Redrawn.compensable h) = Redrawn.compensable (CSame.cflip h)
 
 redrawn-traces : {s t : State} → Redrawn s t → (rs : List Record) → InTraces s rs → InTraces t rs
-redrawn-traces (Redrawn.standard h) rs c = std-traces h rs c
-redrawn-traces (Redrawn.compensable h) rs c = cmp-traces h rs c
+redrawn-traces (Redrawn.standard {p} {q} h) rs c = std-traces p q (same-traces h) rs .0 c
+redrawn-traces (Redrawn.compensable {pp} {qq} h) rs c = cmp-traces pp qq (csame-traces h) rs .0 c
 
 pub redrawn-complete : {s t : State} → Redrawn s t → (rs : List Record) → Complete s rs → Complete t rs
 redrawn-complete {s} {t} h rs c = complete-traces t rs .1 (redrawn-traces h rs (complete-traces s rs .0 c))

@@ -101,13 +101,17 @@ module _ (ns : List ℕ) (fine : FineTable ns) where
   two-means-one : (i : ℕ) → T (has-two ns i) → T (has-one ns i)
   two-means-one i t = subst (λ (n : ℕ). T (not (eqb n 0))) (sym (eqb→eq (form (node ns i) .kids) 2 t)) tt
 
-  -- a node with a child is one of the table's
-  parent-within : (i : ℕ) → T (has-one ns i) → i < count ns
-  parent-within i t = by (ltb i (count ns)) refl
+  -- a node is one of the table's if something holds of it that does not hold of an unknown one
+  pub node-within : (P : Node → Type 0) → (P Unknown → ⊥) → (i : ℕ) → P (node ns i) → i < count ns
+  node-within P none i h = by (ltb i (count ns)) refl
     where
       by : (b : Bool) → ltb i (count ns) ≡ b → i < count ns
       by true e = ltb-true i (count ns) e
-      by false e = absurd (subst (λ (n : Node). T (not (eqb (form n .kids) 0))) (beyond i (ltb-false i (count ns) e)) t)
+      by false e = absurd (none (subst P (beyond i (ltb-false i (count ns) e)) h))
+
+  -- so a node with a child
+  parent-within : (i : ℕ) → T (has-one ns i) → i < count ns
+  parent-within = node-within (λ (n : Node). T (not (eqb (form n .kids) 0))) (λ t. t)
 
   -- 6
   pub kid-lower : (i c : ℕ) → Kid (shape ns) i c → c < i

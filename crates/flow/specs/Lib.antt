@@ -23,5 +23,6 @@ pub mod Closings
 pub mod FineTable
 pub mod OneFlow
 pub mod EventLeaves
+pub mod DrawnLeaves
 pub mod RecordsFit
 pub mod CuedFlows

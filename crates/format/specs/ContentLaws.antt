@@ -1,18 +1,23 @@
 -- The checks of a file's contents one after the other: the first that refuses gives the answer; and what is known where none does
--- (`contents-passed`). Assumes nothing.
-use Prim.Native.Nat.{ℕ, _<_}
+-- (`contents-passed`). Then every event leaf has an entry (`leaf-named`). Assumes nothing.
+use Prim.Native.Nat.{ℕ, _<_, _≤_}
 use mathlib.Core.Bool.{Bool, false}
 use mathlib.Core.List.{List, [], _∷_, _++_}
 use native.Mathlib.Omega.{arith}
 use lib.ListN.{length, getD}
 use mathlib.Core.Path.{_≡_, ap, sym, _∙_}
+use borrow.Author.Tests.{ltb-false}
 use Rattle.flow.specs.declared.Refusal.{Refusal}
 use Rattle.flow.specs.declared.Check.{Check}
 use Rattle.flow.specs.declared.Check.the-variants.{Fine, Refused}
-use Rattle.flow.specs.Tests.{is-false}
+use Rattle.flow.specs.declared.Node.the-variants.{Event}
+use Rattle.flow.specs.Tests.{is-false, then-false}
+use Rattle.flow.specs.Kinds.{form, node, one-of}
 use Rattle.flow.specs.Refusals.{ground, count, nodes-order, values-order, closing-order}
 use Rattle.flow.specs.Checks.{first, or-else-check, nodes-check, values-check, closings-check}
 use Rattle.flow.specs.FirstRefusal.{None, more, fine-exactly, none-each, both-fine, first-append, orders-append, or-else-refused, or-else-fine}
+use Rattle.flow.specs.Fine.{FineTable}
+use Rattle.flow.specs.EventLeaves.{event-first, event-leaf, event-within}
 use Rattle.format.specs.Contents.{unnamed-leaf, leaf-grounds, unnamed-event, event-grounds, names-order}
 use Rattle.format.specs.ContentChecks.{leaves-grounds, events-grounds, grounds-of}
 
@@ -84,3 +89,10 @@ contents-passed names ns rs e =
       leaves = λ i h. none-single 19 i (unnamed-leaf names ns i) (none-each (leaf-grounds names ns) 0 (count ns) i (fine-exactly (leaves-grounds names ns) .0 (d .0)) (omega arith) (omega arith));
       events = λ i h. none-single 20 i (unnamed-event names (getD rs i 0)) (none-each (event-grounds names rs) 0 (length rs) i (fine-exactly (events-grounds names rs) .0 (d .1)) (omega arith) (omega arith));
     }
+
+-- the event of a leaf that is not refused, by 5 or by 19, is the number of an entry
+pub leaf-named : (names : ℕ) (ns : List ℕ) → FineTable ns → (i e : ℕ) → i < count ns → node ns i ≡ Event e → unnamed-leaf names ns i ≡ false → (1 ≤ e) × (e ≤ names)
+unfolding unnamed-leaf
+leaf-named names ns fine i e w n u =
+    let free = ltb-false names (one-of ns i) (then-false (form (node ns i) .event) _ u (event-leaf ns i n)) in
+    (event-within ns i n (fine .node i w) .0, omega (arith, free, event-first ns i n))

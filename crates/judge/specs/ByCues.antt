@@ -17,13 +17,12 @@ use Rattle.calculus.specs.Records.{Record}
 use Rattle.flow.specs.declared.Check.the-variants.{Fine}
 use Rattle.flow.specs.declared.Node.the-variants.{Event}
 use Rattle.flow.specs.Tests.{then-false}
-use Rattle.flow.specs.Kinds.{form, node, one-of}
+use Rattle.flow.specs.Kinds.{node}
 use Rattle.flow.specs.Records.{most-events, is-event-number, is-closing-number, record-of, records}
 use Rattle.flow.specs.Refusals.{count, no-record}
 use Rattle.flow.specs.Drawn.{flow-by}
 use Rattle.flow.specs.Cues.{cued, cue-record, cue-records, cue-of, itself}
 use Rattle.flow.specs.CuedFlows.{cued-judge, cued-fits, cues-low}
-use Rattle.flow.specs.EventLeaves.{event-first, event-leaf, event-within}
 use Rattle.flow.specs.FineTable.{fine-table}
 use Rattle.flow.specs.RecordsFit.{fine-records, records-fit}
 use Rattle.search.specs.declared.Out.{Out}
@@ -33,7 +32,8 @@ use Rattle.search.specs.SearchLaws.{visit-within}
 use Rattle.search.specs.Visits.{out-of}
 use Rattle.format.specs.Format.{Entry}
 use Rattle.format.specs.Matching.{named}
-use Rattle.format.specs.Contents.{unnamed-leaf, unnamed-event}
+use Rattle.format.specs.Contents.{unnamed-event}
+use Rattle.format.specs.ContentLaws.{leaf-named}
 use Rattle.format.specs.ListChecks.{entries-in}
 use Rattle.format.specs.ListLaws.{ListsPassed}
 use Rattle.format.specs.EntryLaws.{whole-there}
@@ -132,12 +132,6 @@ module _ (s ns rs : List ℕ) (lists : ListsPassed s ns rs) where
   abbrev es : List Entry
   es = entries-in s
 
-  leaf-named : (i e : ℕ) → i < count ns → node ns i ≡ Event e → (1 ≤ e) × (e ≤ length es)
-  unfolding unnamed-leaf
-  leaf-named i e w n =
-      let free = ltb-false (length es) (one-of ns i) (then-false (form (node ns i) .event) _ (lists .contents .leaves i w) (event-leaf ns i n)) in
-      (event-within ns i n (fine-table ns (lists .table) .node i w) .0, omega (arith, free, event-first ns i n))
-
   named-cueing : Cueing (named es) (other es) ns rs
   unfolding unnamed-event
   named-cueing = record {
@@ -147,7 +141,7 @@ module _ (s ns rs : List ℕ) (lists : ListsPassed s ns rs) where
       ltb-false (length es) (getD rs i 0) (then-false (leb (getD rs i 0) most-events) _ (lists .contents .events i h) (subst T (sym (le-leb (getD rs i 0) most-events l)) tt)),
     );
     small = λ a h. let few = whole-there s (lists .section) .few in let l : a ≤ most-events = omega (arith, few, h) in (l, section-other-small s (lists .section .is) a l);
-    right = λ i e w n a h. let q = leaf-named i e w n in section-other-takes s (lists .section .is) e a (q .0) (q .1) (h .0) (h .1);
+    right = λ i e w n a h. let q = leaf-named (length es) ns (fine-table ns (lists .table)) i e w n (lists .contents .leaves i w) in section-other-takes s (lists .section .is) e a (q .0) (q .1) (h .0) (h .1);
   }
 
 ---- As the code comes to it ----

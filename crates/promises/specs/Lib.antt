@@ -23,6 +23,7 @@ pub mod ReaderRefusals
 pub mod Reads
 pub mod ListRefusals
 pub mod NamedDemands
+pub mod SpelledFlows
 pub mod Writer
 pub mod RoundTrip
 pub mod Cuts

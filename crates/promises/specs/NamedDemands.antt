@@ -84,7 +84,7 @@ module _ (s ns rs : List ℕ) where
 
 -- of a good section the flow is the one that its entries draw
 module _ (es : List Entry) (good : GoodNames es) where
-  alone-is : section-alone (names-section es) ≡ got es (length (names-section es))
+  pub alone-is : section-alone (names-section es) ≡ got es (length (names-section es))
   alone-is = section-found (names-section es) good refl
 
   pub named-flow-is : (ns : List ℕ) → named-flow (names-section es) ns ≡ flow-by (named es) ns
