@@ -1,7 +1,7 @@
 -- The event of an event leaf is the node's first number, and in a table that is not refused it is 1 to 256. Assumes nothing.
 use Prim.Native.Nat.{ℕ, _*_, _≤_}
-use mathlib.Core.Path.{_≡_, refl, sym, ap, _∙_, subst}
-use mathlib.Core.Bool.{Bool, true, false, not, _&&_, _||_}
+use mathlib.Core.Path.{_≡_, refl, sym, subst}
+use mathlib.Core.Bool.{false, not}
 use mathlib.Core.List.{List}
 use lib.Dec.{T, leb, leb→le}
 use lib.ListN.{getD}

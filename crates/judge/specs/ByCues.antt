@@ -3,7 +3,7 @@
 use Prim.Native.Nat.{ℕ, zero, suc, _<_, _≤_}
 use mathlib.Core.Path.{_≡_, refl, sym, ap, _∙_, subst}
 use mathlib.Core.Bool.{Bool, true, false, _||_}
-use mathlib.Core.List.{List, map, _++_}
+use mathlib.Core.List.{List, map}
 use native.Mathlib.Omega.{arith}
 use lib.Dec.{T, eqb, leb}
 use lib.ListN.{length, getD, take, drop, length-map}
@@ -18,7 +18,7 @@ use Rattle.flow.specs.declared.Check.the-variants.{Fine}
 use Rattle.flow.specs.declared.Node.the-variants.{Event}
 use Rattle.flow.specs.Tests.{then-false}
 use Rattle.flow.specs.Kinds.{node}
-use Rattle.flow.specs.Records.{most-events, is-event-number, is-closing-number, record-of, records}
+use Rattle.flow.specs.Records.{most-events, is-event-number, is-closing-number, records}
 use Rattle.flow.specs.Refusals.{count, no-record}
 use Rattle.flow.specs.Drawn.{flow-by}
 use Rattle.flow.specs.Cues.{cued, cue-record, cue-records, cue-of, itself}

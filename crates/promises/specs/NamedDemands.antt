@@ -3,17 +3,14 @@
 -- have entries. Judging without a names section is unchanged. Refusals: with a names section, those of One in One's order."
 -- The flow is the one that the nodes draw with the entries' leaves (`named`, format Matching); what such a leaf means is in Machines.
 -- What does not depend on the matching is said once for both entry points (Verdicts). Theorems only. Assumes nothing.
-use Prim.Native.Nat.{ℕ, _<_, _≤_}
+use Prim.Native.Nat.{ℕ, _≤_}
 use mathlib.Core.Path.{_≡_, refl, sym, ap, _∙_, subst}
-use mathlib.Core.Bool.{false}
 use mathlib.Core.List.{List, [], _∷_}
 use mathlib.Core.Logic.{_↔_, Iff·trans}
 use native.Mathlib.Omega.{arith}
 use lib.ListN.{length}
 use Rattle.calculus.specs.Records.{Record, State, Complete, InTraces}
-use Rattle.calculus.specs.Search as search
 use Rattle.calculus.specs.Laws.{Redrawn}
-use Rattle.flow.specs.declared.Refusal.{Refusal}
 use Rattle.flow.specs.declared.Check.{Check}
 use Rattle.flow.specs.declared.Check.the-variants.{Fine}
 use Rattle.flow.specs.declared.Check.the-variants as check
@@ -23,21 +20,21 @@ use Rattle.flow.specs.Checks.{first, or-else-check, table-length-check, nodes-c
 use Rattle.flow.specs.FirstRefusal.{both-fine, or-else-fine, table-parts}
 use Rattle.flow.specs.Earliest.{none, more, Nowhere, end, not-sweep}
 use Rattle.flow.specs.Draws.{Draws}
-use Rattle.flow.specs.Drawn.{flow-by, flow-of}
+use Rattle.flow.specs.Drawn.{flow-by}
 use Rattle.format.specs.Format.{Entry, names-section}
 use Rattle.format.specs.Limits.{GoodNames, Bytes}
 use Rattle.format.specs.Matching.{named}
-use Rattle.format.specs.Contents.{unnamed-leaf, leaf-grounds}
+use Rattle.format.specs.Contents.{leaf-grounds}
 use Rattle.format.specs.NameFaults.{NamesFault, NamedRefuses, in-section}
 use Rattle.format.specs.ContentChecks.{leaves-grounds, events-grounds}
 use Rattle.format.specs.ContentLaws.{contents-is}
 use Rattle.format.specs.Plan.{got}
-use Rattle.format.specs.ListChecks.{section-alone, entries-in, lists-check}
+use Rattle.format.specs.ListChecks.{section-alone, lists-check}
 use Rattle.format.specs.ListLaws.{entries-in-is, lists-is}
 use Rattle.judge.specs.declared.Answer.{Answer}
-use Rattle.judge.specs.Judged.{VerdictWord, told, refusal, room-wanted, named-judge-order, named-judge-check, judged, judged-named, named-flow, cleared, named-work-after, answer-of, NamedJudged}
+use Rattle.judge.specs.Judged.{VerdictWord, told, refusal, room-wanted, named-judge-order, named-judge-check, judged-named, named-flow, cleared, named-work-after, NamedJudged}
 use Rattle.judge.specs.Settled.{room-check}
-use Rattle.judge.specs.JudgedLaws.{refused-bytes, fine-bytes, fine-is, named-parts, room-passes, named-passed}
+use Rattle.judge.specs.JudgedLaws.{refused-bytes, fine-bytes, named-parts, room-passes}
 use Rattle.promises.specs.Stated.{Decides, SameAnswer, EventsNamed}
 use Rattle.promises.specs.ExactlyWhen.{nowhere-exactly}
 use Rattle.promises.specs.Verdicts.{not-refused-fine, decided-told, told-refused, fine-not-refused, refusal-told, redrawn-answers, redrawn-closings}
