@@ -1,5 +1,6 @@
 -- The flow that a node table means. `Draws leaves ns i s`: node i of the table draws the part s, one constructor to a form of node, where
--- `leaves` says which records an event's number takes: `leaf` of the calculus where no names are lent.
+-- `leaves` says which records an event's number takes: `leaf` (calculus, Term) where no names are lent, `named` (format, Matching) where they
+-- are.
 -- Definitions only: OneFlow proves that a table that is not refused draws exactly one flow, `flow-by` it (Drawn). Assumes nothing.
 use Prim.Native.Nat.{ℕ}
 use mathlib.Core.Path.{_≡_}

@@ -146,7 +146,7 @@ module _ (s ns rs : List ℕ) (lists : ListsPassed s ns rs) where
 
 ---- As the code comes to it ----
 
--- the cues xs at the front of a table that was filled with 0
+-- xs are the cues of the records, as they stand at the front of the code's own table
 module _ (ns rs work : List ℕ) {xs : List ℕ} where
   module _ (e : judge-check ns rs (length work) ≡ Fine) (is : xs ≡ map (cue-of itself) rs) where
     pub plain-ready : SearchReady ns xs work

@@ -50,6 +50,7 @@ room-wanted ns rs = room-of (count ns) (length rs)
 unfoldable pub too-short : List ℕ → List ℕ → ℕ → Bool
 too-short ns rs room = ltb room (room-wanted ns rs)
 
+-- behind all others
 abbrev pub room-order : List ℕ → List ℕ → ℕ → List Round
 room-order ns rs room = lone (ground 14 0 (too-short ns rs room)) ∷ []
 

@@ -21,7 +21,9 @@ search-twice-requires c κs =
     visit-ready (s .pre) (c .before .before .before .before .clear .ensures) (c .before .role-of .ensures)
 
 clear-requires-2 : tie.Need-clear-requires-2
-clear-requires-2 c κs = search needs
+clear-requires-2 c κs =
+    let s = c .before .before .before .before .before .before .before .before .before .before .before .before .before .before in
+    omega (arith, s .pre .room, nodes-within (s .pre), c .before .before .before .before .before .before .before .before .before .before .room-wanted .ensures, c .before .before .before .search-twice .kept .1 .1 .0, c .before .before .before .before .before .before .before .before .clear .kept .0)
 
 same-length : tie.Need-same-length
 same-length c = search needs
