@@ -25,7 +25,7 @@ use Rattle.format.specs.Format.{Entry, names-section}
 use Rattle.format.specs.Limits.{GoodNames, Bytes}
 use Rattle.format.specs.Matching.{named}
 use Rattle.format.specs.Contents.{leaf-grounds}
-use Rattle.format.specs.NameFaults.{NamesFault, NamedRefuses, in-section}
+use Rattle.format.specs.NameFaults.{NamedRefuses, in-section, after-section, in-order}
 use Rattle.format.specs.ContentChecks.{leaves-grounds, events-grounds}
 use Rattle.format.specs.ContentLaws.{contents-is}
 use Rattle.format.specs.Plan.{got}
@@ -158,10 +158,15 @@ module _ (es : List Entry) (good : GoodNames es) (ns ns′ : List ℕ) (redrawn 
         redrawn-as : {a b c d : State} → a ≡ b → c ≡ d → Redrawn a c → Redrawn b d
         redrawn-as {b} {c} p q r = subst (Redrawn b) q (subst (λ (z : State). Redrawn z c) p r)
 
--- a names section that is refused is refused alike whatever is drawn
-pub names-refuse-all : {s : List ℕ} {number place : ℕ} → Bytes s → NamesFault s number place → (ns rs : List ℕ) (room allowance : ℕ)
+-- a names section that is refused by itself, by 15 to 18 or 21, is refused alike whatever is drawn
+pub names-refuse-all : {s : List ℕ} {number place : ℕ} → Bytes s → NamedRefuses s (λ es. []) number place → (ns rs : List ℕ) (room allowance : ℕ)
     → told (judged-named s ns rs room allowance) ≡ refusal number place
-names-refuse-all {s} {number} {place} bytes f ns rs room allowance = named-refused-when s ns rs bytes room allowance number place .1 (in-section f)
+names-refuse-all {s} bytes x ns rs room allowance = named-refused-when s ns rs bytes room allowance _ _ .1 (by x)
+  where
+    by : {k p : ℕ} → NamedRefuses s (λ es. []) k p → NamedRefuses s (named-judge-order ns rs room) k p
+    by (in-section f) = in-section f
+    by (after-section es g h l) = after-section es g h l
+    by (in-order es g e y) = elim y [ ]
 
 ---- One outcome ----
 
