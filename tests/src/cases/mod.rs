@@ -261,7 +261,7 @@ impl Iterator for Stream {
 }
 
 /// The gate's stored run, `crates/replay/stdin` and `stdout`: so many cases of this seed.
-pub const STORED_CASES: usize = 8_500;
+pub const STORED_CASES: usize = 10_000;
 pub const STORED_SEED: u64 = 1;
 
 /// A run of `replay`: its input, and the lines that it has to print.
