@@ -1,5 +1,6 @@
 #!/usr/bin/env python3
-"""States per second on the stored flows: the judge, the independent implementation, and the transition rules in Prolog.
+"""States per second on the stored flows: the judge, the independent implementation, and the transition rules in Prolog; and a panel's
+calls, which ask what may come next.
 
 Every figure is of one run on the same files. Prints a table and keeps it in RESULTS.md beside this file, above that file's first
 section. The judge is measured in one of two ways, and the table says which:
@@ -23,7 +24,9 @@ EMULATED = platform.machine() != "x86_64"
 MOST = 4_294_967_295
 FLOWS = {name: MOST for name in ["paraa", "choice", "yield", "undo", "lines", "seven", "pairs", "throww", "twelve", "fourteen"]}
 FLOWS["throww"] = 100_000  # of some thousand million
+PANELS = {"panel-route": False, "panel-lines": False, "panel-undone": False, "panel-machines": True}  # whether names are lent
 CLOSINGS = {61441: "done", 61442: "withdrawn", 61443: "failed"}
+LIST_ROOM = 259
 ROUNDS = 5
 LIMIT = 60  # seconds for one call; what takes longer is left out
 WORTH_TRYING = 20_000_000  # states, for a program that goes through equal ones again
@@ -40,6 +43,10 @@ NOTE = f"""
 - Prolog: the transition rules as published, in SWI-Prolog (`rules.pl`), one run, timed inside itself.
 - other, where it is there: one more program that was named to `bench/run`, timed inside itself.
 - stored: all cases `J` of `crates/replay/stdin`, calls of the judge without names, and a call is all of them. small: those of them that enter {FEW} states or fewer.
+- panel: what may come next, asked after each record of a batch of 256 on a flow of 64 nodes, from none to the last but one: 256 calls, and
+  a call is all of them. `panel-route` is one step after the other, `panel-lines` three equal lines side by side, `panel-undone` three that
+  fail and are undone, `panel-machines` the same with forty names, its steps drawn without a machine. No run of so many nodes has more than
+  34 records: the lists behind that are empty, but all runs are searched for each. A build that does not answer such calls has no figure.
 - `throww` is allowed {FLOWS["throww"]:,} states, all others {MOST:,}. A dash: over {LIMIT} seconds, or not tried: what goes through equal
   states again is not asked for more than {WORTH_TRYING:,}, and Prolog for none that stays undecided.
 
@@ -49,17 +56,18 @@ their ratio (above 1: faster), and between what the ratios of single rounds lie.
 
 
 def parts(path):
+    """The names section of a flow file, its nodes and its records."""
     b = path.read_bytes()
     num = lambda at: b[at] + 256 * b[at + 1]
     at = 2
     for _ in range(num(0)):
         at += 1 + b[at]
         at += 1 + b[at]
-    n = num(at)
+    n, names = num(at), b[:at]
     nodes = [num(at + 2 + 2 * i) for i in range(3 * n)]
     at += 2 + 6 * n
     records = [num(at + 2 + 2 * i) for i in range(num(at))]
-    return nodes, records
+    return names, nodes, records
 
 
 def term(nodes, i):
@@ -72,9 +80,27 @@ def term(nodes, i):
     return f"{two[k]}({term(nodes, f)},{term(nodes, s)})"
 
 
-def case(nodes, records, allowance):
-    room = 2 * (len(nodes) // 3) * (len(records) + 1)
-    return b"J" + struct.pack("<IIHH", allowance, room, len(nodes), len(records)) + struct.pack(f"<{len(nodes) + len(records)}H", *nodes, *records)
+def work_wanted(nodes, records):
+    return 2 * (len(nodes) // 3) * (len(records) + 1)
+
+
+def numbers(*lists):
+    return b"".join(struct.pack(f"<{len(own)}H", *own) for own in lists)
+
+
+def judge_case(nodes, records, allowance):
+    """A call of the judge without names."""
+    head = struct.pack("<IIHH", allowance, work_wanted(nodes, records), len(nodes), len(records))
+    return b"J" + head + numbers(nodes, records)
+
+
+def next_case(names, nodes, records, allowance):
+    """A call that asks what may come next; names are a section, or None."""
+    section = names or b""
+    asked = struct.pack("<BBB", 1, 1, 0 if names is None else 1)
+    lent = struct.pack("<III", allowance, work_wanted(nodes, records), LIST_ROOM)
+    lengths = struct.pack("<HHHH", len(section), len(nodes), len(records), 0)
+    return b"C" + asked + lent + lengths + section + numbers(nodes, records)
 
 
 def split(stdin):
@@ -93,18 +119,20 @@ def split(stdin):
 
 
 class Input:
-    """Cases, the lines that are to come if they are known, and how many states they enter."""
+    """Cases of one sort, and the lines that are to come if they are known. Said of the sort: which word of a line is the count of states
+    entered, and a case that is over at once, with its line."""
 
-    def __init__(self, cases, lines=None):
-        self.cases, self.lines = cases, lines
+    def __init__(self, cases, lines=None, count=3, idle=(judge_case([], [], 0), "refused 1 0 0 clean")):
+        self.cases, self.lines, self.count, self.over = cases, lines, count, idle
 
     def states(self):
         """None if no judge was done with it."""
-        return self.lines and sum(int(line.split()[3]) for line in self.lines)
+        return self.lines and sum(int(line.split()[self.count]) for line in self.lines)
 
     def idle(self):
         """As many calls that have no nodes."""
-        return Input([case([], [], 0)] * len(self.cases), ["refused 1 0 0 clean"] * len(self.cases))
+        case, line = self.over
+        return Input([case] * len(self.cases), [line] * len(self.cases))
 
 
 class Judge:
@@ -125,6 +153,13 @@ class Judge:
         assert out == (given.lines if self.natively else given.lines * times), (words, given.lines[:1], out[:1])
         return seconds
 
+    def answers(self, given):
+        """Whether it knows cases of this sort: an earlier build may not."""
+        case, line = given.over
+        one = Input([case])
+        self.run(one, 1)
+        return one.lines == [line]
+
     def times(self, given):
         """How often to judge so that it can be timed; None if once takes too long."""
         times = 1
@@ -143,9 +178,9 @@ def spent():
 
 
 def calls(judges, given):
-    """The seconds of a call by each judge, one figure for each round; None for one that takes too long. They take turns, now this one
-    first and now that."""
-    times = [judge.times(given) for judge in judges]
+    """The seconds of a call by each judge, one figure for each round; None for one that takes too long, or does not answer. They take turns,
+    now this one first and now that."""
+    times = [judge.times(given) if judge.answers(given) else None for judge in judges]
     seconds, idle = [[] for _ in judges], given.idle()
     for r in range(ROUNDS):
         for i in list(range(len(judges)))[:: 1 if r % 2 == 0 else -1]:
@@ -193,8 +228,16 @@ def table(head, rows):
 def flows():
     for name, allowance in FLOWS.items():
         path = HERE / "flows" / f"{name}.flow"
-        nodes, records = parts(path)
+        _, nodes, records = parts(path)
         yield name, path, nodes, records, allowance
+
+
+def panels():
+    """A panel's calls after each record of a batch but its closing, all together."""
+    for name, named in PANELS.items():
+        names, nodes, records = parts(HERE / "flows" / f"{name}.flow")
+        asked = [next_case(names if named else None, nodes, records[:i], MOST) for i in range(len(records))]
+        yield f"{name}: {len(asked)} calls", Input(asked, count=2, idle=(next_case(None, [], [], 0), "refused 1 0 clean"))
 
 
 def stored():
@@ -238,11 +281,14 @@ def against(argument, folder):
     this = this_build(folder)
     judges = [this, earlier_build(this, argument, folder)]
     rows = []
-    inputs = [(name, Input([case(nodes, records, allowance)])) for name, _, nodes, records, allowance in flows()]
-    for name, given in inputs + list(stored()):
+    inputs = [(name, Input([judge_case(nodes, records, allowance)])) for name, _, nodes, records, allowance in flows()]
+    for name, given in inputs + list(stored()) + list(panels()):
+        answering = [judge.answers(given) for judge in judges]
+        if not any(answering): continue
         now, then = calls(judges, given)
+        missing = [f"over {LIMIT} s" if answers else "not answered" for answers in answering]
         row = [name, f"{given.states():,}" if now or then else "-"] + [millions(own and given.states() / min(own)) for own in (now, then)]
-        row += [lasting(min(own)) if own else f"over {LIMIT} s" for own in (now, then)]
+        row += [lasting(min(own)) if own else instead for own, instead in zip((now, then), missing)]
         if now and then:
             ratios = [b / a for a, b in zip(now, then)]
             row += [f"{min(then) / min(now):,.2f}", f"{min(ratios):,.2f} to {max(ratios):,.2f}"]
@@ -255,7 +301,7 @@ def kept(independent, other, folder):
     head = ["flow", "nodes", "states", "differ", "judge", "a call", "independent", "Prolog"] + (["other"] if other else [])
     judge, rows = this_build(folder), []
     for name, path, nodes, records, allowance in flows():
-        given = Input([case(nodes, records, allowance)])
+        given = Input([judge_case(nodes, records, allowance)])
         [seconds] = calls([judge], given)
         count, differ, speed = bench([independent, "bench", path, str(allowance)])
         assert given.states() in (None, count), (name, given.lines, count)
@@ -267,6 +313,11 @@ def kept(independent, other, folder):
     for name, given in stored():
         [seconds] = calls([judge], given)
         rows.append([name, "-", f"{given.states():,}", "-", millions(given.states() / min(seconds)), lasting(min(seconds))] + ["-"] * (len(head) - 6))
+    for name, given in panels():
+        if not judge.answers(given): continue
+        [seconds] = calls([judge], given)
+        row = [name, "64"] + ([f"{given.states():,}", "-", millions(given.states() / min(seconds)), lasting(min(seconds))] if seconds else ["-", "-", "-", f"over {LIMIT} s"])
+        rows.append(row + ["-"] * (len(head) - 6))
     build = subprocess.run(["git", "-C", HERE, "describe", "--always", "--dirty"], stdout=subprocess.PIPE, check=True).stdout.decode().strip()
     text = f"# States per second, in millions\n\nOne run at commit {build}, all programs on the same files (`bench/flows`), best of {ROUNDS}.\nThe judge is measured by {WAY}.\n\n{table(head, rows)}\n{NOTE}"
     print(text)

@@ -1,5 +1,6 @@
 // The cases of `replay` that call the judge without names (J), in plain Rust, for measuring: `native.py` puts the judge beside this as
-// modules. Every build answers them alike, so that two builds can be set beside each other.
+// modules. Every build answers them alike, so that two builds can be set beside each other. To all others it says that they are no cases,
+// so a panel's calls have no figure where this is used.
 //
 // native [TIMES]: reads cases from standard input as `replay` does (tests/README.md says how they are written), judges each so many times,
 // once if nothing is said, and prints its line. Time is taken outside.

@@ -3,8 +3,8 @@
 
 use crate::guided::{self, Visit};
 use crate::matching::Matching;
-use crate::reader::lent_lists;
-use crate::refusals::{judge_checks, work_length, work_wanted, Refusal};
+use crate::reader::lent_matching;
+use crate::refusals::{work_length, work_wanted, Records, Refusal};
 use crate::rules;
 use crate::term::{root, State};
 use std::collections::HashMap;
@@ -58,15 +58,11 @@ impl<'a> Lent<'a> {
         Lent { names, nodes, records, work_len: work_wanted(nodes, records), allowance }
     }
 
-    /// The refusal, or who takes which record. "With a names section, those of One in One's order", and 14 last.
+    /// The refusal, 14 last, or who takes which record.
     fn checked(&self) -> Result<Matching, Refusal> {
-        let Some(names) = self.names else {
-            judge_checks(self.nodes, self.records, self.work_len)?;
-            return Ok(Matching::ByNumber);
-        };
-        let entries = lent_lists(names, self.nodes, self.records)?;
+        let matching = lent_matching(self.names, self.nodes, self.records, Records::Whole)?;
         work_length(self.nodes, self.records, self.work_len)?;
-        Ok(Matching::ByName(entries))
+        Ok(matching)
     }
 
     /// What the judge answers.

@@ -1,13 +1,14 @@
-//! Document 01 and what has landed of document 02 a second time, in plain Rust, to test the proved judge, reader and writer against.
-//! It is written from the documents and the decisions on their open points, and shares no code with them.
+//! Document 01 and what has landed of document 02 a second time, in plain Rust, to test the proved judge, reader, writer and lists of
+//! what may come next against. It is written from the documents and the decisions on their open points, and shares no code with them.
 //!
 //! What is here, from the bottom up:
 //! - `term`: terms, closings, states; `refusals`: the checks 1 to 14; `matching`: which records a node takes.
 //! - `rules`: the rules as plain lists, sentence by sentence; `guided`: the same successors one at a time.
 //! - `reader`: the flow file; `writer`: the flow file written; `judge`: the counted search and the answer, with names and without;
-//!   `program`: a flow file judged with its names.
+//!   `next`: what may come next, by a search of its own; `program`: a flow file judged with its names.
 //! - `traces`: the published trace semantics as explicit sets; `laws`: the laws of demand 3.
-//! - `selfcheck`: `judge` against `traces`, `guided` against `rules`, with and without a memory, the laws against `judge`.
+//! - `selfcheck`: `judge` and `next` against `traces` and against each other, `guided` against `rules`, with and without a memory, the
+//!   laws against `judge` and `next`.
 //! - `cases`: cases for `replay`; `compare`: its lines against ours; `samples`, `measured`: flow files to try and to measure.
 //! - `drawing`, `random`, `flowfile`, `rng`: flows, records and files, by hand and at random.
 
@@ -21,6 +22,7 @@ pub mod judge;
 pub mod laws;
 pub mod matching;
 pub mod measured;
+pub mod next;
 pub mod program;
 pub mod random;
 pub mod reader;

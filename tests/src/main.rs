@@ -97,12 +97,17 @@ fn selfcheck(flows: u64, seed: u64) -> Result<String, String> {
     let each = flows.div_ceil(laws.len() as u64);
     Ok([
         show("search and trace sets", random_flows_against_traces(flows, seed)?),
+        show("lists and trace sets", random_lists_against_traces(flows, seed)?),
+        show("lists by levels and by recursion", lists_by_levels_against_recursion(flows, seed)?),
+        show("lists and the judge", lists_against_judge(flows, seed)?),
         show("guided successors and plain lists", guided_against_lists(flows, seed)?),
         show("with and without a memory", remembering_against_plain(flows, seed)?),
         show("leaves without a machine and choices", machineless_against_choices(flows, seed)?),
         show("names that change nothing", names_that_change_nothing(flows, seed)?),
-        show("single exchanges by each law", single_exchanges(&laws, each, seed)?),
-        show("chains of exchanges", chains_of_exchanges(&laws, flows, seed)?),
+        show("single exchanges by each law", single_exchanges(&laws, judged_alike, each, seed)?),
+        show("chains of exchanges", chains_of_exchanges(&laws, judged_alike, flows, seed)?),
+        show("lists after single exchanges", single_exchanges(&laws, listed_alike, each, seed)?),
+        show("lists after chains of exchanges", chains_of_exchanges(&laws, listed_alike, flows, seed)?),
     ]
     .concat())
 }

@@ -1,9 +1,10 @@
 //! The flow file's reader, and what it shares with all that is lent a names section.
 
 use crate::flowfile::{Entry, FlowFile};
-use crate::matching::same_entry;
+use crate::matching::{same_entry, Matching};
 use crate::refusals::{
-    node_count, node_table, record_count, record_list, refuse, Check, Refusal, MOST_NODES, MOST_RECORDS,
+    node_count, node_table, plain_lists, record_count, record_list, refuse, Check, Records, Refusal,
+    MOST_NODES, MOST_RECORDS,
 };
 use crate::term::{is_event, kind};
 
@@ -29,7 +30,7 @@ pub fn read(bytes: &[u8]) -> Result<FlowFile, Refusal> {
     let records = read_numbers(&mut cursor, 1, MOST_RECORDS, [10, 11])?;
     cursor.is_at_the_end()?;
     node_table(&nodes)?;
-    record_list(&nodes, &records)?;
+    record_list(&nodes, &records, Records::Whole)?;
     events_have_names(&nodes, &records, names.len())?;
     Ok(FlowFile { names, nodes, records })
 }
@@ -77,14 +78,32 @@ impl<'a> Cursor<'a> {
 
 /// A names section, nodes and records that are lent one by one: "the reader's own numbers and in its order", but "2 stands between 1 and
 /// 3; 1, 2, 3, 10 and 11 have place 0" (request One). The entries, if all is well.
-pub fn lent_lists(names: &[u8], nodes: &[u16], records: &[u16]) -> Result<Vec<Entry>, Refusal> {
+pub fn lent_lists(
+    names: &[u8],
+    nodes: &[u16],
+    records: &[u16],
+    which: Records,
+) -> Result<Vec<Entry>, Refusal> {
     let entries = names_section(names)?;
     node_count(nodes)?;
-    record_count(records)?;
+    record_count(records, which)?;
     node_table(nodes)?;
-    record_list(nodes, records)?;
+    record_list(nodes, records, which)?;
     events_have_names(nodes, records, entries.len())?;
     Ok(entries)
+}
+
+/// The same where names may be lent or not, as to a judge: the refusal, 14 left out, or who takes which record.
+pub fn lent_matching(
+    names: Option<&[u8]>,
+    nodes: &[u16],
+    records: &[u16],
+    which: Records,
+) -> Result<Matching, Refusal> {
+    match names {
+        None => plain_lists(nodes, records, which).map(|()| Matching::ByNumber),
+        Some(names) => lent_lists(names, nodes, records, which).map(Matching::ByName),
+    }
 }
 
 /// A names section and nothing else: 15 to 18, then 21 right after its last entry.

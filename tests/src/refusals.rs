@@ -1,5 +1,5 @@
-//! The refusals of the judge, 1 to 14, in the order of document 01. Those of flow files, 15 to 21, are in reader.rs;
-//! the reader, the writer and a judge that is lent names call the checks from here in between.
+//! The refusals of the judge, 1 to 14, in the order of document 01, and what is else where a beginning of a record list is lent. Those of
+//! flow files, 15 to 21, are in reader.rs; the reader, the writer and all that is lent names call the checks from here in between.
 
 use crate::term::{is_event, kind, sort_of, Closing, Sort};
 
@@ -24,16 +24,22 @@ pub fn work_wanted(nodes: &[u16], records: &[u16]) -> usize {
     2 * (nodes.len() / 3) * (records.len() + 1)
 }
 
-/// "Judging checks 1 to 3; then nodes from 0 up, each in the order 4 to 8; then 9 to 14."
-pub fn judge_checks(nodes: &[u16], records: &[u16], work_len: usize) -> Check {
-    node_count(nodes)?;
-    node_table(nodes)?;
-    record_count(records)?;
-    record_list(nodes, records)?;
-    work_length(nodes, records, work_len)
+/// What records are lent: a whole list, or a beginning of one, "possibly empty" (request Three).
+#[derive(Clone, Copy, PartialEq, Eq, Debug)]
+pub enum Records {
+    Whole,
+    Beginning,
 }
 
-/// 14 of a judge.
+/// "Judging checks 1 to 3; then nodes from 0 up, each in the order 4 to 8; then 9 to 14", here without 14.
+pub fn plain_lists(nodes: &[u16], records: &[u16], which: Records) -> Check {
+    node_count(nodes)?;
+    node_table(nodes)?;
+    record_count(records, which)?;
+    record_list(nodes, records, which)
+}
+
+/// 14 for the work bytes.
 pub fn work_length(nodes: &[u16], records: &[u16], work_len: usize) -> Check {
     if work_len < work_wanted(nodes, records) {
         return refuse(14, 0);
@@ -109,9 +115,9 @@ fn children_of(kind: u16, first: u16, second: u16) -> Option<(Vec<usize>, Sort)>
     }
 }
 
-/// 10, 11.
-pub fn record_count(records: &[u16]) -> Check {
-    if records.is_empty() {
+/// 10, 11; "10 isn't given" to a beginning.
+pub fn record_count(records: &[u16], which: Records) -> Check {
+    if records.is_empty() && which == Records::Whole {
         refuse(10, 0)
     } else if records.len() > MOST_RECORDS {
         refuse(11, 0)
@@ -121,7 +127,7 @@ pub fn record_count(records: &[u16]) -> Check {
 }
 
 /// 12, then 13. The nodes have passed 1 to 9.
-pub fn record_list(nodes: &[u16], records: &[u16]) -> Check {
+pub fn record_list(nodes: &[u16], records: &[u16], which: Records) -> Check {
     let neither = |r: &u16| !is_event(*r) && Closing::of_record(*r).is_none();
     if let Some(i) = records.iter().position(neither) {
         return refuse(12, i);
@@ -131,9 +137,13 @@ pub fn record_list(nodes: &[u16], records: &[u16]) -> Check {
         Sort::Compensable => 2,
     };
     let mut closings = records.iter().enumerate().filter(|(_, r)| !is_event(**r));
-    match closings.nth(needed - 1) {
-        Some((i, _)) if i + 1 == records.len() => Ok(()),
-        Some((i, _)) => refuse(13, i + 1),
-        None => refuse(13, records.len()),
+    match (which, closings.nth(needed - 1)) {
+        (Records::Whole, Some((i, _))) if i + 1 == records.len() => Ok(()),
+        (Records::Whole, Some((i, _))) => refuse(13, i + 1),
+        (Records::Whole, None) => refuse(13, records.len()),
+        // "a closing too many (any for a standard root, a second for a compensable one) is 13, at that closing": nothing follows the
+        // last one that the root needs
+        (Records::Beginning, Some((i, _))) => refuse(13, i),
+        (Records::Beginning, None) => Ok(()),
     }
 }

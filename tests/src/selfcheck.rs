@@ -1,7 +1,7 @@
-//! Checks of this implementation against itself: the search against explicit trace sets, the guided successors against the plain
-//! lists, the search that remembers against one that does not, leaves without a machine against choices, and the laws of demand 3;
-//! all of them with names lent and without. Each answers how many cases it saw, or a text that says what went wrong. The tests call
-//! them with small numbers, the command `selfcheck` with any.
+//! Checks of this implementation against itself: the search and the lists of what may come next against explicit trace sets and against
+//! each other, the guided successors against the plain lists, the search that remembers against one that does not, leaves without a
+//! machine against choices, and the laws of demand 3; all of them with names lent and without. Each answers how many cases it saw, or a
+//! text that says what went wrong. The tests call them with small numbers, the command `selfcheck` with any.
 
 use crate::cases::{naming, repeating};
 use crate::drawing::{self, Drawing};
@@ -9,11 +9,13 @@ use crate::flowfile::{section_of, Entry};
 use crate::judge::{Answer, Effort, Lent};
 use crate::laws::{Fresh, Law};
 use crate::matching::Matching;
+use crate::next::{Beginning, Next};
 use crate::random::{self, TASTES};
 use crate::refusals::MOST_NODES;
 use crate::rng::Rng;
-use crate::term::{kind, root, Sort, CLOSING_RECORDS};
-use crate::traces::{meaning, Meaning};
+use crate::term::{is_event, kind, root, sort_of, Sort, CLOSING_RECORDS, DONE};
+use crate::traces::{meaning, Meaning, Trace};
+use std::collections::BTreeSet;
 
 /// Enough for every search of the small flows here.
 const ALLOWANCE: u32 = 1_000_000;
@@ -48,6 +50,10 @@ impl Setting {
         Lent::enough(self.names.as_deref(), nodes, records, ALLOWANCE)
     }
 
+    fn beginning<'a>(&'a self, nodes: &'a [u16], records: &'a [u16]) -> Beginning<'a> {
+        Beginning::enough(self.names.as_deref(), nodes, records, ALLOWANCE)
+    }
+
     /// The flow, for a text that says what went wrong.
     fn show(&self, nodes: &[u16]) -> String {
         let flow = drawing::of_table(nodes).show();
@@ -67,6 +73,9 @@ pub struct Seen {
     pub flows: u64,
     pub accepted: u64,
     pub rejected: u64,
+    /// Lists of what may come next that have numbers, and those that have none.
+    pub listed: u64,
+    pub empty: u64,
     /// Flows or cases that were too large to decide.
     pub left_out: u64,
 }
@@ -76,6 +85,14 @@ impl Seen {
         match answer {
             Answer::Accepted { .. } => self.accepted += 1,
             Answer::Rejected { .. } => self.rejected += 1,
+            _ => self.left_out += 1,
+        }
+    }
+
+    fn count_list(&mut self, next: &Next) {
+        match next {
+            Next::Listed { numbers, .. } if numbers.is_empty() => self.empty += 1,
+            Next::Listed { .. } => self.listed += 1,
             _ => self.left_out += 1,
         }
     }
@@ -106,21 +123,50 @@ fn agrees_with_traces(
     Err(format!("{flow}, records {records:?}: {answer}, but traces {:?}", meaning.lists()))
 }
 
+/// "A number is listed exactly if some run follows the beginning and then that record": if some trace begins so.
+fn lists_as_traces(
+    setting: &Setting,
+    nodes: &[u16],
+    traces: &[Trace],
+    beginning: &[u16],
+) -> Result<Next, String> {
+    let next = setting.beginning(nodes, beginning).listed();
+    let after = traces.iter().filter_map(|trace| trace.strip_prefix(beginning)?.first().copied());
+    let expected: Vec<u16> = after.collect::<BTreeSet<u16>>().into_iter().collect();
+    let right = match &next {
+        Next::Listed { numbers, .. } => *numbers == expected,
+        // Traces say nothing of how long the search is.
+        Next::Undecided { .. } => true,
+        Next::Refused(_) => false,
+    };
+    if right {
+        return Ok(next);
+    }
+    Err(format!("{}, beginning {beginning:?}: {next}, but traces {traces:?}", setting.show(nodes)))
+}
+
+/// A flow of one to three events whose traces can be written down, with its setting, its meaning and the number of its events; None if
+/// they are too many.
+fn flow_with_traces(rng: &mut Rng) -> Option<(Vec<u16>, Setting, Meaning, usize)> {
+    let (taste, sort) = (*rng.pick(&TASTES), random::sort(rng));
+    let events = rng.between(1, 3);
+    let room = if rng.once_in(10) { rng.between(14, 24) } else { rng.between(1, 13) };
+    let flow = match rng.below(4) {
+        0 => random::undone_drawing(rng, taste, room, events),
+        _ => random::drawing(rng, taste, sort, room, events),
+    };
+    let nodes = flow.table_in_any_order(rng);
+    let setting = Setting::any(rng, events);
+    let meaning = meaning(&nodes, &setting.matching, PATIENCE)?;
+    Some((nodes, setting, meaning, events))
+}
+
 /// Random flows: records of runs, of traces, changed ones and random ones.
 pub fn random_flows_against_traces(flows: u64, seed: u64) -> Result<Seen, String> {
     let mut rng = Rng::new(seed);
     let mut seen = Seen::default();
     while seen.flows < flows {
-        let (taste, sort) = (*rng.pick(&TASTES), random::sort(&mut rng));
-        let events = rng.between(1, 3);
-        let room = if rng.once_in(10) { rng.between(14, 24) } else { rng.between(1, 13) };
-        let flow = match rng.below(4) {
-            0 => random::undone_drawing(&mut rng, taste, room, events),
-            _ => random::drawing(&mut rng, taste, sort, room, events),
-        };
-        let nodes = flow.table_in_any_order(&mut rng);
-        let setting = Setting::any(&mut rng, events);
-        let Some(meaning) = meaning(&nodes, &setting.matching, PATIENCE) else {
+        let Some((nodes, setting, meaning, events)) = flow_with_traces(&mut rng) else {
             seen.left_out += 1;
             continue;
         };
@@ -134,6 +180,32 @@ pub fn random_flows_against_traces(flows: u64, seed: u64) -> Result<Seen, String
                 _ => random::records_for(&mut rng, &root(&nodes), &setting.matching, events),
             };
             seen.count(agrees_with_traces(&setting, &nodes, &meaning, &records)?);
+        }
+    }
+    Ok(seen)
+}
+
+/// The same for what may come next, after every beginning of such records.
+pub fn random_lists_against_traces(flows: u64, seed: u64) -> Result<Seen, String> {
+    let mut rng = Rng::new(seed);
+    let mut seen = Seen::default();
+    while seen.flows < flows {
+        let Some((nodes, setting, meaning, events)) = flow_with_traces(&mut rng) else {
+            seen.left_out += 1;
+            continue;
+        };
+        seen.flows += 1;
+        let traces = meaning.lists();
+        for _ in 0..3 {
+            let trace = rng.pick(&traces).clone();
+            let records = match rng.below(3) {
+                0 => trace,
+                1 => random::changed(&mut rng, &trace, events),
+                _ => random::records_for(&mut rng, &root(&nodes), &setting.matching, events),
+            };
+            for length in 0..records.len() {
+                seen.count_list(&lists_as_traces(&setting, &nodes, &traces, &records[..length])?);
+            }
         }
     }
     Ok(seen)
@@ -161,15 +233,56 @@ pub fn every_small_flow_against_traces(
     Ok(seen)
 }
 
-fn every_record_list(sort: Sort, most_events: usize) -> Vec<Vec<u16>> {
+/// The same for what may come next, after every beginning of at most so many events before each closing.
+pub fn every_small_list_against_traces(
+    setting: &Setting,
+    most_nodes: usize,
+    most_events: usize,
+) -> Result<Seen, String> {
+    let mut seen = Seen::default();
+    for sort in [Sort::Standard, Sort::Compensable] {
+        let beginnings = every_beginning(sort, most_events);
+        for flow in (1..=most_nodes).flat_map(|size| every_flow(sort, size)) {
+            let nodes = flow.table();
+            let meaning = meaning(&nodes, &setting.matching, u64::MAX).expect("patience without end");
+            let traces = meaning.lists();
+            seen.flows += 1;
+            for beginning in &beginnings {
+                seen.count_list(&lists_as_traces(setting, &nodes, &traces, beginning)?);
+            }
+        }
+    }
+    Ok(seen)
+}
+
+fn every_event_list(most_events: usize) -> Vec<Vec<u16>> {
     let mut events: Vec<Vec<u16>> = vec![vec![]];
     let mut longest = events.clone();
     for _ in 0..most_events {
         longest = longest.iter().flat_map(|l| [1, 2].map(|e| [&l[..], &[e]].concat())).collect();
         events.extend(longest.clone());
     }
-    let closed: Vec<Vec<u16>> =
-        events.iter().flat_map(|l| CLOSING_RECORDS.map(|c| [&l[..], &[c]].concat())).collect();
+    events
+}
+
+fn closed(lists: &[Vec<u16>]) -> Vec<Vec<u16>> {
+    lists.iter().flat_map(|l| CLOSING_RECORDS.map(|c| [&l[..], &[c]].concat())).collect()
+}
+
+fn every_beginning(sort: Sort, most_events: usize) -> Vec<Vec<u16>> {
+    let events = every_event_list(most_events);
+    match sort {
+        Sort::Standard => events,
+        Sort::Compensable => {
+            let after_closing =
+                |f: &Vec<u16>| events.iter().map(|c| [&f[..], c].concat()).collect::<Vec<_>>();
+            events.iter().cloned().chain(closed(&events).iter().flat_map(after_closing)).collect()
+        }
+    }
+}
+
+fn every_record_list(sort: Sort, most_events: usize) -> Vec<Vec<u16>> {
+    let closed = closed(&every_event_list(most_events));
     match sort {
         Sort::Standard => closed,
         Sort::Compensable => {
@@ -258,6 +371,148 @@ pub fn guided_against_lists(flows: u64, seed: u64) -> Result<Seen, String> {
     Ok(seen)
 }
 
+/// What is listed level by level is what plain recursion over the plain lists finds, count and all, and the allowance is exact.
+pub fn lists_by_levels_against_recursion(flows: u64, seed: u64) -> Result<Seen, String> {
+    let mut rng = Rng::new(seed);
+    let mut seen = Seen::default();
+    while seen.flows < flows {
+        let (taste, sort) = (*rng.pick(&TASTES), random::sort(&mut rng));
+        let (events, room) = (rng.between(1, 3), rng.between(1, 18));
+        let flow = match rng.below(4) {
+            0 => random::undone_drawing(&mut rng, taste, room, events),
+            _ => random::drawing(&mut rng, taste, sort, room, events),
+        };
+        let nodes = flow.table_in_any_order(&mut rng);
+        let setting = Setting::any(&mut rng, events);
+        seen.flows += 1;
+        for _ in 0..4 {
+            let records = random::records_for(&mut rng, &root(&nodes), &setting.matching, events);
+            let records = &records[..rng.below(records.len())];
+            let beginning = setting.beginning(&nodes, records);
+            let Some(next) = beginning.listed_within(1_000) else {
+                seen.left_out += 1;
+                continue;
+            };
+            seen.count_list(&next);
+            let wrong = |what: &str, other: Next| {
+                Err(format!("{}, beginning {records:?}: {next}, but {what} {other}", setting.show(&nodes)))
+            };
+            let recursive = beginning.listed_by_lists();
+            if recursive != next {
+                return wrong("by recursion", recursive);
+            }
+            let Next::Listed { count, .. } = next else {
+                return wrong("it should be decided:", next.clone());
+            };
+            let just = Beginning { allowance: count, ..beginning }.listed();
+            if just != next {
+                return wrong("allowed just its count", just);
+            }
+            let short = Beginning { allowance: count - 1, ..beginning }.listed();
+            if short != (Next::Undecided { allowance: count - 1 }) {
+                return wrong("allowed one less", short);
+            }
+        }
+    }
+    Ok(seen)
+}
+
+/// What may come next against the judge, which has a search of its own. Of records that are rejected, the beginning that some run
+/// follows has the judge's count and does not list the record after it, and each shorter one lists it, as all do of records that are
+/// accepted. And a number is listed exactly if the judge follows a record more where it stands behind the beginning.
+pub fn lists_against_judge(flows: u64, seed: u64) -> Result<Seen, String> {
+    let mut rng = Rng::new(seed);
+    let mut seen = Seen::default();
+    while seen.flows < flows {
+        seen.flows += 1;
+        if rng.once_in(4) {
+            for case in repeating::cases(&mut rng) {
+                let lent = case.lent_to_judge().expect("a call of the judge");
+                agrees_with_judge(&mut rng, lent, &mut seen)?;
+            }
+            continue;
+        }
+        let (taste, sort) = (*rng.pick(&TASTES), random::sort(&mut rng));
+        let (events, room) = (rng.between(1, 3), rng.between(1, 20));
+        let flow = match rng.below(4) {
+            0 => random::undone_drawing(&mut rng, taste, room, events),
+            _ => random::drawing(&mut rng, taste, sort, room, events),
+        };
+        let nodes = flow.table_in_any_order(&mut rng);
+        let setting = Setting::any(&mut rng, events);
+        for _ in 0..3 {
+            let records = random::records_for(&mut rng, &root(&nodes), &setting.matching, events);
+            agrees_with_judge(&mut rng, setting.lent(&nodes, &records), &mut seen)?;
+        }
+    }
+    Ok(seen)
+}
+
+fn agrees_with_judge(rng: &mut Rng, lent: Lent, seen: &mut Seen) -> Result<(), String> {
+    const PATIENCE: u32 = 50_000;
+    let Lent { names, nodes, records, .. } = lent;
+    let Some(answer) = Lent::enough(names, nodes, records, u32::MAX).judged_within(PATIENCE) else {
+        seen.left_out += 1;
+        return Ok(());
+    };
+    seen.count(answer);
+    let wrong = |length: usize, what: String| {
+        let flow = drawing::of_table(nodes).show();
+        Err(format!("{flow}, records {records:?}: {answer}, but after {length} of them {what}"))
+    };
+    let (Answer::Accepted { place, .. } | Answer::Rejected { place, .. }) = answer else {
+        return wrong(0, "it should be decided".into());
+    };
+    for length in 0..=place.min(records.len() - 1) {
+        let next = Beginning::enough(names, nodes, &records[..length], u32::MAX).listed_within(PATIENCE);
+        let Some(Next::Listed { numbers, count }) = next else {
+            // A search that is accepted early may go through much less than there is.
+            match answer {
+                Answer::Accepted { .. } => break,
+                _ => return wrong(length, format!("{next:?}")),
+            }
+        };
+        seen.listed += 1;
+        let counts_agree = match answer {
+            Answer::Rejected { count: judged, .. } if length == place => judged == count,
+            // At most all states up to the last record, and the one with nothing left.
+            Answer::Accepted { count: judged, .. } if length + 1 == place => judged <= count + 1,
+            _ => true,
+        };
+        if numbers.contains(&records[length]) != (length < place) || !counts_agree {
+            return wrong(length, format!("{numbers:?} are listed, count {count}"));
+        }
+    }
+    // Any beginning, and one number behind it after the other.
+    let length = rng.below(records.len());
+    let next = Beginning::enough(names, nodes, &records[..length], u32::MAX).listed_within(PATIENCE);
+    let Some(Next::Listed { numbers, .. }) = next else { return Ok(()) };
+    for number in (1..=4).chain(CLOSING_RECORDS) {
+        let more = closed_as_needed(nodes, &[&records[..length], &[number]].concat());
+        let place = match Lent::enough(names, nodes, &more, u32::MAX).judged_within(PATIENCE) {
+            Some(Answer::Accepted { place, .. } | Answer::Rejected { place, .. }) => place,
+            // An event without a name.
+            Some(Answer::Refused(refusal)) if refusal.number == 20 => 0,
+            None => continue,
+            other => return wrong(length, format!("{more:?} are judged {other:?}")),
+        };
+        if numbers.contains(&number) != (place > length) {
+            return wrong(length, format!("{numbers:?} are listed, and {number} is followed up to {place}"));
+        }
+    }
+    Ok(())
+}
+
+/// The records and as many closings behind them as the root still needs.
+pub fn closed_as_needed(nodes: &[u16], records: &[u16]) -> Vec<u16> {
+    let needed: usize = match sort_of(nodes[nodes.len() - 3]) {
+        Sort::Standard => 1,
+        Sort::Compensable => 2,
+    };
+    let there = records.iter().filter(|record| !is_event(**record)).count();
+    [records, &vec![DONE; needed.saturating_sub(there)]].concat()
+}
+
 /// The search that remembers answers as one that goes through equal states again, whatever it is allowed.
 pub fn remembering_against_plain(flows: u64, seed: u64) -> Result<Seen, String> {
     let mut rng = Rng::new(seed);
@@ -286,7 +541,7 @@ pub fn remembering_against_plain(flows: u64, seed: u64) -> Result<Seen, String> 
 }
 
 /// A leaf without a machine is read "as the choice of all those entries, counted as one step": a flow with names is judged as the flow
-/// whose leaves are such choices is judged by number, count and all, and has the same traces.
+/// whose leaves are such choices is judged by number, count and all, lists the same, and has the same traces.
 pub fn machineless_against_choices(flows: u64, seed: u64) -> Result<Seen, String> {
     let mut rng = Rng::new(seed);
     let mut seen = Seen::default();
@@ -322,6 +577,13 @@ pub fn machineless_against_choices(flows: u64, seed: u64) -> Result<Seen, String
                 return wrong(format!("records {records:?}: {answer}, but as choices {of_choices}"));
             }
             seen.count(answer);
+            let some = &records[..rng.below(records.len())];
+            let next = setting.beginning(&nodes, some).listed();
+            let of_choices = Beginning::enough(None, &choices, some, ALLOWANCE).listed();
+            if next != of_choices {
+                return wrong(format!("beginning {some:?}: {next}, but as choices {of_choices}"));
+            }
+            seen.count_list(&next);
         }
     }
     Ok(seen)
@@ -364,13 +626,24 @@ pub fn names_that_change_nothing(flows: u64, seed: u64) -> Result<Seen, String> 
                 return Err(format!("{}, records {records:?}: {named}, not {answer}", setting.show(&nodes)));
             }
             seen.count(answer);
+            let some = &records[..rng.below(records.len())];
+            let next = Beginning::enough(None, &nodes, some, ALLOWANCE).listed();
+            let named = setting.beginning(&nodes, some).listed();
+            if named != next {
+                return Err(format!("{}, beginning {some:?}: {named}, not {next}", setting.show(&nodes)));
+            }
+            seen.count_list(&next);
         }
     }
     Ok(seen)
 }
 
+/// What two flows that are equal by the laws have in common, looked for in a setting and with records of its own choosing; the number is
+/// that of their events.
+pub type Alike = fn(&mut Rng, &Drawing, &Drawing, usize, &mut Seen) -> Result<(), String>;
+
 /// Two flows that are equal by the laws get the same verdict and the same place, whatever the records.
-fn judged_alike(
+pub fn judged_alike(
     rng: &mut Rng,
     x: &Drawing,
     y: &Drawing,
@@ -404,8 +677,42 @@ fn judged_alike(
     Ok(())
 }
 
+/// The same may come next in both, after any beginning.
+pub fn listed_alike(
+    rng: &mut Rng,
+    x: &Drawing,
+    y: &Drawing,
+    events: usize,
+    seen: &mut Seen,
+) -> Result<(), String> {
+    let tables = [x, y].map(|flow| flow.table_in_any_order(rng));
+    let roots = [&tables[0], &tables[1]].map(|nodes| root(nodes));
+    let setting = Setting::any(rng, events);
+    for _ in 0..4 {
+        let either = rng.below(2);
+        let records = random::records_for(rng, &roots[either], &setting.matching, events);
+        let records = &records[..rng.below(records.len())];
+        let listed = |nodes: &[u16]| match setting.beginning(nodes, records).listed_within(20_000) {
+            Some(Next::Listed { numbers, .. }) => Some(numbers),
+            _ => None,
+        };
+        match [&tables[0], &tables[1]].map(|nodes| listed(nodes)) {
+            [Some(numbers), Some(others)] if numbers == others => {
+                seen.count_list(&Next::Listed { numbers, count: 0 })
+            }
+            [Some(numbers), Some(others)] => {
+                let shown = format!("{} and {}, beginning {records:?}", x.show(), setting.show(&tables[1]));
+                return Err(format!("{shown}: {numbers:?} and {others:?}"));
+            }
+            _ => seen.left_out += 1,
+        }
+    }
+    seen.flows += 1;
+    Ok(())
+}
+
 /// Each law by itself, its sides put into random surroundings, `pairs` times.
-pub fn single_exchanges(laws: &[Law], pairs: u64, seed: u64) -> Result<Seen, String> {
+pub fn single_exchanges(laws: &[Law], alike: Alike, pairs: u64, seed: u64) -> Result<Seen, String> {
     let mut rng = Rng::new(seed);
     let mut seen = Seen::default();
     for law in laws {
@@ -430,14 +737,14 @@ pub fn single_exchanges(laws: &[Law], pairs: u64, seed: u64) -> Result<Seen, Str
                 continue;
             }
             done += 1;
-            judged_alike(&mut rng, &x, &y, events, &mut seen).map_err(|e| format!("{}: {e}", law.name))?;
+            alike(&mut rng, &x, &y, events, &mut seen).map_err(|e| format!("{}: {e}", law.name))?;
         }
     }
     Ok(seen)
 }
 
 /// Chains of exchanges by any laws, in both directions, at any depth. "Forms in between may pass the limits."
-pub fn chains_of_exchanges(laws: &[Law], chains: u64, seed: u64) -> Result<Seen, String> {
+pub fn chains_of_exchanges(laws: &[Law], alike: Alike, chains: u64, seed: u64) -> Result<Seen, String> {
     let mut rng = Rng::new(seed);
     let mut seen = Seen::default();
     while seen.flows < chains {
@@ -462,8 +769,7 @@ pub fn chains_of_exchanges(laws: &[Law], chains: u64, seed: u64) -> Result<Seen,
             seen.left_out += 1;
             continue;
         }
-        judged_alike(&mut rng, &first, &flow, events, &mut seen)
-            .map_err(|e| format!("after {used:?}: {e}"))?;
+        alike(&mut rng, &first, &flow, events, &mut seen).map_err(|e| format!("after {used:?}: {e}"))?;
     }
     Ok(seen)
 }

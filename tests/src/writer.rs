@@ -1,11 +1,11 @@
 //! The flow file's writer, request One of document 02.
 
 use crate::reader::lent_lists;
-use crate::refusals::{refuse, Refusal};
+use crate::refusals::{refuse, Records, Refusal};
 
 /// What is written at the beginning of so many lent bytes. `names` is a names section, its count included. 14 comes last.
 pub fn write(names: &[u8], nodes: &[u16], records: &[u16], room: usize) -> Result<Vec<u8>, Refusal> {
-    lent_lists(names, nodes, records)?;
+    lent_lists(names, nodes, records, Records::Whole)?;
     let file = file_of(names, nodes, records);
     if room < file.len() {
         return refuse(14, 0);

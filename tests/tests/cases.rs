@@ -1,16 +1,17 @@
 //! The stream of cases covers what it is to cover, is the same for the same seed, and gives the gate's stored run.
 
 use oracle::by_hand;
-use oracle::cases::calling::{Call, JUDGE, WRITE};
+use oracle::cases::calling::{Call, JUDGE, NEXT, WRITE};
 use oracle::cases::malformed::malformed;
 use oracle::cases::{
     Case, Made, Reply, Run, Stream, Totals, MOST_NUMBERS, MOST_ROOM, MOST_WORK, STORED_CASES, STORED_SEED,
 };
 use oracle::judge::{with_deep_stack, Answer, Lent};
+use oracle::next::{Beginning, Next, LIST_ROOM};
 use oracle::program::PROGRAM_ALLOWS;
 use oracle::reader::{read, NODE_ROOM, RECORD_ROOM};
-use oracle::refusals::work_wanted;
-use oracle::term::{sort_of, Sort, DONE};
+use oracle::refusals::{work_wanted, MOST_RECORDS};
+use oracle::term::{is_event, kind, sort_of, Sort, CLOSING_RECORDS, DONE};
 use oracle::writer::file_of;
 use std::path::PathBuf;
 use std::sync::OnceLock;
@@ -52,17 +53,40 @@ fn every_answer_comes_often() {
             assert!(given >= 10, "refusal {number} of the {asked}\n{}", totals.show());
         }
     }
+    let others = ["program", "judge", "judge with names", "reader", "writer"];
     for word in ["accepted", "rejected", "undecided", "refused"] {
-        assert!(totals.of_word(word) >= 300, "{word}\n{}", totals.show());
+        let given: u64 = others.iter().map(|asked| totals.of_word(asked, word)).sum();
+        assert!(given >= 300, "{word}\n{}", totals.show());
     }
-    for word in ["read", "written"] {
-        assert!(totals.of_word(word) >= 100, "{word}\n{}", totals.show());
-    }
-    assert!(totals.states > 2_000_000, "{}", totals.show());
+    assert!(totals.of_word("reader", "read") >= 100, "{}", totals.show());
+    assert!(totals.of_word("writer", "written") >= 100, "{}", totals.show());
+    let states: u64 = others.iter().map(|asked| totals.states(asked)).sum();
+    assert!(states > 2_000_000, "{}", totals.show());
 }
 
-/// Every refusal of the reader, which has no 2, of the writer and of the judge with names is among the fixed cases, so that it is in
-/// every stream.
+/// Whether what may come next is ever refused so: "10 isn't given here", and those about names only where there are some.
+fn is_refusal_of_next(asked: &str, number: u32) -> bool {
+    number != 10 && (number <= 14 || asked == "next with names")
+}
+
+#[test]
+fn every_answer_of_next_comes_often() {
+    let totals = totals(cases());
+    for asked in ["next", "next with names"] {
+        for number in 1..=21 {
+            let given = totals.of_refusal(asked, number);
+            let enough = if is_refusal_of_next(asked, number) { given >= 10 } else { given == 0 };
+            assert!(enough, "refusal {number} of {asked}\n{}", totals.show());
+        }
+        for (word, least) in [("listed", 400), ("undecided", 100), ("refused", 400)] {
+            assert!(totals.of_word(asked, word) >= least, "{word} of {asked}\n{}", totals.show());
+        }
+        assert!(totals.states(asked) > 200_000, "states of {asked}\n{}", totals.show());
+    }
+}
+
+/// Every refusal of the reader, which has no 2, of the writer, of the judge with names and of what may come next is among the fixed cases,
+/// so that it is in every stream.
 #[test]
 fn no_refusal_with_names_is_left_to_chance() {
     let fixed = oracle::cases::fixed::cases().len();
@@ -71,6 +95,10 @@ fn no_refusal_with_names_is_left_to_chance() {
         assert!(totals.of_refusal("writer", number) > 0, "{}", totals.show());
         assert!(totals.of_refusal("judge with names", number) > 0, "{}", totals.show());
         assert!(totals.of_refusal("reader", number) > 0 || number == 2, "{}", totals.show());
+        for asked in ["next", "next with names"].into_iter().filter(|asked| is_refusal_of_next(asked, number))
+        {
+            assert!(totals.of_refusal(asked, number) > 0, "{number} of {asked}\n{}", totals.show());
+        }
     }
 }
 
@@ -197,6 +225,113 @@ fn work_lengths_meet_the_one_wanted_from_both_sides() {
     assert!(seen.iter().flatten().all(|n| *n >= 50), "{seen:?}");
 }
 
+// ---- what may come next ----
+
+/// Calls that are not refused, each with its answer, the fixed ones left out if so wanted.
+fn answers_of_next(fixed: bool) -> impl Iterator<Item = (Beginning<'static>, &'static Next)> {
+    let first = if fixed { 0 } else { oracle::cases::fixed::cases().len() };
+    cases()[first..].iter().filter_map(|made| match &made.reply {
+        Reply::Next(Next::Refused(_)) => None,
+        Reply::Next(next) => Some((made.case.beginning().expect("a call of next"), next)),
+        _ => None,
+    })
+}
+
+/// Lists of none, of one, of some, of ten or more and of all numbers; each closing; and events that no leaf has, which follow by a name.
+#[test]
+fn lists_of_every_length() {
+    let (mut lengths, mut closings, mut by_name) = ([[0; 4]; 2], [[0; 3]; 2], 0);
+    for (beginning, next) in answers_of_next(false) {
+        let Next::Listed { numbers, .. } = next else { continue };
+        let named = beginning.names.is_some() as usize;
+        lengths[named][[0, 1, 2, 2, 2, 3][numbers.len().min(5)]] += 1;
+        (0..3).for_each(|c| closings[named][c] += numbers.contains(&CLOSING_RECORDS[c]) as u32);
+        let leaves: Vec<u16> =
+            beginning.nodes.chunks(3).filter(|n| n[0] == kind::EVENT).map(|n| n[1]).collect();
+        by_name += numbers.iter().any(|n| is_event(*n) && !leaves.contains(n)) as u32;
+    }
+    assert!(lengths.iter().all(|of| of[..3].iter().all(|n| *n >= 15) && of[3] >= 3), "{lengths:?}");
+    assert!(closings.iter().flatten().all(|n| *n >= 8), "{closings:?}");
+    assert!(by_name >= 30, "{by_name}");
+    let longest = answers_of_next(true)
+        .filter(|(_, next)| matches!(next, Next::Listed { numbers, .. } if numbers.len() == LIST_ROOM));
+    assert!(longest.count() >= 10);
+}
+
+/// For both sorts of root, with names and without: empty beginnings, beginnings that a run follows and others, after a first closing
+/// too; and just as many records as there may be.
+#[test]
+fn beginnings_of_every_sort() {
+    let (mut seen, mut longest) = ([[[0; 3]; 2]; 2], [0; 2]);
+    let mut closed = [[0; 2]; 2];
+    for (beginning, next) in answers_of_next(false) {
+        let Next::Listed { numbers, .. } = next else { continue };
+        let root = (sort_of(beginning.nodes[beginning.nodes.len() - 3]) == Sort::Compensable) as usize;
+        let (named, followed) = (beginning.names.is_some() as usize, !numbers.is_empty());
+        let sort = if beginning.records.is_empty() { 0 } else { 1 + followed as usize };
+        seen[named][root][sort] += 1;
+        closed[named][followed as usize] += beginning.records.iter().any(|r| !is_event(*r)) as u32;
+    }
+    for (beginning, _) in answers_of_next(true) {
+        longest[beginning.names.is_some() as usize] += (beginning.records.len() == MOST_RECORDS) as u32;
+    }
+    assert!(seen.iter().flatten().flatten().all(|n| *n >= 8), "{seen:?}");
+    assert!(closed.iter().flatten().all(|n| *n >= 10), "{closed:?}");
+    assert!(longest.iter().all(|n| *n >= 5), "{longest:?}");
+}
+
+/// For both sorts of root, with names and without: allowed one state less than the count, just the count, none at all.
+#[test]
+fn allowances_of_next_meet_the_count_from_both_sides() {
+    let mut seen = [[[0; 3]; 2]; 2];
+    for (beginning, next) in answers_of_next(true) {
+        let root = (sort_of(beginning.nodes[beginning.nodes.len() - 3]) == Sort::Compensable) as usize;
+        let seen = &mut seen[beginning.names.is_some() as usize][root];
+        match next {
+            Next::Listed { count, .. } => seen[1] += (*count == beginning.allowance) as u32,
+            _ if beginning.allowance == 0 => seen[2] += 1,
+            _ => {
+                let one_more = Beginning { allowance: beginning.allowance.saturating_add(1), ..beginning };
+                let listed = with_deep_stack(move || one_more.listed());
+                seen[0] += matches!(listed, Next::Listed { .. }) as u32;
+            }
+        }
+    }
+    assert!(seen.iter().flatten().flatten().all(|n| *n >= 8), "{seen:?}");
+}
+
+/// Work bytes and numbers of the list: one less than wanted, just as many, one more, with names and without.
+#[test]
+fn what_is_lent_to_next_meets_what_is_wanted_from_both_sides() {
+    let (mut work, mut room) = ([[0; 3]; 2], [[0; 3]; 2]);
+    for made in cases() {
+        let Some(beginning) = made.case.beginning() else { continue };
+        if made.reply.refusal().is_some_and(|refusal| refusal.number != 14) {
+            continue;
+        }
+        let named = beginning.names.is_some() as usize;
+        let wanted = work_wanted(beginning.nodes, beginning.records);
+        (0..3).for_each(|i| work[named][i] += (beginning.work_len + 1 == wanted + i) as u32);
+        (0..3).for_each(|i| room[named][i] += (beginning.list_room + 1 == LIST_ROOM + i) as u32);
+    }
+    assert!(work.iter().chain(&room).flatten().all(|n| *n >= 20), "{work:?} {room:?}");
+}
+
+/// Searches of all runs that enter many states of which few differ, with names and without.
+#[test]
+fn equal_states_come_often_in_next() {
+    let mut equal = [0; 2];
+    for (beginning, _) in answers_of_next(true) {
+        if let Some(effort) = beginning.effort_within(usize::MAX) {
+            let many = effort.entered as usize > 10 * effort.different;
+            equal[beginning.names.is_some() as usize] += many as u32;
+        }
+    }
+    assert!(equal.iter().all(|n| *n >= 15), "{equal:?}");
+}
+
+// ---- what it looks like ----
+
 #[test]
 fn every_case_is_one_for_replay() {
     for made in cases() {
@@ -212,6 +347,10 @@ fn every_case_is_one_for_replay() {
                 assert!(call.names.len() <= u16::MAX as usize && call.sets.is_empty());
                 match call.function {
                     JUDGE => assert!(call.edition == 1 && call.work_len as usize <= MOST_WORK),
+                    NEXT => {
+                        assert!(call.edition == 1 && call.work_len as usize <= MOST_WORK);
+                        assert!(call.room as usize <= MOST_ROOM);
+                    }
                     WRITE => assert!(call.names_lent == 1 && call.room as usize <= MOST_ROOM),
                     other => unreachable!("function {other}"),
                 }
@@ -297,4 +436,26 @@ fn judgings_look_as_agreed() {
     assert_eq!(plain.line(&plain.reply(9).unwrap()), "rejected 0 0 1 clean");
     let short = Case::Call(Call { work_len: 5, ..call });
     assert_eq!(short.line(&short.reply(9).unwrap()), "refused 14 0 0 clean");
+}
+
+/// The same for what may come next.
+#[test]
+fn lists_look_as_agreed() {
+    let names = vec![2, 0, 1, b'p', 0, 1, b'p', 1, b'1'];
+    let call = Call::next(Some(names.clone()), vec![1, 1, 0], vec![]);
+    let head = [b'C', 1, 1, 1, 64, 66, 15, 0, 2, 0, 0, 0, 3, 1, 0, 0, 9, 0, 3, 0, 0, 0, 0, 0];
+    let next = Case::Call(call.clone());
+    assert_eq!(next.bytes(), [&head[..], &names, &[1, 0, 1, 0, 0, 0]].concat());
+    assert_eq!(next.line(&next.reply(9).unwrap()), "listed 2 1 1 2 clean");
+    let line = |call: Call| {
+        let case = Case::Call(call);
+        case.line(&case.reply(9).unwrap())
+    };
+    let plain = call.clone().nameless();
+    assert_eq!(Case::Call(plain.clone()).bytes()[..4], [b'C', 1, 1, 0]);
+    assert_eq!(line(plain), "listed 1 1 1 clean");
+    assert_eq!(line(Call { allowance: 0, ..call.clone() }), "undecided 0 0 clean");
+    assert_eq!(line(Call { room: 258, ..call.clone() }), "refused 14 0 clean");
+    assert_eq!(line(Call { records: vec![2, 2], work_len: 6, ..call.clone() }), "listed 0 2 clean");
+    assert_eq!(line(Call { records: vec![2, DONE], ..call }), "refused 13 1 clean");
 }

@@ -1,7 +1,8 @@
 //! The flow files that are measured: what the generator writes, and the states that they are about.
 
 use oracle::judge::{with_deep_stack, Effort, Lent};
-use oracle::measured::files;
+use oracle::measured::{batches, files};
+use oracle::next::{Beginning, Next};
 use oracle::reader::read;
 use std::path::PathBuf;
 
@@ -35,6 +36,37 @@ fn states_and_how_many_differ() {
             let names = file.names_section();
             let effort = Lent::enough(Some(&names), &file.nodes, &file.records, u32::MAX).effort();
             assert_eq!(effort, Effort { entered, different }, "{name}");
+        }
+    });
+}
+
+/// A panel's calls after each record of a batch, all together: the states that they enter, how many of them differ, how many calls list
+/// anything, and how many numbers.
+#[test]
+fn batches_of_a_panel() {
+    let figures = [
+        ("panel-route", false, [7_696, 7_696, 32, 32]),
+        ("panel-lines", false, [41_250_024_751, 17_111, 31, 49]),
+        ("panel-undone", false, [41_250_024_751, 17_111, 31, 47]),
+        ("panel-machines", true, [41_250_024_751, 17_111, 31, 185]),
+    ];
+    assert!(batches().iter().map(|(name, _)| *name).eq(figures.map(|(name, ..)| name)));
+    with_deep_stack(move || {
+        for (name, named, figures) in figures {
+            let file = read(&std::fs::read(folder().join(format!("{name}.flow"))).unwrap()).unwrap();
+            let section = file.names_section();
+            let mut seen = [0; 4];
+            for length in 0..file.records.len() {
+                let names = Some(&section[..]).filter(|_| named);
+                let beginning = Beginning::enough(names, &file.nodes, &file.records[..length], u32::MAX);
+                let Next::Listed { numbers, .. } = beginning.listed() else { panic!("{name} {length}") };
+                let Effort { entered, different } = beginning.effort_within(usize::MAX).unwrap();
+                seen[0] += entered as usize;
+                seen[1] += different;
+                seen[2] += !numbers.is_empty() as usize;
+                seen[3] += numbers.len();
+            }
+            assert_eq!(seen, figures, "{name}");
         }
     });
 }

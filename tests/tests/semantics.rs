@@ -1,5 +1,5 @@
-//! The search against the published trace semantics, leaves without a machine against choices, and the laws of demand 3. What is drawn
-//! at random is judged with names and without.
+//! The search and the lists of what may come next against the published trace semantics and against each other, leaves without a machine
+//! against choices, and the laws of demand 3. What is drawn at random is judged with names and without.
 
 use oracle::flowfile::entry;
 use oracle::judge::with_deep_stack;
@@ -21,15 +21,50 @@ fn every_small_flow_with_names_means_its_traces() {
 }
 
 #[test]
+fn every_small_flow_lists_what_its_traces_go_on_with() {
+    let seen = every_small_list_against_traces(&Setting::plain(), 5, 2).unwrap();
+    assert!(seen.flows > 6_000 && seen.listed > 12_000 && seen.empty > 100_000, "{seen:?}");
+    assert_eq!(seen.left_out, 0);
+}
+
+#[test]
+fn every_small_flow_with_names_lists_what_its_traces_go_on_with() {
+    let names = vec![entry("press", ""), entry("press", "P1")];
+    let seen = every_small_list_against_traces(&Setting::named(names), 5, 2).unwrap();
+    assert!(seen.flows > 6_000 && seen.listed > 12_000 && seen.empty > 100_000, "{seen:?}");
+    assert_eq!(seen.left_out, 0);
+}
+
+#[test]
+fn random_flows_list_what_their_traces_go_on_with() {
+    let seen = random_lists_against_traces(8_000, 9).unwrap();
+    assert!(seen.listed > 40_000 && seen.empty > 10_000, "{seen:?}");
+}
+
+#[test]
+fn lists_by_levels_are_those_by_recursion() {
+    let seen = lists_by_levels_against_recursion(4_000, 10).unwrap();
+    assert!(seen.listed > 5_000 && seen.empty > 2_000, "{seen:?}");
+}
+
+#[test]
+fn lists_agree_with_the_judge() {
+    let seen = with_deep_stack(|| lists_against_judge(3_000, 11)).unwrap();
+    assert!(seen.accepted > 2_000 && seen.rejected > 2_000 && seen.listed > 10_000, "{seen:?}");
+}
+
+#[test]
 fn a_leaf_without_a_machine_is_a_choice() {
     let seen = machineless_against_choices(8_000, 7).unwrap();
     assert!(seen.accepted > 10_000 && seen.rejected > 10_000, "{seen:?}");
+    assert!(seen.listed > 10_000 && seen.empty > 2_000, "{seen:?}");
 }
 
 #[test]
 fn names_without_a_second_sense_change_nothing() {
     let seen = names_that_change_nothing(4_000, 8).unwrap();
     assert!(seen.accepted > 5_000 && seen.rejected > 5_000, "{seen:?}");
+    assert!(seen.listed > 5_000 && seen.empty > 1_000, "{seen:?}");
 }
 
 #[test]
@@ -52,21 +87,35 @@ fn remembering_changes_no_answer() {
 
 #[test]
 fn each_law_keeps_verdict_and_place() {
-    let seen = single_exchanges(&laws(), 400, 3).unwrap();
+    let seen = single_exchanges(&laws(), judged_alike, 400, 3).unwrap();
     assert!(seen.accepted > 20_000 && seen.rejected > 20_000, "{seen:?}");
 }
 
 #[test]
 fn chains_of_exchanges_keep_verdict_and_place() {
-    let seen = chains_of_exchanges(&laws(), 6_000, 4).unwrap();
+    let seen = chains_of_exchanges(&laws(), judged_alike, 6_000, 4).unwrap();
     assert!(seen.accepted > 5_000 && seen.rejected > 5_000, "{seen:?}");
 }
 
-/// The check of the laws tells a law from an error.
+#[test]
+fn each_law_keeps_what_may_come_next() {
+    let seen = single_exchanges(&laws(), listed_alike, 200, 12).unwrap();
+    assert!(seen.listed > 10_000 && seen.empty > 5_000, "{seen:?}");
+}
+
+#[test]
+fn chains_of_exchanges_keep_what_may_come_next() {
+    let seen = chains_of_exchanges(&laws(), listed_alike, 3_000, 13).unwrap();
+    assert!(seen.listed > 3_000 && seen.empty > 1_000, "{seen:?}");
+}
+
+/// The checks of the laws tell a law from an error.
 #[test]
 fn errors_that_look_right_are_found() {
-    for error in errors_that_look_right() {
-        let name = error.name.clone();
-        assert!(single_exchanges(&[error], 2_000, 5).is_err(), "{name} was not found out");
+    for alike in [judged_alike as Alike, listed_alike] {
+        for error in errors_that_look_right() {
+            let name = error.name.clone();
+            assert!(single_exchanges(&[error], alike, 2_000, 5).is_err(), "{name} was not found out");
+        }
     }
 }

@@ -191,16 +191,16 @@ fits-over over rs f = (λ e. f, λ e. refl)
 fits-over (std p) rs f = (λ e. absurd (subst left-over e tt), λ e. absurd (not-closed (subst Closed e f)))
 fits-over (cmp pp) rs f = (λ e. absurd (subst left-over e tt), λ e. absurd (not-closed-twice (subst ClosedTwice e f)))
 
-closed-event : {a : ℕ} {rs : List Record} → Closed (event a ∷ rs) → Closed rs
+pub closed-event : {a : ℕ} {rs : List Record} → Closed (event a ∷ rs) → Closed rs
 closed-event (Closed.more f) = f
 
-closed-close : {w : Closing} {rs : List Record} → Closed (close w ∷ rs) → rs ≡ []
+pub closed-close : {w : Closing} {rs : List Record} → Closed (close w ∷ rs) → rs ≡ []
 closed-close last = refl
 
-twice-event : {a : ℕ} {rs : List Record} → ClosedTwice (event a ∷ rs) → ClosedTwice rs
+pub twice-event : {a : ℕ} {rs : List Record} → ClosedTwice (event a ∷ rs) → ClosedTwice rs
 twice-event (ClosedTwice.more f) = f
 
-twice-close : {w : Closing} {rs : List Record} → ClosedTwice (close w ∷ rs) → Closed rs
+pub twice-close : {w : Closing} {rs : List Record} → ClosedTwice (close w ∷ rs) → Closed rs
 twice-close (turn f) = f
 
 pub fits-moves : {s t : State} {r : Record} (rs : List Record) → Moves s r t → Fits s (r ∷ rs) → Fits t rs

@@ -5,6 +5,7 @@ pub mod Traces
 pub mod Records
 pub mod Successors
 pub mod Search
+pub mod Ahead
 pub mod Laws
 pub mod Entered
 pub mod Spending
@@ -12,8 +13,10 @@ pub mod Alike
 pub mod Choices
 pub mod Spelled
 -- Definitions that need not be believed.
+pub mod Within
 pub mod Renames
 pub mod Leaves
+pub mod Deaf
 -- Theorems.
 pub mod Equations
 pub mod Members
@@ -30,3 +33,6 @@ pub mod RuledOut
 pub mod LeafChoice
 pub mod SpelledTraces
 pub mod Renamed
+pub mod WithinLaws
+pub mod AheadLaws
+pub mod DeafLaws

@@ -7,6 +7,17 @@ use mathlib.Core.List.{List, [], _∷_, _++_, map, List·Memᴰ, List·Memᴰ·h
 use Rattle.calculus.specs.Term.{Closing, done, withdrawn, failed, eqc}
 use Rattle.calculus.specs.Successors.{closings, only, some-of, each, any-at-all}
 
+pub is-true : (b : Bool) → T b → b ≡ true
+is-true true h = refl
+is-true false h = absurd h
+
+pub is-false : (b : Bool) → (T b → ⊥) → b ≡ false
+is-false true h = absurd (h tt)
+is-false false h = refl
+
+pub not-so : {b : Bool} → b ≡ false → T b → ⊥
+not-so e h = subst T e h
+
 pub or-in-left : (a b : Bool) → T a → T (a || b)
 or-in-left true b h = tt
 or-in-left false b h = absurd h

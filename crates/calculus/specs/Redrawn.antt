@@ -1,7 +1,7 @@
 -- Terms that are equal by the laws are judged alike: complete runs of the one are those of the other (`redrawn-complete`), so
 -- that they are accepted together, and rejected at the same place (`redrawn-alike`), unless either is undecided. Also that a
 -- complete run is a trace and the other way about, over record lists (`complete-traces`), and that every flow has a complete
--- run that closes done or failed (`has-firm-run`). Assumes nothing.
+-- run that closes done or failed (`has-firm-run`), so that none gets stuck (`closes-somehow`). Assumes nothing.
 use Prim.Native.Nat.{ℕ, suc}
 use mathlib.Core.Path.{_≡_, refl}
 use mathlib.Core.Logic.{_≢_, _↔_}
@@ -14,7 +14,7 @@ use Rattle.calculus.specs.Term.{Closing, done, withdrawn, failed, Std, C
 use Rattle.calculus.specs.Records.{Record, State, over, std, cmp, standard, compensable, Complete, InTraces, Follows, stays, ClosesFirm, by-done, by-failed, later}
 use Rattle.calculus.specs.Records
 use Rattle.calculus.specs.Search.{visit, settle, judge}
-use Rattle.calculus.specs.Found.{Ends, at-end, ends-complete, complete-ends, found-complete, place-follows, place-longest}
+use Rattle.calculus.specs.Found.{Ends, ends-complete, complete-ends, found-complete, place-follows, place-longest}
 use Rattle.calculus.specs.Found
 use Rattle.calculus.specs.Traces.{Trace, tr, CTrace, ct, Tr, CTr}
 use Rattle.calculus.specs.RunsAreTraces.{some, csome, Firm, CFirm, runs-are-traces, cruns-are-traces}
@@ -60,10 +60,11 @@ has-firm-crun pp = let z = csome pp in at (z .0) (z .1) (z .2)
     at : (z : CTrace) → CTr pp z → CFirm z → (rs : List Record) × Complete (cmp pp) rs × ClosesFirm rs
     at (ct (tr s w) (tr t v)) h f = (compensable s w t v, (s, w, t, v, refl, cruns-are-traces pp s w t v .1 h), firm-compensable s w t v (f .1))
 
-any-end : (s : State) → (rs : List Record) × Ends s rs
-any-end over = ([], at-end)
-any-end (std p) = let c = has-firm-run p in (c .0, complete-ends (std p) (c .0) (c .1))
-any-end (cmp pp) = let c = has-firm-crun pp in (c .0, complete-ends (cmp pp) (c .0) (c .1))
+-- no flow, and nothing that is left of one, gets stuck: some records complete it
+pub closes-somehow : (s : State) → (rest : List Record) × Complete s rest
+closes-somehow over = ([], refl)
+closes-somehow (std p) = let c = has-firm-run p in (c .0, c .1)
+closes-somehow (cmp pp) = let c = has-firm-crun pp in (c .0, c .1)
 
 -- Redrawing keeps the complete runs ------------------------------------------------------------------------------------------
 
@@ -99,7 +100,7 @@ data Shared : ℕ → List Record → List Record → Type 0 where
   also : {r : Record} {rs rs′ : List Record} {n : ℕ} → Shared n rs rs′ → Shared (suc n) (r ∷ rs) (r ∷ rs′)
 
 follows-ends : {s : State} {rs : List Record} {n : ℕ} → Follows s rs n → (rs′ : List Record) × Shared n rs rs′ × Ends s rs′
-follows-ends (stays {s}) = let e = any-end s in (e .0, none, e .1)
+follows-ends (stays {s}) = let c = closes-somehow s in (c .0, none, complete-ends s (c .0) (c .1))
 follows-ends (Follows.moves {r} m a) = let e = follows-ends a in (r ∷ e .0, also (e .1), Ends.moves m (e .2))
 
 ends-follows : {s : State} {rs rs′ : List Record} {n : ℕ} → Shared n rs rs′ → Ends s rs′ → Follows s rs n

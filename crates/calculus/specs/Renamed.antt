@@ -1,7 +1,8 @@
 -- Flows that are drawn alike, whose leaves take the renamed events as the others take the events (`Renames`), are searched alike: the same
--- states in the same order, so the same sight (`visit-renamed`) and the same verdict (`judge-renamed`). And the closings stay where they
--- are (`fits-renamed`). First of lists that are alike element for element, then a kind of part at a time. Assumes nothing.
-use Prim.Native.Nat.{ℕ, suc}
+-- states in the same order, so the same sight (`visit-renamed`), the same verdict (`judge-renamed`), and the same of what may come next
+-- (`passes-renamed`, `entered-renamed`). And the closings stay where they are (`fits-renamed`, `begins-renamed`, `within-renamed`). First of
+-- lists that are alike element for element, then a kind of part at a time. Assumes nothing.
+use Prim.Native.Nat.{ℕ, suc, _+_}
 use mathlib.Core.Path.{_≡_, refl, sym, ap, ap₂, subst}
 use mathlib.Core.Bool.{Bool, true, false, cond, not, _&&_, _||_}
 use mathlib.Core.List.{List, [], _∷_, _++_, map, Forall₂, Forall₂·nil, Forall₂·cons}
@@ -11,6 +12,8 @@ use Rattle.calculus.specs.Term.{Closing, done, withdrawn, failed, Leaf, 
 use Rattle.calculus.specs.Successors.{Beh, eqc, closings, only, some-of, each, any-at-all, ends-on, ends-both, does, skipB, seqB, parB, ends, left-by, steps, csteps}
 use Rattle.calculus.specs.Records.{Record, event, close, State, std, cmp, Closed, last, ClosedTwice, turn, Fits}
 use Rattle.calculus.specs.Search.{next, Seen, is-over, or-else, tries, visit, settle, judge}
+use Rattle.calculus.specs.Ahead.{passes, total, entered, Open, OpenTwice, Begins}
+use Rattle.calculus.specs.Within.{WithinOne, WithinTwo, Within}
 use Rattle.calculus.specs.Equations.{beh}
 use Rattle.calculus.specs.Renames.{renamed, HeardIn, none, and-event, and-close, Renames, CRenames, RenamesState, of-skip, of-throw, of-yield, of-leaf, of-seq, of-alt, of-par, of-hnd, of-blk, of-pair, of-cseq, of-calt, of-cpar, of-held, of-over, of-std, of-cmp}
 
@@ -192,6 +195,12 @@ unfolding tries
 both-tries f g k Forall₂·nil = refl
 both-tries f g k (Forall₂·cons h t) = let x = k _ _ h in let others = both-tries f g k t in λ i. or-else (x i .found) (x i) (λ u. others i)
 
+-- and come to the same in all
+both-total : {R : State → State → Type 0} (f g : State → ℕ) → ((s t : State) → R s t → g t ≡ f s) → {ss ts : List State} → Forall₂ R ss ts → total g ts ≡ total f ss
+unfolding total
+both-total f g k Forall₂·nil = refl
+both-total f g k (Forall₂·cons h t) = ap₂ _+_ (k _ _ h) (both-total f g k t)
+
 -- what is seen from a state, by what its successors see
 abbrev one-more : Seen → Seen
 one-more x = record { found = x .found; reached = x .reached; entered = suc (x .entered) }
@@ -203,6 +212,25 @@ closed-renamed f (Closed.more c) = Closed.more (closed-renamed f c)
 twice-renamed : (f : ℕ → ℕ) {rs : List Record} → ClosedTwice rs → ClosedTwice (map (renamed f) rs)
 twice-renamed f (turn c) = turn (closed-renamed f c)
 twice-renamed f (ClosedTwice.more c) = ClosedTwice.more (twice-renamed f c)
+
+open-renamed : (f : ℕ → ℕ) {rs : List Record} → Open rs → Open (map (renamed f) rs)
+open-renamed f Open.none = Open.none
+open-renamed f (Open.more o) = Open.more (open-renamed f o)
+
+open-twice-renamed : (f : ℕ → ℕ) {rs : List Record} → OpenTwice rs → OpenTwice (map (renamed f) rs)
+open-twice-renamed f OpenTwice.none = OpenTwice.none
+open-twice-renamed f (OpenTwice.more o) = OpenTwice.more (open-twice-renamed f o)
+open-twice-renamed f (OpenTwice.turn o) = OpenTwice.turn (open-renamed f o)
+
+within-one-renamed : (f : ℕ → ℕ) {rs : List Record} → WithinOne rs → WithinOne (map (renamed f) rs)
+within-one-renamed f WithinOne.none = WithinOne.none
+within-one-renamed f WithinOne.last = WithinOne.last
+within-one-renamed f (WithinOne.more i) = WithinOne.more (within-one-renamed f i)
+
+within-two-renamed : (f : ℕ → ℕ) {rs : List Record} → WithinTwo rs → WithinTwo (map (renamed f) rs)
+within-two-renamed f WithinTwo.none = WithinTwo.none
+within-two-renamed f (WithinTwo.more i) = WithinTwo.more (within-two-renamed f i)
+within-two-renamed f (WithinTwo.turn i) = WithinTwo.turn (within-one-renamed f i)
 
 module _ (f : ℕ → ℕ) (Heard : ℕ → Type 0) where
   next-event : {s t : State} → RenamesState f Heard s t → (a : ℕ) → Heard a → Forall₂ (RenamesState f Heard) (next s (event (f a))) (next t (event a))
@@ -235,7 +263,29 @@ module _ (f : ℕ → ℕ) (Heard : ℕ → Type 0) where
       let n = length-map rs (renamed f) in
       λ i. settle (leb (x i .entered) allowance) (x i .found) (sym n i) allowance (x i)
 
+  pub passes-renamed : {s t : State} {rs : List Record} → RenamesState f Heard s t → HeardIn Heard rs → passes rs t ≡ passes (map (renamed f) rs) s
+  unfolding passes
+  passes-renamed h none = refl
+  passes-renamed h (and-event {a} {rs} u k) = both-some (λ s. passes (map (renamed f) rs) s) (λ t. passes rs t) (λ s t j. passes-renamed j k) (next-event h a u)
+  passes-renamed h (and-close {w} {rs} k) = both-some (λ s. passes (map (renamed f) rs) s) (λ t. passes rs t) (λ s t j. passes-renamed j k) (next-close h w)
+
+  pub entered-renamed : {s t : State} {rs : List Record} → RenamesState f Heard s t → HeardIn Heard rs → entered rs t ≡ entered (map (renamed f) rs) s
+  unfolding entered
+  entered-renamed h none = refl
+  entered-renamed h (and-event {a} {rs} u k) = ap suc (both-total (λ s. entered (map (renamed f) rs) s) (λ t. entered rs t) (λ s t j. entered-renamed j k) (next-event h a u))
+  entered-renamed h (and-close {w} {rs} k) = ap suc (both-total (λ s. entered (map (renamed f) rs) s) (λ t. entered rs t) (λ s t j. entered-renamed j k) (next-close h w))
+
   pub fits-renamed : {s t : State} (rs : List Record) → RenamesState f Heard s t → Fits t rs → Fits s (map (renamed f) rs)
   fits-renamed rs of-over e = ap (map (renamed f)) e
   fits-renamed rs (of-std h) c = closed-renamed f c
   fits-renamed rs (of-cmp h) c = twice-renamed f c
+
+  pub begins-renamed : {s t : State} (rs : List Record) → RenamesState f Heard s t → Begins t rs → Begins s (map (renamed f) rs)
+  begins-renamed rs of-over b = b
+  begins-renamed rs (of-std h) o = open-renamed f o
+  begins-renamed rs (of-cmp h) o = open-twice-renamed f o
+
+  pub within-renamed : {s t : State} (rs : List Record) → RenamesState f Heard s t → Within t rs → Within s (map (renamed f) rs)
+  within-renamed rs of-over e = ap (map (renamed f)) e
+  within-renamed rs (of-std h) i = within-one-renamed f i
+  within-renamed rs (of-cmp h) i = within-two-renamed f i

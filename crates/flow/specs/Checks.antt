@@ -7,6 +7,7 @@ use mathlib.Core.Bool.{cond}
 use mathlib.Core.List.{List, [], _∷_, _++_}
 use Rattle.flow.specs.declared.Check.{Check}
 use Rattle.flow.specs.declared.Check.the-variants.{Fine, Refused}
+use Rattle.flow.specs.declared.Extent.{Extent}
 use Rattle.flow.specs.Refusals.{Ground, Round, lone, sweep, nodes-order, table-length-order, table-order, values-order, closing-order, records-length-order, records-order}
 
 ---- The first ground that holds ----
@@ -59,13 +60,13 @@ unfoldable pub values-check : List ℕ → Check
 values-check rs = first (grounds (values-order rs))
 
 -- 13
-unfoldable pub closings-check : List ℕ → List ℕ → Check
-closings-check ns rs = first (grounds (closing-order ns rs))
+unfoldable pub closings-check : Extent → List ℕ → List ℕ → Check
+closings-check extent ns rs = first (grounds (closing-order extent ns rs))
 
 -- 10 and 11
-unfoldable pub records-length-check : List ℕ → Check
-records-length-check rs = first (grounds (records-length-order rs))
+unfoldable pub records-length-check : Extent → List ℕ → Check
+records-length-check extent rs = first (grounds (records-length-order extent rs))
 
 -- 10 to 13
-unfoldable pub records-check : List ℕ → List ℕ → Check
-records-check ns rs = first (grounds (records-order ns rs))
+unfoldable pub records-check : Extent → List ℕ → List ℕ → Check
+records-check extent ns rs = first (grounds (records-order extent ns rs))

@@ -1,6 +1,7 @@
 -- A flow drawn with `cued` leaves and searched by cues is searched as the flow drawn with the leaves that are meant, by the records
--- themselves: the verdict is the same (`cued-judge`), and where the closings are as the root needs in the records, they are so in the cues
--- (`cued-fits`). No cue of a record is above that of the last closing (`cues-low`). Before that: what a cue is read as, that the cues of
+-- themselves: the verdict is the same (`cued-judge`), some run follows the cues exactly if one follows the records (`cued-passes`), and as
+-- many states are entered by them (`cued-entered`). And the closings of the cues are those of the records (`cued-fits`, `cued-begins`,
+-- `cued-within`). No cue of a record is above that of the last closing (`cues-low`). Before that: what a cue is read as, that the cues of
 -- records are the records renamed, and that a table that is not refused is drawn alike with any two kinds of leaves (`flows-renamed`).
 -- Assumes nothing.
 use Prim.Native.Nat.{ℕ, zero, suc, _<_, _≤_, _/_, _%_}
@@ -15,10 +16,12 @@ use borrow.Author.Tests.{not-false, le-leb, ne-eqb}
 use Rattle.calculus.specs.Term.{Leaf, Std, Cmp, blk}
 use Rattle.calculus.specs.Records.{Record, event, State, std, cmp, Fits}
 use Rattle.calculus.specs.Search.{judge}
+use Rattle.calculus.specs.Ahead.{passes, entered, Begins}
+use Rattle.calculus.specs.Within.{Within}
 use Rattle.calculus.specs.Members.{or-cases, and-right}
 use Rattle.calculus.specs.Equations.{All, none, also}
 use Rattle.calculus.specs.Renames.{renamed, HeardIn, and-event, and-close, Renames, CRenames, RenamesState, of-skip, of-throw, of-yield, of-leaf, of-seq, of-alt, of-par, of-hnd, of-blk, of-pair, of-cseq, of-calt, of-cpar, of-std, of-cmp}
-use Rattle.calculus.specs.Renamed.{judge-renamed, fits-renamed}
+use Rattle.calculus.specs.Renamed.{judge-renamed, passes-renamed, entered-renamed, fits-renamed, begins-renamed, within-renamed}
 use Rattle.flow.specs.declared.Check.the-variants.{Fine}
 use Rattle.flow.specs.declared.Simple.{Simple}
 use Rattle.flow.specs.declared.Simple.the-variants.{Skip, Throw, Yield}
@@ -221,11 +224,28 @@ module _ (leaves : ℕ → Leaf) (other : ℕ → ℕ) (ns rs : List ℕ)
   cued-flow : RenamesState (event-as other) Heard (flow-by cued ns) (flow-by leaves ns)
   cued-flow = flows-renamed (event-as other) Heard cued leaves ns passed (λ i e w n a u. right i e w n a u ∙ sym (takes-cue-is a (other a) e (small a u .0)))
 
+  heard-in : HeardIn Heard (records rs)
+  heard-in = all-heard Heard (all-places rs sound)
+
   pub cued-judge : (allowance : ℕ) → judge (flow-by cued ns) (cue-records (map (cue-of other) rs)) allowance ≡ judge (flow-by leaves ns) (records rs) allowance
-  cued-judge allowance = rw cued-records (sym (judge-renamed (event-as other) Heard cued-flow (all-heard Heard (all-places rs sound)) allowance))
+  cued-judge allowance = rw cued-records (sym (judge-renamed (event-as other) Heard cued-flow heard-in allowance))
+
+  -- some run follows these records
+  pub cued-passes : passes (cue-records (map (cue-of other) rs)) (flow-by cued ns) ≡ passes (records rs) (flow-by leaves ns)
+  cued-passes = rw cued-records (sym (passes-renamed (event-as other) Heard cued-flow heard-in))
+
+  -- the states entered in all runs of them
+  pub cued-entered : entered (cue-records (map (cue-of other) rs)) (flow-by cued ns) ≡ entered (records rs) (flow-by leaves ns)
+  cued-entered = rw cued-records (sym (entered-renamed (event-as other) Heard cued-flow heard-in))
 
   pub cued-fits : Fits (flow-by leaves ns) (records rs) → Fits (flow-by cued ns) (cue-records (map (cue-of other) rs))
   cued-fits c = rw cued-records (fits-renamed (event-as other) Heard (records rs) cued-flow c)
+
+  pub cued-begins : Begins (flow-by leaves ns) (records rs) → Begins (flow-by cued ns) (cue-records (map (cue-of other) rs))
+  cued-begins b = rw cued-records (begins-renamed (event-as other) Heard (records rs) cued-flow b)
+
+  pub cued-within : Within (flow-by leaves ns) (records rs) → Within (flow-by cued ns) (cue-records (map (cue-of other) rs))
+  cued-within w = rw cued-records (within-renamed (event-as other) Heard (records rs) cued-flow w)
 
   pub cues-low : (i : ℕ) → i < length rs → getD (map (cue-of other) rs) i 0 ≤ failed-cue
   cues-low i h = rw (place-map (cue-of other) rs i h) (cue-low other (getD rs i 0) (known i h) (sound-low Heard other small (getD rs i 0) (sound i h)))

@@ -7,7 +7,8 @@ use mathlib.Core.List.{List}
 use lib.ListN.{length, getD}
 use Rattle.calculus.specs.Term.{Leaf, Std, Cmp}
 use Rattle.calculus.specs.Records.{std, cmp}
-use Rattle.flow.specs.Refusals.{count, unknown-kind, wrong-field, not-lower, wrong-sort, child-taken, nobodys-child, most-records, no-record, closed, closings-wanted}
+use Rattle.flow.specs.declared.Extent.{Extent}
+use Rattle.flow.specs.Refusals.{count, unknown-kind, wrong-field, not-lower, wrong-sort, child-taken, nobodys-child, most-records, no-record, wrong-closings}
 use Rattle.flow.specs.Draws.{Draws}
 
 -- none of 4 to 8
@@ -32,11 +33,11 @@ pub record FineTable (ns : List ℕ) : Type 0 where
   pub node : (i : ℕ) → i < count ns → FineNode ns i
   pub child : (i : ℕ) → i + 1 < count ns → nobodys-child ns i ≡ false
 
--- none of 10 to 13
-pub record FineRecords (ns rs : List ℕ) : Type 0 where
+-- none of 11 to 13
+pub record FineRecords (extent : Extent) (ns rs : List ℕ) : Type 0 where
   pub few : length rs ≤ most-records
   pub each : (i : ℕ) → i < length rs → no-record (getD rs i 0) ≡ false
-  pub closings : closed rs (closings-wanted ns) ≡ true
+  pub closings : wrong-closings extent ns rs ≡ false
 
 -- the part that node i draws is standard (true) or compensable (false)
 pub data Drawing (leaves : ℕ → Leaf) (ns : List ℕ) (i : ℕ) : Bool → Type 0 where

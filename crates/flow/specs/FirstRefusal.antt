@@ -16,6 +16,8 @@ use Rattle.flow.specs.Tests.{is-true, is-false}
 use Rattle.flow.specs.declared.Refusal.{Refusal}
 use Rattle.flow.specs.declared.Check.{Check}
 use Rattle.flow.specs.declared.Check.the-variants.{Fine, Refused}
+use Rattle.flow.specs.declared.Extent.{Extent}
+use Rattle.flow.specs.declared.Extent.the-variants.{Whole, Beginning}
 use Rattle.flow.specs.Refusals.{Ground, ground, Round, lone, sweep, count, no-nodes, not-whole, too-many-nodes, no-records, too-many-records, nodes-order, table-length-order, values-order, closing-order, records-length-order}
 use Rattle.flow.specs.Checks.{refused, or-else-check, answer, first, each, grounds, table-check, table-length-check, nodes-check, records-check, records-length-check, values-check, closings-check}
 use Rattle.flow.specs.Earliest.{Nowhere, end, not-lone, not-sweep}
@@ -193,11 +195,11 @@ pub table-parts : (ns : List ℕ) → table-check ns ≡ or-else-check (table-le
 unfolding table-check table-length-check nodes-check
 table-parts ns = orders-append (table-length-order ns) (nodes-order ns)
 
-pub records-parts : (ns rs : List ℕ) → records-check ns rs ≡ or-else-check (records-length-check rs) (or-else-check (values-check rs) (closings-check ns rs))
+pub records-parts : (extent : Extent) (ns rs : List ℕ) → records-check extent ns rs ≡ or-else-check (records-length-check extent rs) (or-else-check (values-check rs) (closings-check extent ns rs))
 unfolding records-check records-length-check values-check closings-check
-records-parts ns rs =
-    orders-append (records-length-order rs) (values-order rs ++ closing-order ns rs)
-    ∙ ap (or-else-check (records-length-check rs)) (orders-append (values-order rs) (closing-order ns rs))
+records-parts extent ns rs =
+    orders-append (records-length-order extent rs) (values-order rs ++ closing-order extent ns rs)
+    ∙ ap (or-else-check (records-length-check extent rs)) (orders-append (values-order rs) (closing-order extent ns rs))
 
 ---- Lengths ----
 
@@ -214,11 +216,20 @@ fine-length ns e = by (fine-nowhere (table-length-order ns) e)
         record { some = omega (arith, na, nb); few = omega (arith, nb, nc); whole = omega (arith, nb) }
 
 -- 10 and 11 do not hold
-pub fine-records-length : (rs : List ℕ) → records-length-check rs ≡ Fine → (1 ≤ length rs) × (length rs ≤ 256)
+pub fine-records-length : (rs : List ℕ) → records-length-check Whole rs ≡ Fine → (1 ≤ length rs) × (length rs ≤ 256)
 unfolding records-length-check no-records too-many-records
-fine-records-length rs e = by (fine-nowhere (records-length-order rs) e)
+fine-records-length rs e = by (fine-nowhere (records-length-order Whole rs) e)
   where
-    by : Nowhere (records-length-order rs) → (1 ≤ length rs) × (length rs ≤ 256)
+    by : Nowhere (records-length-order Whole rs) → (1 ≤ length rs) × (length rs ≤ 256)
     by (not-lone a (not-lone b end)) =
         let na = eqb-false (length rs) 0 (is-false (no-records rs) a) in
         (omega (arith, na), ltb-false 256 (length rs) (is-false (too-many-records rs) b))
+
+-- 11 does not hold
+pub few-records : (extent : Extent) (rs : List ℕ) → records-length-check extent rs ≡ Fine → length rs ≤ 256
+unfolding records-length-check too-many-records
+few-records Whole rs e = fine-records-length rs e .1
+few-records Beginning rs e = by (fine-nowhere (records-length-order Beginning rs) e)
+  where
+    by : Nowhere (records-length-order Beginning rs) → length rs ≤ 256
+    by (not-lone b end) = ltb-false 256 (length rs) (is-false (too-many-records rs) b)

@@ -6,7 +6,7 @@ use mathlib.Core.Bool.{Bool, true, false}
 use mathlib.Core.List.{List}
 use lib.ListN.{length, getD, drop}
 use Rattle.flow.specs.declared.Form.{Form}
-use Rattle.flow.specs.Refusals.{taken, closed, after-closings}
+use Rattle.flow.specs.Refusals.{taken, closed, after-closings, too-many-closings, extra-closing}
 
 -- of the kinds without children, and of those with them
 abbrev pub leaf-form : Bool → Bool → Form
@@ -26,3 +26,9 @@ pub record Passed (rs : List ℕ) (wanted i left : ℕ) : Type 0 where
   pub some : 1 ≤ left
   pub closes : closed (drop i rs) left ≡ closed rs wanted
   pub place : i + after-closings (drop i rs) left ≡ after-closings rs wanted
+
+-- i records of a beginning are passed, and `left` closings of the allowed ones may come
+pub record PassedOpen (rs : List ℕ) (allowed i left : ℕ) : Type 0 where
+  pub within : i ≤ length rs
+  pub many : too-many-closings (drop i rs) left ≡ too-many-closings rs allowed
+  pub place : i + extra-closing (drop i rs) left ≡ extra-closing rs allowed

@@ -26,3 +26,4 @@ pub mod EventLeaves
 pub mod DrawnLeaves
 pub mod RecordsFit
 pub mod CuedFlows
+pub mod DeafFlows

@@ -1,7 +1,7 @@
 -- The numbers of a record list and the records that they are. Definitions only. Assumes nothing.
-use Prim.Native.Nat.{ℕ}
+use Prim.Native.Nat.{ℕ, zero, suc}
 use mathlib.Core.Bool.{Bool, _&&_, _||_, cond}
-use mathlib.Core.List.{List, map}
+use mathlib.Core.List.{List, [], _∷_, _++_, map}
 use lib.Dec.{eqb, leb}
 use Rattle.calculus.specs.Term.{done, withdrawn, failed}
 use Rattle.calculus.specs.Records.{Record, event, close}
@@ -34,3 +34,13 @@ record-of r =
 
 abbrev pub records : List ℕ → List Record
 records rs = map record-of rs
+
+-- so many numbers from i up
+unfoldable pub from : ℕ → ℕ → List ℕ
+from i zero = []
+from i (suc n) = i ∷ from (suc i) n
+
+-- 02, Three: "every event and closing .., in rising order of its number"
+unfoldable pub all-numbers : List ℕ
+unfolding from
+all-numbers = from 1 most-events ++ (done-number ∷ withdrawn-number ∷ failed-number ∷ [])

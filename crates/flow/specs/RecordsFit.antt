@@ -1,22 +1,30 @@
--- What is known of records that are not refused: how many they are, that each is an event or a closing, and that they have the
--- closings that the table's flow takes. Assumes nothing.
-use Prim.Native.Nat.{ℕ, suc}
+-- What is known of records that are not refused: how many they are and that each is an event or a closing (`fine-records`); and that they
+-- have the closings that the table's flow takes (`records-fit`), or as a beginning no closing too many (`records-begin`). So a search can go
+-- through them, whatever their extent (`records-within`). Assumes nothing.
+use Prim.Native.Nat.{ℕ, suc, _<_, _-_}
 use mathlib.Core.Path.{_≡_, refl, sym, ap, _∙_, subst}
 use mathlib.Core.Bool.{Bool, true, false, not, _||_, cond}
 use mathlib.Core.List.{List, [], _∷_}
+use native.Mathlib.Omega.{arith}
 use lib.Dec.{T, eqb}
 use lib.ListN.{length, getD}
-use borrow.Author.Tests.{ltb-false, not-false}
-use Rattle.calculus.specs.Term.{Leaf, Closing, done, withdrawn, failed}
-use Rattle.calculus.specs.Records.{Record, event, close, State, Closed, last, ClosedTwice, turn, Fits}
+use borrow.Author.Tests.{not-false}
+use Rattle.calculus.specs.Term.{Leaf, Closing, done, withdrawn, failed, Std, Cmp}
+use Rattle.calculus.specs.Records.{Record, event, close, State, std, cmp, Closed, last, ClosedTwice, Fits}
+use Rattle.calculus.specs.Ahead.{Open, OpenTwice, Begins}
+use Rattle.calculus.specs.Within.{Within}
+use Rattle.calculus.specs.WithinLaws.{fits-within, begins-within}
 use Rattle.flow.specs.declared.Check.the-variants.{Fine}
+use Rattle.flow.specs.declared.Extent.{Extent}
+use Rattle.flow.specs.declared.Extent.the-variants.{Whole, Beginning}
 use Rattle.flow.specs.Kinds.{node, is-standard}
 use Rattle.flow.specs.Records.{done-number, withdrawn-number, failed-number, is-closing-number, record-of, records}
-use Rattle.flow.specs.Refusals.{root, most-records, too-many-records, no-record, closed, closings-wanted, wrong-closings, value-grounds, records-order}
-use Rattle.flow.specs.Checks.{table-check, records-check}
+use Rattle.flow.specs.Refusals.{root, no-record, closed, closings-wanted, too-many-closings, closings-allowed, wrong-closings, value-grounds, values-order, closing-order}
+use Rattle.flow.specs.Checks.{or-else-check, table-check, records-length-check, values-check, closings-check, records-check}
 use Rattle.flow.specs.Earliest.{None, Nowhere, end, not-lone, not-sweep}
 use Rattle.flow.specs.Tests.{is-false}
-use Rattle.flow.specs.FirstRefusal.{fine-nowhere}
+use Rattle.flow.specs.Closings.{event-many, closing-many, closing-over}
+use Rattle.flow.specs.FirstRefusal.{fine-nowhere, both-fine, records-parts, few-records}
 use Rattle.flow.specs.Drawn.{flow-by}
 use Rattle.flow.specs.FineTable.{fine-table}
 use Rattle.flow.specs.OneFlow.{flow-standard, flow-compensable}
@@ -67,32 +75,79 @@ closed-once = closed-up 0 Closed (λ a rs c. Closed.more c) (λ w rs e. rw (clos
 
 -- a closing, and one last
 closed-twice : (rs : List ℕ) → closed rs 2 ≡ true → ClosedTwice (records rs)
-closed-twice = closed-up 1 ClosedTwice (λ a rs c. ClosedTwice.more c) (λ w rs e. turn (closed-once rs e))
+closed-twice = closed-up 1 ClosedTwice (λ a rs c. ClosedTwice.more c) (λ w rs e. ClosedTwice.turn (closed-once rs e))
 
-module _ (ns rs : List ℕ) where
-  pub fine-records : records-check ns rs ≡ Fine → FineRecords ns rs
-  unfolding records-check value-grounds too-many-records wrong-closings
-  fine-records e = by (fine-nowhere (records-order ns rs) e)
+-- events up to a closing, if there is one, in a beginning that may have n
+module _ (n : ℕ) (C : List Record → Type 0) (none : C []) (more : (a : ℕ) (rs : List Record) → C rs → C (event a ∷ rs))
+    (at-closing : (w : Closing) (r : ℕ) (rs : List ℕ) → is-closing-number r ≡ true → too-many-closings (r ∷ rs) n ≡ false → C (close w ∷ records rs)) where
+  open-up : (rs : List ℕ) → too-many-closings rs n ≡ false → C (records rs)
+  open-up [] e = none
+  open-up (r ∷ rs) e = by (is-closing-number r) refl (open-up rs)
+    where
+      by : (b : Bool) → is-closing-number r ≡ b → (too-many-closings rs n ≡ false → C (records rs)) → C (record-of r ∷ records rs)
+      by true h rec = let w = closing-record r h in rw (w .1) (at-closing (w .0) r rs h e)
+      by false h rec = rw (event-record r h) (more r (records rs) (rec (sym (event-many r rs n h) ∙ e)))
+
+-- no closing
+open-once : (rs : List ℕ) → too-many-closings rs 0 ≡ false → Open (records rs)
+open-once = open-up 0 Open Open.none (λ a rs c. Open.more c) (λ w r rs h e. absurd (subst T (sym (closing-over r rs h .0) ∙ e) tt))
+
+-- one at the most
+open-twice : (rs : List ℕ) → too-many-closings rs 1 ≡ false → OpenTwice (records rs)
+open-twice = open-up 1 OpenTwice OpenTwice.none (λ a rs c. OpenTwice.more c) (λ w r rs h e. OpenTwice.turn (open-once rs (sym (closing-many r rs 1 (omega arith) h) ∙ e)))
+
+---- Records that pass ----
+
+module _ (extent : Extent) (ns rs : List ℕ) where
+  pub fine-records : records-check extent ns rs ≡ Fine → FineRecords extent ns rs
+  unfolding value-grounds values-check closings-check
+  fine-records e =
+      let a = both-fine (records-length-check extent rs) (or-else-check (values-check rs) (closings-check extent ns rs)) (sym (records-parts extent ns rs) ∙ e) in
+      let b = both-fine (values-check rs) (closings-check extent ns rs) (a .1) in
+      record {
+        few = few-records extent rs (a .0);
+        each = λ i h. value i (at-each (fine-nowhere (values-order rs) (b .0)) i h);
+        closings = right (fine-nowhere (closing-order extent ns rs) (b .1));
+      }
     where
       value : (i : ℕ) → None (value-grounds rs i) → no-record (getD rs i 0) ≡ false
       value i (None.more t n) = is-false (no-record (getD rs i 0)) t
 
-      by : Nowhere (records-order ns rs) → FineRecords ns rs
-      by (not-lone a (not-lone b (not-sweep v (not-lone c end)))) = record {
-        few = ltb-false most-records (length rs) (is-false (too-many-records rs) b);
-        each = λ i h. value i (v i h);
-        closings = not-false (closed rs (closings-wanted ns)) (is-false (wrong-closings ns rs) c);
-      }
+      at-each : Nowhere (values-order rs) → (i : ℕ) → i < length rs → None (value-grounds rs i)
+      at-each (not-sweep v end) = v
 
-  -- 13 leaves the closings that the root needs
-  pub records-fit : (leaves : ℕ → Leaf) → table-check ns ≡ Fine → records-check ns rs ≡ Fine → Fits (flow-by leaves ns) (records rs)
-  unfolding closings-wanted
-  records-fit leaves e f = by (is-standard (node ns (root ns))) refl (fine-records f .closings)
+      right : Nowhere (closing-order extent ns rs) → wrong-closings extent ns rs ≡ false
+      right (not-lone c end) = is-false (wrong-closings extent ns rs) c
+
+-- what holds of the table's flow, by the sort of its root
+module _ (leaves : ℕ → Leaf) (ns : List ℕ) (fine : table-check ns ≡ Fine) (R : State → Type 0) where
+  by-root : ((p : Std) → is-standard (node ns (root ns)) ≡ true → R (std p)) → ((pp : Cmp) → is-standard (node ns (root ns)) ≡ false → R (cmp pp)) → R (flow-by leaves ns)
+  by-root when-standard when-compensable = by (is-standard (node ns (root ns))) refl
     where
-      by : (b : Bool) → is-standard (node ns (root ns)) ≡ b → closed rs (closings-wanted ns) ≡ true → Fits (flow-by leaves ns) (records rs)
-      by true h c =
-          let p = flow-standard leaves ns (fine-table ns e) h in
-          subst (λ (s : State). Fits s (records rs)) (sym (p .1)) (closed-once rs (ap (λ (b : Bool). closed rs (cond b 1 2)) (sym h) ∙ c))
-      by false h c =
-          let p = flow-compensable leaves ns (fine-table ns e) h in
-          subst (λ (s : State). Fits s (records rs)) (sym (p .1)) (closed-twice rs (ap (λ (b : Bool). closed rs (cond b 1 2)) (sym h) ∙ c))
+      by : (b : Bool) → is-standard (node ns (root ns)) ≡ b → R (flow-by leaves ns)
+      by true h = let p = flow-standard leaves ns (fine-table ns fine) h in subst R (sym (p .1)) (when-standard (p .0) h)
+      by false h = let p = flow-compensable leaves ns (fine-table ns fine) h in subst R (sym (p .1)) (when-compensable (p .0) h)
+
+module _ (ns rs : List ℕ) (leaves : ℕ → Leaf) (fine : table-check ns ≡ Fine) where
+  -- 13 leaves the closings that the root needs
+  pub records-fit : records-check Whole ns rs ≡ Fine → Fits (flow-by leaves ns) (records rs)
+  unfolding closings-wanted wrong-closings
+  records-fit f =
+      let c : closed rs (closings-wanted ns) ≡ true = not-false (closed rs (closings-wanted ns)) (fine-records Whole ns rs f .closings) in
+      by-root leaves ns fine (λ (s : State). Fits s (records rs))
+      (λ p h. closed-once rs (ap (λ (b : Bool). closed rs (cond b 1 2)) (sym h) ∙ c))
+      (λ pp h. closed-twice rs (ap (λ (b : Bool). closed rs (cond b 1 2)) (sym h) ∙ c))
+
+  -- and in a beginning no closing too many
+  pub records-begin : records-check Beginning ns rs ≡ Fine → Begins (flow-by leaves ns) (records rs)
+  unfolding closings-wanted closings-allowed wrong-closings
+  records-begin f =
+      let c : too-many-closings rs (closings-allowed ns) ≡ false = fine-records Beginning ns rs f .closings in
+      by-root leaves ns fine (λ (s : State). Begins s (records rs))
+      (λ p h. open-once rs (ap (λ (b : Bool). too-many-closings rs (cond b 1 2 - 1)) (sym h) ∙ c))
+      (λ pp h. open-twice rs (ap (λ (b : Bool). too-many-closings rs (cond b 1 2 - 1)) (sym h) ∙ c))
+
+-- a search can go through records that pass
+pub records-within : (extent : Extent) (ns rs : List ℕ) (leaves : ℕ → Leaf) → table-check ns ≡ Fine → records-check extent ns rs ≡ Fine → Within (flow-by leaves ns) (records rs)
+records-within Whole ns rs leaves fine f = fits-within (flow-by leaves ns) (records rs) (records-fit ns rs leaves fine f)
+records-within Beginning ns rs leaves fine f = begins-within (flow-by leaves ns) (records rs) (records-begin ns rs leaves fine f)

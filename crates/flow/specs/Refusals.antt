@@ -1,6 +1,6 @@
 -- What is refused: the refusal table of 01, numbers 1 to 13. First each number's own condition, in the table's words. Then the
 -- order in which they are looked at, as a list of rounds over grounds, each a number, a place and the condition there.
--- `ns` are the numbers of the nodes, `rs` those of the records.
+-- `ns` are the numbers of the nodes, `rs` those of the records, which are lent whole or as a beginning (02, Three): the `Extent`.
 -- Definitions only: Earliest says what it means that a refusal of an order is given, and Checks computes it; FineTable proves what is
 -- known of a table that is not refused. 14 belongs to whoever is lent room. Assumes nothing.
 use Prim.Native.Nat.{ℕ, zero, suc, _-_, _/_, _%_}
@@ -9,6 +9,8 @@ use mathlib.Core.List.{List, [], _∷_, _++_}
 use lib.Dec.{eqb, leb, ltb}
 use lib.ListN.{length, getD}
 use Rattle.flow.specs.declared.Refusal.{Refusal}
+use Rattle.flow.specs.declared.Extent.{Extent}
+use Rattle.flow.specs.declared.Extent.the-variants.{Whole, Beginning}
 use Rattle.flow.specs.Kinds.{form, is-standard, node, one-of, two-of}
 use Rattle.flow.specs.Records.{is-event-number, is-closing-number}
 
@@ -115,15 +117,36 @@ closed [] (suc n) = false
 closed (r ∷ rs) zero = false
 closed (r ∷ rs) (suc n) = closed rs (cond (is-closing-number r) n (suc n))
 
--- 13: "closings not as the root needs"
-unfoldable pub wrong-closings : List ℕ → List ℕ → Bool
-wrong-closings ns rs = not (closed rs (closings-wanted ns))
-
 -- "first record after the one or two closings the root needs, or the number of records if closings are too few"
 unfoldable pub after-closings : List ℕ → ℕ → ℕ
 after-closings [] n = 0
 after-closings (r ∷ rs) zero = 0
 after-closings (r ∷ rs) (suc n) = suc (after-closings rs (cond (is-closing-number r) n (suc n)))
+
+-- of a beginning, "any for a standard root, a second for a compensable one" is too many: the last that is wanted
+unfoldable pub closings-allowed : List ℕ → ℕ
+closings-allowed ns = closings-wanted ns - 1
+
+-- there are more than n closings
+unfoldable pub too-many-closings : List ℕ → ℕ → Bool
+too-many-closings [] n = false
+too-many-closings (r ∷ rs) zero = is-closing-number r || too-many-closings rs zero
+too-many-closings (r ∷ rs) (suc n) = too-many-closings rs (cond (is-closing-number r) n (suc n))
+
+-- the closing behind n others
+unfoldable pub extra-closing : List ℕ → ℕ → ℕ
+extra-closing [] n = 0
+extra-closing (r ∷ rs) zero = cond (is-closing-number r) 0 (suc (extra-closing rs zero))
+extra-closing (r ∷ rs) (suc n) = suc (extra-closing rs (cond (is-closing-number r) n (suc n)))
+
+-- 13: "closings not as the root needs"; 02, Three: "a beginning with a closing too many .. is 13, at that closing"
+unfoldable pub wrong-closings : Extent → List ℕ → List ℕ → Bool
+wrong-closings Whole ns rs = not (closed rs (closings-wanted ns))
+wrong-closings Beginning ns rs = too-many-closings rs (closings-allowed ns)
+
+unfoldable pub closings-place : Extent → List ℕ → List ℕ → ℕ
+closings-place Whole ns rs = after-closings rs (closings-wanted ns)
+closings-place Beginning ns rs = extra-closing rs (closings-allowed ns)
 
 ---- The order ----
 
@@ -173,13 +196,15 @@ value-grounds rs i = ground 12 i (no-record (getD rs i 0)) ∷ []
 abbrev pub values-order : List ℕ → List Round
 values-order rs = sweep (length rs) (value-grounds rs) ∷ []
 
-abbrev pub closing-order : List ℕ → List ℕ → List Round
-closing-order ns rs = lone (ground 13 (after-closings rs (closings-wanted ns)) (wrong-closings ns rs)) ∷ []
+-- 13
+abbrev pub closing-order : Extent → List ℕ → List ℕ → List Round
+closing-order extent ns rs = lone (ground 13 (closings-place extent ns rs) (wrong-closings extent ns rs)) ∷ []
 
--- 10 and 11
-abbrev pub records-length-order : List ℕ → List Round
-records-length-order rs = lone (ground 10 0 (no-records rs)) ∷ lone (ground 11 0 (too-many-records rs)) ∷ []
+-- 10 and 11; 02, Three: "10 isn't given here"
+abbrev pub records-length-order : Extent → List ℕ → List Round
+records-length-order Whole rs = lone (ground 10 0 (no-records rs)) ∷ lone (ground 11 0 (too-many-records rs)) ∷ []
+records-length-order Beginning rs = lone (ground 11 0 (too-many-records rs)) ∷ []
 
 -- "then 9 to 14"
-abbrev pub records-order : List ℕ → List ℕ → List Round
-records-order ns rs = records-length-order rs ++ (values-order rs ++ closing-order ns rs)
+abbrev pub records-order : Extent → List ℕ → List ℕ → List Round
+records-order extent ns rs = records-length-order extent rs ++ (values-order rs ++ closing-order extent ns rs)

@@ -1,12 +1,13 @@
 // Node tables and record lists: what is refused, in the order of document 01's table, and what stands in a node.
-// `check_table` answers the first of the refusals 1 to 9, `check_records` of 10 to 13; the parts of both that the flow file's
-// reader and writer want by themselves are public too. The definitions that the contracts cite are in specs/. Nothing is written here
+// `check_table` answers the first of the refusals 1 to 9, `check_records` of 10 to 13, by whether the records are lent whole or as a
+// beginning; the parts of both that the flow file's reader and writer want by themselves are public too. The definitions that the contracts cite are in specs/. Nothing is written here
 // but marks of the function's own, and no lent slice is changed.
 ghost use mathlib.Core.Path.{_≡_};
 ghost use mathlib.Core.Bool.{true, false, cond, xor, _&&_};
 ghost use Prim.Native.Nat.{_+_, _*_, _-_, _<_, _≤_};
 ghost use lib.Dec.{T};
 ghost use lib.ListN.{length, getD, set};
+ghost use Rattle.flow.specs.declared.Extent.the-variants.{Whole, Beginning};
 ghost use Rattle.flow.specs.Kinds.{node-of, node, one-of, two-of, form, is-standard};
 ghost use Rattle.flow.specs.Forms.{leaf-form, branch-form, Marks};
 ghost use Rattle.flow.specs.Records.{is-event-number, is-closing-number};
@@ -22,6 +23,12 @@ pub struct Refusal {
 pub enum Check {
     Fine,
     Refused(Refusal),
+}
+
+// A record list as it is closed, or a beginning of one: not yet closed, and perhaps empty.
+pub enum Extent {
+    Whole,
+    Beginning,
 }
 
 // SKIP, THROW and YIELD, alone or paired with SKIP.
@@ -460,11 +467,11 @@ fn closings_wanted(nodes: &[u16]) -> u16
     if form.standard { 1 } else { 2 }
 }
 
-// 13, of at most 256 records.
-pub fn check_closings(nodes: &[u16], records: &[u16]) -> Check
+// 13 of a whole list, of at most 256 records.
+fn check_whole_closings(nodes: &[u16], records: &[u16]) -> Check
     requires { ⌜ 3 ≤ length (now nodes) ⌝ }
     requires { ⌜ length (now records) ≤ 256 ⌝ }
-    ensures { λ r. ⌜ r ≡ closings-check (now (nodes .entry)) (now (records .entry)) ⌝ }
+    ensures { λ r. ⌜ r ≡ closings-check Whole (now (nodes .entry)) (now (records .entry)) ⌝ }
 {
     let mut left = closings_wanted(nodes);
     let mut i = 0;
@@ -483,12 +490,46 @@ pub fn check_closings(nodes: &[u16], records: &[u16]) -> Check
     refuse(13, i)
 }
 
-// 10 and 11.
-pub fn check_records_length(records: &[u16]) -> Check
-    ensures { λ r. ⌜ r ≡ records-length-check (now (records .entry)) ⌝ }
+// 13 of a beginning, of at most 256 records: the last closing that the root wants is one too many.
+fn check_open(nodes: &[u16], records: &[u16]) -> Check
+    requires { ⌜ 3 ≤ length (now nodes) ⌝ }
+    requires { ⌜ length (now records) ≤ 256 ⌝ }
+    ensures { λ r. ⌜ r ≡ closings-check Beginning (now (nodes .entry)) (now (records .entry)) ⌝ }
 {
-    if records.len() == 0 {
-        return refuse(NO_RECORDS, 0);
+    let mut left = closings_wanted(nodes) - 1;
+    let mut i = 0;
+    while i < records.len() {
+        if is_closing(records[i]) {
+            if left == 0 {
+                return refuse(13, i);
+            }
+            left -= 1;
+        }
+        i += 1;
+    }
+    Check::Fine
+}
+
+// 13, of at most 256 records.
+pub fn check_closings(nodes: &[u16], records: &[u16], extent: Extent) -> Check
+    requires { ⌜ 3 ≤ length (now nodes) ⌝ }
+    requires { ⌜ length (now records) ≤ 256 ⌝ }
+    ensures { λ r. ⌜ r ≡ closings-check extent (now (nodes .entry)) (now (records .entry)) ⌝ }
+{
+    match extent {
+        Extent::Whole => check_whole_closings(nodes, records),
+        Extent::Beginning => check_open(nodes, records),
+    }
+}
+
+// 10, of a whole list, and 11.
+pub fn check_records_length(records: &[u16], extent: Extent) -> Check
+    ensures { λ r. ⌜ r ≡ records-length-check extent (now (records .entry)) ⌝ }
+{
+    if let Extent::Whole = extent {
+        if records.len() == 0 {
+            return refuse(NO_RECORDS, 0);
+        }
     }
     if records.len() > MOST_RECORDS {
         return refuse(TOO_MANY_RECORDS, 0);
@@ -497,11 +538,11 @@ pub fn check_records_length(records: &[u16]) -> Check
 }
 
 // 10 to 13.
-pub fn check_records(nodes: &[u16], records: &[u16]) -> Check
+pub fn check_records(nodes: &[u16], records: &[u16], extent: Extent) -> Check
     requires { ⌜ 3 ≤ length (now nodes) ⌝ }
-    ensures { λ r. ⌜ r ≡ records-check (now (nodes .entry)) (now (records .entry)) ⌝ }
+    ensures { λ r. ⌜ r ≡ records-check extent (now (nodes .entry)) (now (records .entry)) ⌝ }
 {
-    let length = check_records_length(records);
+    let length = check_records_length(records, extent);
     let Check::Fine = length else {
         return length;
     };
@@ -509,5 +550,5 @@ pub fn check_records(nodes: &[u16], records: &[u16]) -> Check
     let Check::Fine = values else {
         return values;
     };
-    check_closings(nodes, records)
+    check_closings(nodes, records, extent)
 }

@@ -8,6 +8,7 @@ use mathlib.Core.Path.{_≡_}
 use lib.Dec.{ltb}
 use lib.ListN.{length}
 use Rattle.flow.specs.declared.Check.{Check}
+use Rattle.flow.specs.declared.Extent.{Extent}
 use Rattle.flow.specs.Refusals.{Round}
 use Rattle.flow.specs.Checks.{refused, first, grounds}
 use Rattle.format.specs.Format.{Entry}
@@ -49,6 +50,6 @@ unfolding by-entries section-alone
 named-check s order = by-entries order (section-alone s)
 
 -- 15 to 18, 21; 1 to 3, 10, 11, 4 to 9, 12, 13, 19, 20
-unfoldable pub lists-check : List ℕ → List ℕ → List ℕ → Check
+unfoldable pub lists-check : Extent → List ℕ → List ℕ → List ℕ → Check
 unfolding named-check
-lists-check s ns rs = named-check s (λ es. lists-order (length es) ns rs)
+lists-check extent s ns rs = named-check s (λ es. lists-order extent (length es) ns rs)

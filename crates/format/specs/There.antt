@@ -105,10 +105,15 @@ pub record NamesThere (s : List ℕ) (es : List Entry) (next : ℕ) : Type 0 whe
 abbrev pub Apart : List Entry → Type 0
 Apart es = (i j : ℕ) → i < j → j < length es → same-entry (getD es i nobody) (getD es j nobody) ≡ false
 
--- a names section by itself that was read: its count, where its entries stand, and 18
+-- every entry has a step name of some bytes
+abbrev pub Stepped : List Entry → Type 0
+Stepped es = (i : ℕ) → i < length es → 1 ≤ length (getD es i nobody .step)
+
+-- a names section by itself that was read: its count, where its entries stand, 18, and 17 of the step names that are empty
 pub record AloneThere (s : List ℕ) (es : List Entry) : Type 0 where
   pub counted : number-at s 0 ≡ length es
   pub is : es ≡ entries-at s (length es) 2
   pub inside : entries-end s (length es) 2 ≤ length s
   pub few : length es ≤ 256
   pub apart : Apart es
+  pub stepped : Stepped es

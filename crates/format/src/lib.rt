@@ -2,6 +2,7 @@
 // refusal; the names section and the sections of numbers; the checks on the numbers of a file, and on lists that are lent to be written.
 // What each answers is defined in specs/, on the plan of the file. Not here: the file as a whole (crates `reader` and `writer`).
 use flow::Check;
+use flow::Extent;
 use flow::Refusal;
 ghost use mathlib.Core.Path.{_≡_};
 ghost use Prim.Native.Nat.{_+_, _*_, _<_, _≤_};
@@ -431,9 +432,9 @@ fn check_events(records: &[u16], names: u16) -> Check
 }
 
 // 4 to 9, 12, 13, 19 and 20, of the nodes, records and number of names that stand in a file.
-pub fn check_contents(nodes: &[u16], records: &[u16], names: u16) -> Check
+pub fn check_contents(nodes: &[u16], records: &[u16], names: u16, extent: Extent) -> Check
     requires { ⌜ (3 ≤ length (now nodes)) × (length (now nodes) ≤ 192) × (length (now records) ≤ 256) ⌝ }
-    ensures { λ r. ⌜ r ≡ first (grounds-of names (now (nodes .entry)) (now (records .entry))) ⌝ }
+    ensures { λ r. ⌜ r ≡ first (grounds-of extent names (now (nodes .entry)) (now (records .entry))) ⌝ }
 {
     let table = flow::check_nodes(nodes);
     let Check::Fine = table else {
@@ -443,7 +444,7 @@ pub fn check_contents(nodes: &[u16], records: &[u16], names: u16) -> Check
     let Check::Fine = values else {
         return values;
     };
-    let closings = flow::check_closings(nodes, records);
+    let closings = flow::check_closings(nodes, records, extent);
     let Check::Fine = closings else {
         return closings;
     };
@@ -456,8 +457,8 @@ pub fn check_contents(nodes: &[u16], records: &[u16], names: u16) -> Check
 
 // What is refused of a names section, nodes and records that are lent as lists: 15 to 18 and 21 of the names section, 1 to 3, 10 and 11,
 // then as of a file's contents.
-pub fn check_lists(names: &[u8], nodes: &[u16], records: &[u16]) -> Check
-    ensures { λ r. ⌜ r ≡ lists-check (now (names .entry)) (now (nodes .entry)) (now (records .entry)) ⌝ }
+pub fn check_lists(names: &[u8], nodes: &[u16], records: &[u16], extent: Extent) -> Check
+    ensures { λ r. ⌜ r ≡ lists-check extent (now (names .entry)) (now (nodes .entry)) (now (records .entry)) ⌝ }
 {
     let section = scan_alone(names);
     let Item::Has(got) = section else {
@@ -467,9 +468,9 @@ pub fn check_lists(names: &[u8], nodes: &[u16], records: &[u16]) -> Check
     let Check::Fine = table else {
         return table;
     };
-    let list = flow::check_records_length(records);
+    let list = flow::check_records_length(records, extent);
     let Check::Fine = list else {
         return list;
     };
-    check_contents(nodes, records, got.value)
+    check_contents(nodes, records, got.value, extent)
 }

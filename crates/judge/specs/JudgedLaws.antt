@@ -12,10 +12,12 @@ use Rattle.flow.specs.declared.Refusal.{Refusal}
 use Rattle.flow.specs.declared.Check.{Check}
 use Rattle.flow.specs.declared.Check.the-variants.{Fine}
 use Rattle.flow.specs.declared.Check.the-variants as check
+use Rattle.flow.specs.declared.Extent.{Extent}
+use Rattle.flow.specs.declared.Extent.the-variants.{Whole}
 use Rattle.flow.specs.Tests.{is-false}
 use Rattle.flow.specs.Records.{records}
-use Rattle.flow.specs.Refusals.{ground, table-order, records-order}
-use Rattle.flow.specs.Checks.{refused, or-else-check, table-check, records-check}
+use Rattle.flow.specs.Refusals.{ground, Round, table-order, records-order}
+use Rattle.flow.specs.Checks.{refused, first, grounds, or-else-check, table-check, records-check}
 use Rattle.flow.specs.FirstRefusal.{None, more, fine-exactly, orders-append, both-fine, or-else-refused, or-else-fine, single-held, single-passed}
 use Rattle.flow.specs.FineTable.{fine-table}
 use Rattle.flow.specs.RecordsFit.{fine-records}
@@ -57,6 +59,14 @@ module _ {c : Check} (flow : State) (ns rs : List ℕ) (allowance : ℕ) (work :
 
 ---- The checks, as the code comes to them ----
 
+-- rounds behind those of nodes and records, of any extent
+pub plain-then : (extent : Extent) (ns rs : List ℕ) (order : List Round)
+    → first (grounds (table-order ns ++ (records-order extent ns rs ++ order))) ≡ or-else-check (table-check ns) (or-else-check (records-check extent ns rs) (first (grounds order)))
+unfolding table-check records-check
+plain-then extent ns rs order =
+    orders-append (table-order ns) (records-order extent ns rs ++ order)
+    ∙ ap (or-else-check (table-check ns)) (orders-append (records-order extent ns rs) order)
+
 module _ (ns rs : List ℕ) (room : ℕ) where
   -- 14
   pub room-refuses : room < room-wanted ns rs → refused 14 0 ≡ room-check ns rs room
@@ -74,32 +84,30 @@ module _ (ns rs : List ℕ) (room : ℕ) where
       by : None (ground 14 0 (too-short ns rs room) ∷ []) → room-wanted ns rs ≤ room
       by (more t n) = ltb-false room (room-wanted ns rs) (is-false (too-short ns rs room) t)
 
-  pub check-parts : judge-check ns rs room ≡ or-else-check (table-check ns) (or-else-check (records-check ns rs) (room-check ns rs room))
-  unfolding judge-check table-check records-check
-  check-parts =
-      orders-append (table-order ns) (records-order ns rs ++ room-order ns rs room)
-      ∙ ap (or-else-check (table-check ns)) (orders-append (records-order ns rs) (room-order ns rs room))
+  pub check-parts : judge-check ns rs room ≡ or-else-check (table-check ns) (or-else-check (records-check Whole ns rs) (room-check ns rs room))
+  unfolding judge-check
+  check-parts = plain-then Whole ns rs (room-order ns rs room)
 
   pub table-refuses : {c : Check} {r : Refusal} → c ≡ table-check ns → c ≡ check.Refused r → c ≡ judge-check ns rs room
   table-refuses q h = q ∙ or-else-refused _ (sym q ∙ h) ∙ sym check-parts
 
   module _ (table : table-check ns ≡ Fine) where
-    pub records-refuse : {c : Check} {r : Refusal} → c ≡ records-check ns rs → c ≡ check.Refused r → c ≡ judge-check ns rs room
+    pub records-refuse : {c : Check} {r : Refusal} → c ≡ records-check Whole ns rs → c ≡ check.Refused r → c ≡ judge-check ns rs room
     records-refuse q h = q ∙ or-else-refused _ (sym q ∙ h) ∙ or-else-fine _ table ∙ sym check-parts
 
-    pub room-last : {c : Check} → records-check ns rs ≡ Fine → c ≡ room-check ns rs room → c ≡ judge-check ns rs room
+    pub room-last : {c : Check} → records-check Whole ns rs ≡ Fine → c ≡ room-check ns rs room → c ≡ judge-check ns rs room
     room-last list q = q ∙ or-else-fine _ list ∙ or-else-fine _ table ∙ sym check-parts
 
   -- with names
   module _ (s : List ℕ) where
-    pub named-parts : named-judge-check s ns rs room ≡ or-else-check (lists-check s ns rs) (room-check ns rs room)
+    pub named-parts : named-judge-check s ns rs room ≡ or-else-check (lists-check Whole s ns rs) (room-check ns rs room)
     unfolding named-judge-check
-    named-parts = lists-then s ns rs (room-order ns rs room)
+    named-parts = lists-then Whole s ns rs (room-order ns rs room)
 
-    pub lists-refuse : {c : Check} {r : Refusal} → c ≡ lists-check s ns rs → c ≡ check.Refused r → c ≡ named-judge-check s ns rs room
+    pub lists-refuse : {c : Check} {r : Refusal} → c ≡ lists-check Whole s ns rs → c ≡ check.Refused r → c ≡ named-judge-check s ns rs room
     lists-refuse q h = q ∙ or-else-refused _ (sym q ∙ h) ∙ sym named-parts
 
-    pub named-room-last : {c : Check} → lists-check s ns rs ≡ Fine → c ≡ room-check ns rs room → c ≡ named-judge-check s ns rs room
+    pub named-room-last : {c : Check} → lists-check Whole s ns rs ≡ Fine → c ≡ room-check ns rs room → c ≡ named-judge-check s ns rs room
     named-room-last lists q = q ∙ or-else-fine _ lists ∙ sym named-parts
 
 -- how long lists are that pass
@@ -109,30 +117,30 @@ table-few ns e = omega (arith, fine-table ns e .few, fine-table ns e .whole)
 pub table-some : (ns : List ℕ) → table-check ns ≡ Fine → 3 ≤ length ns
 table-some ns e = omega (arith, fine-table ns e .some)
 
-pub records-few : (ns rs : List ℕ) → records-check ns rs ≡ Fine → length rs ≤ 256
-records-few ns rs e = fine-records ns rs e .few
+pub records-few : (extent : Extent) (ns rs : List ℕ) → records-check extent ns rs ≡ Fine → length rs ≤ 256
+records-few extent ns rs e = fine-records extent ns rs e .few
 
 ---- Nothing is refused ----
 
 -- a table, records and room that pass
-pub record Passed (ns rs : List ℕ) (room : ℕ) : Type 0 where
+pub record Passed (extent : Extent) (ns rs : List ℕ) (room : ℕ) : Type 0 where
   pub table : table-check ns ≡ Fine
-  pub records : records-check ns rs ≡ Fine
+  pub records : records-check extent ns rs ≡ Fine
   pub enough : room-wanted ns rs ≤ room
 
 module _ (ns rs : List ℕ) (room : ℕ) where
-  pub judge-passed : judge-check ns rs room ≡ Fine → Passed ns rs room
+  pub judge-passed : judge-check ns rs room ≡ Fine → Passed Whole ns rs room
   judge-passed e =
-      let a = both-fine (table-check ns) (or-else-check (records-check ns rs) (room-check ns rs room)) (sym (check-parts ns rs room) ∙ e) in
-      let b = both-fine (records-check ns rs) (room-check ns rs room) (a .1) in
+      let a = both-fine (table-check ns) (or-else-check (records-check Whole ns rs) (room-check ns rs room)) (sym (check-parts ns rs room) ∙ e) in
+      let b = both-fine (records-check Whole ns rs) (room-check ns rs room) (a .1) in
       record { table = a .0; records = b .0; enough = room-enough ns rs room (b .1) }
 
   module _ (s : List ℕ) (e : named-judge-check s ns rs room ≡ Fine) where
-    parts : (lists-check s ns rs ≡ Fine) × (room-check ns rs room ≡ Fine)
-    parts = both-fine (lists-check s ns rs) (room-check ns rs room) (sym (named-parts ns rs room s) ∙ e)
+    parts : (lists-check Whole s ns rs ≡ Fine) × (room-check ns rs room ≡ Fine)
+    parts = both-fine (lists-check Whole s ns rs) (room-check ns rs room) (sym (named-parts ns rs room s) ∙ e)
 
-    pub named-lists : ListsPassed s ns rs
-    named-lists = lists-passed s ns rs (parts .0)
+    pub named-lists : ListsPassed Whole s ns rs
+    named-lists = lists-passed Whole s ns rs (parts .0)
 
-    pub named-passed : Passed ns rs room
+    pub named-passed : Passed Whole ns rs room
     named-passed = record { table = named-lists .table; records = named-lists .records; enough = room-enough ns rs room (parts .1) }

@@ -6,6 +6,7 @@ use mathlib.Core.Bool.{Bool}
 use mathlib.Core.List.{List, [], _∷_, _++_}
 use lib.Dec.{ltb}
 use lib.ListN.{length}
+use Rattle.flow.specs.declared.Extent.the-variants.{Whole}
 use Rattle.flow.specs.Refusals.{count, ground, Round, lone, table-order, records-order}
 use Rattle.search.specs.Room.{room-of}
 use Rattle.format.specs.Format.{Entry}
@@ -56,8 +57,8 @@ room-order ns rs room = lone (ground 14 0 (too-short ns rs room)) ∷ []
 
 -- 01: "Judging checks 1 to 3; then nodes from 0 up, each in the order 4 to 8; then 9 to 14."
 abbrev pub judge-order : List ℕ → List ℕ → ℕ → List Round
-judge-order ns rs room = table-order ns ++ (records-order ns rs ++ room-order ns rs room)
+judge-order ns rs room = table-order ns ++ (records-order Whole ns rs ++ room-order ns rs room)
 
 -- 02, Two: "with a names section, those of One in One's order"; 01: "14, place 0, comes last"
 abbrev pub named-judge-order : List ℕ → List ℕ → ℕ → List Entry → List Round
-named-judge-order ns rs room es = lists-order (length es) ns rs ++ room-order ns rs room
+named-judge-order ns rs room es = lists-order Whole (length es) ns rs ++ room-order ns rs room

@@ -1,6 +1,7 @@
 // The judge: what is refused, or the counted search of the flow and the answer that comes of it. `judge` is lent nodes and records, and a
 // node takes its own event; `judge_named` is lent a names section too, and a node without a machine takes a record of any.
 use flow::Check;
+use flow::Extent;
 use flow::Refusal;
 use search::Out;
 ghost use mathlib.Core.Path.{_≡_};
@@ -74,7 +75,7 @@ fn check_all(nodes: &[u16], records: &[u16], room: usize) -> Check
     let Check::Fine = table else {
         return table;
     };
-    let list = flow::check_records(nodes, records);
+    let list = flow::check_records(nodes, records, Extent::Whole);
     let Check::Fine = list else {
         return list;
     };
@@ -85,7 +86,7 @@ fn check_all(nodes: &[u16], records: &[u16], room: usize) -> Check
 fn check_named(names: &[u8], nodes: &[u16], records: &[u16], room: usize) -> Check
     ensures { λ r. ⌜ r ≡ named-judge-check (now (names .entry)) (now (nodes .entry)) (now (records .entry)) room ⌝ }
 {
-    let lists = format::check_lists(names, nodes, records);
+    let lists = format::check_lists(names, nodes, records, Extent::Whole);
     let Check::Fine = lists else {
         return lists;
     };

@@ -11,7 +11,7 @@ use lib.Dec.{ltb}
 use lib.ListN.{length, take, drop, length-append, length-take, length-drop, take-append-drop}
 use lib.Seq.{length-take-le, take-length, take-at, drop-at, drop-drop, drop-append-le}
 use Rattle.io.specs.Digits.{digits, Fewest, glyph}
-use Rattle.line.specs.Line.{places, size, decimal, spaced, Put}
+use Rattle.line.specs.Line.{places, size, Put}
 
 ---- Digits ----
 
@@ -70,15 +70,6 @@ places-most (suc most) n (suc k) h =
 pub fewest-most : (n k : ℕ) → n < 4294967296 → Fewest 10 1 n k → k ≤ 10
 unfolding size
 fewest-most n k h f = omega (arith, fewest-size n k f, places-most n n 9 (omega arith))
-
-spaced-length : (n : ℕ) → length (spaced n) ≡ suc (size n)
-unfolding spaced decimal
-spaced-length n = ap suc (digits-length 10 (size n) n)
-
--- a number of 32 bits has at most ten digits
-pub spaced-most : (n : ℕ) → n < 4294967296 → length (spaced n) ≤ 11
-unfolding size
-spaced-most n h = omega (arith, spaced-length n, places-most n n 9 (omega arith))
 
 ---- One text after another ----
 

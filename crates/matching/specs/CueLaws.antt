@@ -69,8 +69,11 @@ module _ (s : List ℕ) (w : Whole s) where
   whole-long = omega (arith, entries-end-le s (length (entries-in s)) 2, whole-there s w .inside)
 
   module _ {count : ℕ} (counted : count ≡ number-at s 0) (event : ℕ) where
-    count-is : count ≡ length (entries-in s)
+    pub count-is : count ≡ length (entries-in s)
     count-is = counted ∙ whole-there s w .counted
+
+    pub entries-are : entries-at s count 2 ≡ entries-in s
+    entries-are = ap (λ (n : ℕ). entries-at s n 2) count-is ∙ sym (whole-there s w .is)
 
     -- an event that has no entry
     pub no-other : (ltb event 1 || ltb count event) ≡ true → event ≡ other (entries-in s) event
@@ -91,16 +94,16 @@ module _ (s : List ℕ) (w : Whole s) where
       pub entry-inside : entry-end s (entries-end s (event - 1) 2) ≤ length s
       entry-inside = omega (arith, nth-entry-ends s (event - 1) (length (entries-in s)) 2 (omega (arith, from-one, to-count)), whole-there s w .inside)
 
+      pub entry-is : entry-of (entries-in s) event ≡ entry-at s (entries-end s (event - 1) 2)
+      entry-is =
+          let es = entries-in s in
+          entry-before es event from-one ∙ ap (λ (ds : List Entry). getD ds (event - 1) nobody) (whole-there s w .is)
+          ∙ nth-entry s (event - 1) (length es) 2 (omega (arith, from-one, to-count))
+
       pub has-other : first-taking (name-at s (entries-end s (event - 1) 2)) event (entries-at s count 2) 1 ≡ other (entries-in s) event
       has-other =
-          let es = entries-in s in
-          let is : es ≡ entries-at s (length es) 2 = whole-there s w .is in
-          let here : entry-of es event ≡ entry-at s (entries-end s (event - 1) 2) =
-          entry-before es event from-one ∙ ap (λ (ds : List Entry). getD ds (event - 1) nobody) is
-          ∙ nth-entry s (event - 1) (length es) 2 (omega (arith, from-one, to-count)) in
-          let all : entries-at s count 2 ≡ es = ap (λ (n : ℕ). entries-at s n 2) count-is ∙ sym is in
-          ap₂ (λ (step : List ℕ) (ds : List Entry). first-taking step event ds 1) (sym (ap (λ (e : Entry). e .step) here)) all
-          ∙ sym (other-first es event from-one to-count)
+          ap₂ (λ (step : List ℕ) (ds : List Entry). first-taking step event ds 1) (sym (ap (λ (e : Entry). e .step) entry-is)) entries-are
+          ∙ sym (other-first (entries-in s) event from-one to-count)
 
 ---- At the front of a table ----
 

@@ -1,21 +1,30 @@
 // The cues of a record list: which other event takes a record. Where no names are lent there is none; where a names section is, it is the
 // first entry that has no machine and the step name of the record's entry (02, Two). What a cue is, is defined in crate `flow`, Cues;
-// which other event it holds, in specs/Others.antt. Not here: whether the names section is refused (crate `format`).
+// which other event it holds, in specs/Others.antt. Then the cues of all numbers that may follow a beginning of a record list (02, Three),
+// but for events that no leaf takes (specs/Asks.antt). Not here: whether the names section is refused (crate `format`).
 ghost use mathlib.Core.Path.{_≡_};
 ghost use mathlib.Core.List.{map};
-ghost use Prim.Native.Nat.{_≤_};
-ghost use lib.ListN.{length};
-ghost use Rattle.flow.specs.Cues.{cue, cue-of, itself};
+ghost use mathlib.Core.Bool.{false, _||_};
+ghost use Prim.Native.Nat.{_+_, _*_, _<_, _≤_};
+ghost use lib.Dec.{eqb, ltb};
+ghost use lib.ListN.{length, getD};
+ghost use Rattle.flow.specs.Records.{most-events, all-numbers};
+ghost use Rattle.flow.specs.Refusals.{count};
+ghost use Rattle.flow.specs.Cues.{cue, takes-cue, cue-of, itself};
 ghost use Rattle.format.specs.Matching.{no-machine};
 ghost use Rattle.format.specs.ListChecks.{entries-in, Whole};
 ghost use Rattle.format.specs.Told.{at-front};
 ghost use Rattle.format.specs.Items.{number-at, name-at, entry-at, entry-end, entries-at, entries-end};
 ghost use Rattle.matching.specs.Others.{takes-step, first-taking, other};
+ghost use Rattle.matching.specs.Asks.{asks, HeardMarks, AlsoMarked, has-step, ask-by};
 
 // The highest event, and the number beside a closing, which is no event's.
 const MOST_EVENTS: u16 = 256;
 
 const NO_EVENT: u16 = 65535;
+
+// How many numbers may follow a beginning: the events and the closings.
+pub const NUMBERS: usize = 259;
 
 // How many names there are.
 fn count_of_names(names: &[u8]) -> u16
@@ -26,7 +35,7 @@ fn count_of_names(names: &[u8]) -> u16
 }
 
 // The offset behind the first k entries.
-fn behind_entries(names: &[u8], k: u16) -> usize
+pub fn behind_entries(names: &[u8], k: u16) -> usize
     requires { ⌜ entries-end (now names) k 2 ≤ length (now names) ⌝ }
     ensures { λ r. ⌜ r ≡ entries-end (now (names .entry)) k 2 ⌝ }
 {
@@ -140,6 +149,176 @@ pub fn named_cues(names: &[u8], records: &[u16], cues: &mut [u32])
     let mut i = 0;
     while i < records.len() {
         cues[i] = named_cue(names, records[i]);
+        i += 1;
+    }
+}
+
+// Marks an event, if it is one of 256.
+fn mark_event(event: u16, marks: &mut [bool; 257])
+    requires { ⌜ length (now marks) ≡ 257 ⌝ }
+    ensures { λ _. ⌜ AlsoMarked (λ a. eqb a event) (now (marks .entry)) (now (marks .exit)) ⌝ }
+{
+    if event <= MOST_EVENTS {
+        marks[event as usize] = true;
+    }
+}
+
+// Marks the events of those among the first `count` entries that have the step name of the entry at `at`.
+fn mark_steps(names: &[u8], count: u16, at: usize, marks: &mut [bool; 257])
+    requires { ⌜ (entries-end (now names) count 2 ≤ length (now names)) × (entry-end (now names) at ≤ length (now names)) ⌝ }
+    requires { ⌜ (count ≤ most-events) × (length (now marks) ≡ 257) ⌝ }
+    ensures { λ _. ⌜ AlsoMarked (has-step (name-at (now (names .entry)) at) (entries-at (now (names .entry)) count 2)) (now (marks .entry)) (now (marks .exit)) ⌝ }
+{
+    let mut i: u16 = 0;
+    let mut entry: usize = 2;
+    while i < count {
+        let same = format::same_step(names, at, entry);
+        let event = i as usize + 1;
+        marks[event] = marks[event] | same;
+        entry = format::end_of_name(names, format::end_of_name(names, entry));
+        i += 1;
+    }
+}
+
+// Marks the events that a leaf of an event takes: itself, and if its entry has no machine, those that have its step name.
+fn mark_taken(names: &[u8], event: u16, marks: &mut [bool; 257])
+    requires { ⌜ Whole (now names) × (length (now marks) ≡ 257) ⌝ }
+    ensures { λ _. ⌜ AlsoMarked (λ a. takes-cue (cue-of (other (entries-in (now (names .entry)))) a) event) (now (marks .entry)) (now (marks .exit)) ⌝ }
+{
+    mark_event(event, marks);
+    let count = count_of_names(names);
+    if (event < 1) | (count < event) {
+        return;
+    }
+    let at = behind_entries(names, event - 1);
+    if without_machine(names, at) {
+        mark_steps(names, count, at, marks);
+    }
+}
+
+// Marks the events that node i takes, if it is an event leaf, where no names are lent.
+fn mark_plain_leaf(nodes: &[u16], i: usize, marks: &mut [bool; 257])
+    requires { ⌜ 3 * i + 2 < length (now nodes) ⌝ }
+    requires { ⌜ HeardMarks itself (now nodes) i (now marks) ⌝ }
+    ensures { λ _. ⌜ HeardMarks itself (now (nodes .entry)) (i + 1) (now (marks .exit)) ⌝ }
+{
+    let form = flow::form_at(nodes, i);
+    let event = flow::first_at(nodes, i);
+    if form.event {
+        mark_event(event, marks);
+    }
+}
+
+// The same by the names.
+fn mark_named_leaf(names: &[u8], nodes: &[u16], i: usize, marks: &mut [bool; 257])
+    requires { ⌜ Whole (now names) × (3 * i + 2 < length (now nodes)) ⌝ }
+    requires { ⌜ HeardMarks (other (entries-in (now names))) (now nodes) i (now marks) ⌝ }
+    ensures { λ _. ⌜ HeardMarks (other (entries-in (now (names .entry)))) (now (nodes .entry)) (i + 1) (now (marks .exit)) ⌝ }
+{
+    let form = flow::form_at(nodes, i);
+    let event = flow::first_at(nodes, i);
+    if form.event {
+        mark_taken(names, event, marks);
+    }
+}
+
+// Marks the events that the leaves take, where no names are lent; none is marked yet.
+fn mark_plain_leaves(nodes: &[u16], marks: &mut [bool; 257])
+    requires { ⌜ HeardMarks itself (now nodes) 0 (now marks) ⌝ }
+    ensures { λ _. ⌜ HeardMarks itself (now (nodes .entry)) (count (now (nodes .entry))) (now (marks .exit)) ⌝ }
+{
+    let n = nodes.len() / 3;
+    let mut i = 0;
+    while i < n {
+        mark_plain_leaf(nodes, i, marks);
+        i += 1;
+    }
+}
+
+// The same by the names.
+fn mark_named_leaves(names: &[u8], nodes: &[u16], marks: &mut [bool; 257])
+    requires { ⌜ Whole (now names) ⌝ }
+    requires { ⌜ HeardMarks (other (entries-in (now names))) (now nodes) 0 (now marks) ⌝ }
+    ensures { λ _. ⌜ HeardMarks (other (entries-in (now (names .entry)))) (now (nodes .entry)) (count (now (nodes .entry))) (now (marks .exit)) ⌝ }
+{
+    let n = nodes.len() / 3;
+    let mut i = 0;
+    while i < n {
+        mark_named_leaf(names, nodes, i, marks);
+        i += 1;
+    }
+}
+
+// The number at a place of all numbers: the events, then the closings.
+pub fn nth_number(place: usize) -> u16
+    requires { ⌜ place < 259 ⌝ }
+    ensures { λ r. ⌜ r ≡ getD all-numbers place 0 ⌝ }
+{
+    let events = MOST_EVENTS as usize;
+    if place < events {
+        place as u16 + 1
+    } else {
+        flow::DONE + (place - events) as u16
+    }
+}
+
+// Whether a number is asked: a closing, or a marked event.
+fn is_asked(marks: &[bool; 257], number: u16) -> bool
+    ensures { λ r. ⌜ r ≡ (ltb most-events number || getD (now (marks .entry)) number false) ⌝ }
+{
+    if number > MOST_EVENTS {
+        return true;
+    }
+    marks[number as usize]
+}
+
+// What is asked for a number, by the marks, where no names are lent.
+fn plain_ask(marks: &[bool; 257], number: u16) -> u32
+    ensures { λ r. ⌜ r ≡ ask-by itself (now (marks .entry)) number ⌝ }
+{
+    if is_asked(marks, number) {
+        plain_cue(number)
+    } else {
+        0
+    }
+}
+
+// The same by the names.
+fn named_ask(names: &[u8], marks: &[bool; 257], number: u16) -> u32
+    requires { ⌜ Whole (now names) ⌝ }
+    ensures { λ r. ⌜ r ≡ ask-by (other (entries-in (now (names .entry)))) (now (marks .entry)) number ⌝ }
+{
+    if is_asked(marks, number) {
+        named_cue(names, number)
+    } else {
+        0
+    }
+}
+
+// What is asked for each number, where no names are lent.
+pub fn plain_asks(nodes: &[u16], table: &mut [u32])
+    requires { ⌜ length (now table) ≡ 259 ⌝ }
+    ensures { λ _. ⌜ now (table .exit) ≡ asks itself (now (nodes .entry)) ⌝ }
+{
+    let mut marks = [false; 257];
+    mark_plain_leaves(nodes, &mut marks);
+    let mut i = 0;
+    while i < NUMBERS {
+        table[i] = plain_ask(&marks, nth_number(i));
+        i += 1;
+    }
+}
+
+// What is asked for each number, by a names section that is not refused.
+pub fn named_asks(names: &[u8], nodes: &[u16], table: &mut [u32])
+    requires { ⌜ Whole (now names) × (length (now table) ≡ 259) ⌝ }
+    ensures { λ _. ⌜ now (table .exit) ≡ asks (other (entries-in (now (names .entry)))) (now (nodes .entry)) ⌝ }
+{
+    let mut marks = [false; 257];
+    mark_named_leaves(names, nodes, &mut marks);
+    let mut i = 0;
+    while i < NUMBERS {
+        table[i] = named_ask(names, &marks, nth_number(i));
         i += 1;
     }
 }

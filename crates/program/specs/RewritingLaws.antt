@@ -9,7 +9,7 @@ use Rattle.format.specs.Told.{at-front}
 use Rattle.reader.specs.declared.Reading.{Reading}
 use Rattle.reader.specs.declared.Reading.the-variants as read
 use Rattle.reader.specs.Reading.{Outcome, reading}
-use Rattle.writer.specs.declared.Extent.{Extent}
+use Rattle.writer.specs.declared.Size.{Size}
 use Rattle.writer.specs.declared.Writing.{Writing}
 use Rattle.writer.specs.declared.Writing.the-variants.{Written, Refused}
 use Rattle.writer.specs.Writing.{WrittenAs}
@@ -41,7 +41,7 @@ module _ {file out : List ℕ} where
 
 -- as much as the answer says
 Sized : Copy → Type 0
-Sized k = (e : Extent) → k .answer ≡ Written e → e .length ≡ length (k .bytes)
+Sized k = (e : Size) → k .answer ≡ Written e → e .length ≡ length (k .bytes)
 
 refused-sized : (r : Refusal) → Sized (refused-copy r)
 unfolding Sized

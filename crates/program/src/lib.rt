@@ -1,7 +1,12 @@
 // A flow file judged by its own names as the program judges it, and the line that the program prints: specs/Answering.antt and
-// Program.antt define both. A flow file read and written again: what comes of it is defined in specs/Rewriting.antt.
+// Program.antt define both. A flow file read and written again: what comes of it is defined in specs/Rewriting.antt. What may follow a
+// file's first records, as text: specs/Listing.antt.
+mod listing;
+
+use ahead::answer::Next;
 use format::Item;
 use judge::Answer;
+use judge::Reach;
 use line::Line;
 use line::VerdictWord;
 use reader::Reading;
@@ -9,14 +14,23 @@ use writer::Writing;
 ghost use mathlib.Core.Path.{_≡_};
 ghost use Rattle.io.specs.Counts.{Counts};
 ghost use Rattle.judge.specs.Judged.{judged-named};
+ghost use Rattle.line.specs.Line.{Put};
 ghost use Rattle.program.specs.Program.{states-allowed, work-lent};
 ghost use Rattle.program.specs.FileNames.{names-of};
 ghost use Rattle.program.specs.Answering.{FileAnswered, AnswerTold, FilePrinted};
 ghost use Rattle.program.specs.Rewriting.{FileRewritten};
 ghost use Rattle.program.specs.Copying.{WithinRoom};
+ghost use Rattle.program.specs.Listing.{so-many};
+ghost use Rattle.program.specs.NextFile.{tables-text, NextPrinted};
 
 // "allows 1,000,000 states"
 const ALLOWANCE: u32 = 1000000;
+
+// The work bytes that the largest flow wants.
+const WORK: usize = 32896;
+
+// What stands for all records but the last, where a number of records is asked for.
+const ALL_BUT_LAST: u16 = 65535;
 
 fn wide(x: u16) -> usize
     ensures { λ r. ⌜ r ≡ x ⌝ }
@@ -40,7 +54,7 @@ fn names_of(file: &[u8]) -> &[u8]
 fn judge_tables(names: &[u8], nodes: &[u16], records: &[u16]) -> Answer
     ensures { λ r. ⌜ r ≡ judged-named (now (names .entry)) (now (nodes .entry)) (now (records .entry)) work-lent states-allowed ⌝ }
 {
-    let mut work = [0u8; 32896];
+    let mut work = [0u8; WORK];
     judge::judge_named(names, nodes, records, &mut work, ALLOWANCE)
 }
 
@@ -114,5 +128,63 @@ pub fn rewrite_file(file: &[u8], out: &mut [u8]) -> Writing
             writer::write(names_of(file), &nodes[..n], &records[..k], out)
         }
         Reading::Refused(r) => Writing::Refused(r),
+    }
+}
+
+// How many records a beginning has, of so many: all but the last, or as many as are asked for, as far as there are.
+fn so_many(first: u16, records: u16) -> usize
+    ensures { λ r. ⌜ r ≡ so-many first records ⌝ }
+{
+    if first == ALL_BUT_LAST {
+        if records == 0 {
+            return 0;
+        }
+        return wide(records - 1);
+    }
+    if first < records {
+        return wide(first);
+    }
+    wide(records)
+}
+
+// Writes what may follow a beginning, by these names, at the start of the room, leaves the rest, and answers the text's length. There is
+// room for every number and for the largest flow.
+fn next_tables(names: &[u8], nodes: &[u16], beginning: &[u16], out: &mut [u8; 90000]) -> usize
+    ensures { λ r. ⌜ Put (tables-text (now (names .entry)) (now (nodes .entry)) (now (beginning .entry))) (now (out .entry)) 0 (now (out .exit)) r ⌝ }
+    ensures { λ r. ⌜ Counts r (now (out .exit)) ⌝ }
+{
+    let mut list = [0u16; 259];
+    let mut work = [0u8; WORK];
+    match ahead::next_named(names, nodes, beginning, &mut list, &mut work, ALLOWANCE) {
+        Next::Listed(found) => {
+            let n = found.length as usize;
+            listing::put_list(names, &list[..n], found.count, out)
+        }
+        Next::Undecided(found) => {
+            let reach = Reach {
+                place: 0,
+                count: found.count,
+            };
+            listing::put_answer(Answer::Undecided(reach), out)
+        }
+        Next::Refused(r) => listing::put_answer(Answer::Refused(r), out),
+    }
+}
+
+// Writes what may follow the first records of a file, as many as are asked for (ALL_BUT_LAST: all but the last), at the start of the
+// room, leaves the rest, and answers the text's length.
+pub fn next_file(file: &[u8], first: u16, out: &mut [u8; 90000]) -> usize
+    ensures { λ r. ⌜ NextPrinted (now (file .entry)) first (now (out .entry)) (now (out .exit)) r ⌝ }
+    ensures { λ r. ⌜ Counts r (now (out .exit)) ⌝ }
+{
+    let mut nodes = [0u16; 192];
+    let mut records = [0u16; 256];
+    match reader::read(file, &mut nodes, &mut records) {
+        Reading::Read(counts) => {
+            let n = 3 * wide(counts.nodes);
+            let k = so_many(first, counts.records);
+            next_tables(names_of(file), &nodes[..n], &records[..k], out)
+        }
+        Reading::Refused(r) => listing::put_answer(Answer::Refused(r), out),
     }
 }

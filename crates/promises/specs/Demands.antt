@@ -13,6 +13,7 @@ use Rattle.calculus.specs.Search.{visit}
 use Rattle.calculus.specs.Laws.{Redrawn}
 use Rattle.calculus.specs.Redrawn.{complete-traces, redrawn-flip, redrawn-complete}
 use Rattle.flow.specs.declared.Check.the-variants.{Fine}
+use Rattle.flow.specs.declared.Extent.the-variants.{Whole}
 use Rattle.flow.specs.Records.{record-of, records}
 use Rattle.flow.specs.Refusals.{root}
 use Rattle.flow.specs.Checks.{table-check, records-check}
@@ -149,11 +150,11 @@ module _ (ns ns′ : List ℕ) (redrawn : Redrawn (flow-of ns) (flow-of ns′)) 
       → SameAnswer (told (judged ns rs room allowance)) (told (judged ns′ rs room′ allowance′))
   redrawn-same rs room room′ allowance allowance′ enough enough′ = redrawn-answers (one ∙ sym two) redrawn rs allowance allowance′
     where
-      one : judge-check ns rs room ≡ records-check ns rs
+      one : judge-check ns rs room ≡ records-check Whole ns rs
       one = records-decide ns rs room within enough
 
-      two : judge-check ns′ rs room′ ≡ records-check ns rs
-      two = records-decide ns′ rs room′ within′ enough′ ∙ sym (redrawn-records leaf ns ns′ within within′ redrawn rs)
+      two : judge-check ns′ rs room′ ≡ records-check Whole ns rs
+      two = records-decide ns′ rs room′ within′ enough′ ∙ sym (redrawn-records leaf ns ns′ within within′ redrawn Whole rs)
 
 ---- One outcome ----
 -- 01: "For each public function and every input, refused ones too, the contract leaves one possible outcome: the result and each

@@ -9,6 +9,7 @@ use native.Mathlib.Omega.{arith}
 use native.Mathlib.Nat.{eq-or-lt-of-le}
 use Rattle.flow.specs.declared.Refusal.{Refusal}
 use Rattle.flow.specs.declared.Check.the-variants.{Fine, Refused}
+use Rattle.flow.specs.declared.Extent.{Extent}
 use Rattle.flow.specs.Refusals.{Ground, Round, lone, sweep, table-order, records-order}
 use Rattle.flow.specs.Checks.{each, first, grounds, table-check, records-check}
 use Rattle.flow.specs.Earliest.{First, here, later, None, none, more, Earliest, is-lone, past-lone, in-sweep, past-sweep, Nowhere, end, not-lone, not-sweep}
@@ -126,9 +127,9 @@ unfolding table-check
 table-passes-exactly ns = nowhere-exactly (table-order ns)
 
 -- 10 to 13
-pub records-exactly : (ns rs : List ℕ) (r : Refusal) → (records-check ns rs ≡ Refused r) ↔ Earliest r (records-order ns rs)
+pub records-exactly : (extent : Extent) (ns rs : List ℕ) (r : Refusal) → (records-check extent ns rs ≡ Refused r) ↔ Earliest r (records-order extent ns rs)
 unfolding records-check
-records-exactly ns rs r = earliest-exactly (records-order ns rs) r
+records-exactly extent ns rs r = earliest-exactly (records-order extent ns rs) r
 
 -- 1 to 14
 module _ (ns rs : List ℕ) (room : ℕ) where

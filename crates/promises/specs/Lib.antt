@@ -4,6 +4,7 @@ pub mod Stated
 pub mod FileItems
 pub mod Returned
 pub mod Takers
+pub mod FollowingStated
 -- Theorems about the contracts of the crates below.
 -- Tables and the judge.
 pub mod ExactlyWhen
@@ -30,8 +31,20 @@ pub mod Cuts
 pub mod Collide
 pub mod Worked
 pub mod WriterRuledOut
+-- What may come next.
+pub mod Listings
+pub mod Beginnings
+pub mod Following
+pub mod NeverTen
+pub mod NextAndJudge
+pub mod FollowingRedrawn
+pub mod FollowingSpelled
+pub mod FollowingRuledOut
 -- The program.
 pub mod Once
 pub mod Files
 pub mod Rewritten
+pub mod NextFiles
+pub mod NamesShown
+pub mod NextRuledOut
 pub mod ProgramRuledOut

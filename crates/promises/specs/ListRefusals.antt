@@ -9,6 +9,7 @@ use native.Mathlib.Omega.{arith}
 use lib.ListN.{length}
 use Rattle.flow.specs.declared.Refusal.{Refusal}
 use Rattle.flow.specs.declared.Check.the-variants.{Fine, Refused}
+use Rattle.flow.specs.declared.Extent.{Extent}
 use Rattle.flow.specs.Refusals.{Round, lone, sweep}
 use Rattle.flow.specs.Earliest.{Earliest, past-lone, past-sweep, Nowhere, end, not-lone, not-sweep}
 use Rattle.format.specs.Format.{Entry, names-section}
@@ -141,12 +142,12 @@ named-order same (in-order {k} {p} es g e h) = in-order es g e (subst (Earliest 
 
 ---- Nodes and records ----
 
-module _ (s ns rs : List ℕ) (bytes : Bytes s) where
+module _ (extent : Extent) (s ns rs : List ℕ) (bytes : Bytes s) where
   -- 15 to 18, 21, 1 to 3, 10, 11, 4 to 9, 12, 13, 19, 20
-  pub lists-exactly : (k p : ℕ) → (lists-check s ns rs ≡ Refused (refusal-of k p)) ↔ NamedRefuses s (λ es. lists-order (length es) ns rs) k p
+  pub lists-exactly : (k p : ℕ) → (lists-check extent s ns rs ≡ Refused (refusal-of k p)) ↔ NamedRefuses s (λ es. lists-order extent (length es) ns rs) k p
   unfolding lists-check
-  lists-exactly = named-exactly s (λ es. lists-order (length es) ns rs) bytes
+  lists-exactly = named-exactly s (λ es. lists-order extent (length es) ns rs) bytes
 
-  pub lists-fine : (lists-check s ns rs ≡ Fine) ↔ ((es : List Entry) × GoodNames es × (s ≡ names-section es) × Nowhere (lists-order (length es) ns rs))
+  pub lists-fine : (lists-check extent s ns rs ≡ Fine) ↔ ((es : List Entry) × GoodNames es × (s ≡ names-section es) × Nowhere (lists-order extent (length es) ns rs))
   unfolding lists-check
-  lists-fine = named-fine s (λ es. lists-order (length es) ns rs) bytes
+  lists-fine = named-fine s (λ es. lists-order extent (length es) ns rs) bytes

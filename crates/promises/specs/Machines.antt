@@ -23,6 +23,7 @@ use Rattle.calculus.specs.Renames.{renamed, HeardIn, none, and-event, and-close
 use Rattle.calculus.specs.Renamed.{judge-renamed}
 use Rattle.calculus.specs.Search.{judge}
 use Rattle.flow.specs.declared.Check.the-variants.{Fine}
+use Rattle.flow.specs.declared.Extent.the-variants.{Whole}
 use Rattle.flow.specs.Tests.{is-true}
 use Rattle.flow.specs.Records.{records}
 use Rattle.flow.specs.Checks.{table-check}
@@ -234,7 +235,7 @@ module _ (es : List Entry) (machines : (e : Entry) → List·Memᴰ e es → e .
       ∙ ap (λ (x : List Record). judge (flow-of ns) x allowance) (renamed-same rs)
 
 -- lists that pass are not refused without the names
-passed-fine : (ns rs : List ℕ) (room : ℕ) → Passed ns rs room → judge-check ns rs room ≡ Fine
+passed-fine : (ns rs : List ℕ) (room : ℕ) → Passed Whole ns rs room → judge-check ns rs room ≡ Fine
 passed-fine ns rs room p =
     check-parts ns rs room ∙ sym (or-else-fine _ (p .table)) ∙ sym (or-else-fine _ (p .records)) ∙ room-passes ns rs room (p .enough)
 

@@ -14,8 +14,9 @@ use Rattle.calculus.specs.Laws.{Redrawn}
 use Rattle.flow.specs.declared.Check.{Check}
 use Rattle.flow.specs.declared.Check.the-variants.{Fine}
 use Rattle.flow.specs.declared.Check.the-variants as check
+use Rattle.flow.specs.declared.Extent.the-variants.{Whole}
 use Rattle.flow.specs.Records.{records}
-use Rattle.flow.specs.Refusals.{sweep, count, root, wrong-closings}
+use Rattle.flow.specs.Refusals.{sweep, count, root, wrong-closings, closings-place}
 use Rattle.flow.specs.Checks.{first, or-else-check, table-length-check, nodes-check, table-check, records-length-check, values-check, closings-check}
 use Rattle.flow.specs.FirstRefusal.{both-fine, or-else-fine, table-parts}
 use Rattle.flow.specs.Earliest.{none, more, Nowhere, end, not-sweep}
@@ -106,30 +107,30 @@ module _ (es : List Entry) (good : GoodNames es) (ns rs : List ℕ) (room allowa
 -- "Redrawing changes nothing .. both are refused or both get the same verdict by demand 2, unless either is undecided."
 -- 02, Two: "The laws stay for flows whose events all have entries."
 
-or-else-last : (a b : Check) → b ≡ Fine → or-else-check a b ≡ a
+pub or-else-last : (a b : Check) → b ≡ Fine → or-else-check a b ≡ a
 unfolding or-else-check
 or-else-last Fine b e = e
 or-else-last (check.Refused r) b e = refl
 
 -- 19 is given nowhere where all events have entries
-events-pass : (es : List Entry) (ns : List ℕ) → EventsNamed es ns → first (leaves-grounds (length es) ns) ≡ Fine
+pub events-pass : (es : List Entry) (ns : List ℕ) → EventsNamed es ns → first (leaves-grounds (length es) ns) ≡ Fine
 unfolding leaves-grounds
 events-pass es ns h = nowhere-exactly (sweep (count ns) (leaf-grounds (length es) ns) ∷ []) .1 (not-sweep (λ i l. more (h i l) none) end)
 
 module _ (es : List Entry) (good : GoodNames es) (ns rs : List ℕ) (room : ℕ) (within : table-check ns ≡ Fine) (events : EventsNamed es ns) (enough : room-wanted ns rs ≤ room) where
   -- what is refused then depends on the records alone, and on the closings that the root needs
   named-decide : named-judge-check (names-section es) ns rs room
-      ≡ or-else-check (records-length-check rs) (or-else-check (values-check rs) (or-else-check (closings-check ns rs) (first (events-grounds (length es) rs))))
+      ≡ or-else-check (records-length-check Whole rs) (or-else-check (values-check rs) (or-else-check (closings-check Whole ns rs) (first (events-grounds (length es) rs))))
   named-decide =
       let s = names-section es in
       let t = both-fine (table-length-check ns) (nodes-check ns) (sym (table-parts ns) ∙ within) in
       named-parts ns rs room s
-      ∙ or-else-last (lists-check s ns rs) (room-check ns rs room) (room-passes ns rs room enough)
-      ∙ lists-is s ns rs (alone-is es good)
+      ∙ or-else-last (lists-check Whole s ns rs) (room-check ns rs room) (room-passes ns rs room enough)
+      ∙ lists-is Whole s ns rs (alone-is es good)
       ∙ sym (or-else-fine _ (t .0))
-      ∙ ap (or-else-check (records-length-check rs))
-      (contents-is (length es) ns rs ∙ sym (or-else-fine _ (t .1))
-      ∙ ap (λ (c : Check). or-else-check (values-check rs) (or-else-check (closings-check ns rs) c)) (sym (or-else-fine _ (events-pass es ns events))))
+      ∙ ap (or-else-check (records-length-check Whole rs))
+      (contents-is Whole (length es) ns rs ∙ sym (or-else-fine _ (t .1))
+      ∙ ap (λ (c : Check). or-else-check (values-check rs) (or-else-check (closings-check Whole ns rs) c)) (sym (or-else-fine _ (events-pass es ns events))))
 
 module _ (es : List Entry) (good : GoodNames es) (ns ns′ : List ℕ) (redrawn : Redrawn (flow-by (named es) ns) (flow-by (named es) ns′))
     (within : table-check ns ≡ Fine) (within′ : table-check ns′ ≡ Fine) where
@@ -140,8 +141,8 @@ module _ (es : List Entry) (good : GoodNames es) (ns ns′ : List ℕ) (redrawn 
   pub named-redrawn-traces : (batch : List Record) → InTraces (flow-by (named es) ns) batch ↔ InTraces (flow-by (named es) ns′) batch
   named-redrawn-traces = redrawn-flow-traces redrawn
 
-  same-closings : (rs : List ℕ) → closings-check ns rs ≡ closings-check ns′ rs
-  unfolding closings-check wrong-closings
+  same-closings : (rs : List ℕ) → closings-check Whole ns rs ≡ closings-check Whole ns′ rs
+  unfolding closings-check wrong-closings closings-place
   same-closings rs = rw (redrawn-closings (named es) ns ns′ within within′ redrawn)
 
   module _ (events : EventsNamed es ns) (events′ : EventsNamed es ns′) where
@@ -151,7 +152,7 @@ module _ (es : List Entry) (good : GoodNames es) (ns ns′ : List ℕ) (redrawn 
     named-redrawn-same rs room room′ allowance allowance′ enough enough′ =
         redrawn-answers
         (named-decide es good ns rs room within events enough
-        ∙ ap (λ (c : Check). or-else-check (records-length-check rs) (or-else-check (values-check rs) (or-else-check c (first (events-grounds (length es) rs))))) (same-closings rs)
+        ∙ ap (λ (c : Check). or-else-check (records-length-check Whole rs) (or-else-check (values-check rs) (or-else-check c (first (events-grounds (length es) rs))))) (same-closings rs)
         ∙ sym (named-decide es good ns′ rs room′ within′ events′ enough′))
         (redrawn-as (sym (named-flow-is es good ns)) (sym (named-flow-is es good ns′)) redrawn) rs allowance allowance′
       where

@@ -8,7 +8,7 @@ use lib.ListN.{take, replicate}
 use Rattle.calculus.specs.Search as search
 use Rattle.flow.specs.Trees.{descend}
 use Rattle.flow.specs.Records.{record-of, is-event-number, is-closing-number}
-use Rattle.flow.specs.Refusals.{no-nodes, not-whole, too-many-nodes, unknown-kind, wrong-field, not-lower, is-child, taken, wrong-sort, child-taken, nobodys-child, no-records, too-many-records, no-record, closings-wanted, closed, wrong-closings, after-closings, node-grounds, child-grounds, value-grounds}
+use Rattle.flow.specs.Refusals.{no-nodes, not-whole, too-many-nodes, unknown-kind, wrong-field, not-lower, is-child, taken, wrong-sort, child-taken, nobodys-child, no-records, too-many-records, no-record, closings-wanted, closed, wrong-closings, closings-place, after-closings, node-grounds, child-grounds, value-grounds}
 use Rattle.flow.specs.Checks.{or-else-check, answer, first, each}
 use Rattle.flow.specs.Drawn.{made, drawn, flow-by}
 use Rattle.format.specs.Format.{Entry, number-bytes, name-bytes, entry-bytes, entries-bytes, names-section}
@@ -130,7 +130,7 @@ abbrev told-of : NamedLine → Told
 told-of l = told (judged-named (l .names) (l .nodes) (l .batch) (l .room) (l .allowance))
 
 pub named-lines-told : map told-of named-lines ≡ map (λ l. l .answer) named-lines
-unfolding named-lines names-section entries-bytes entry-bytes name-bytes number-bytes run _>>=_ byte number ranged name entry same-bytes same-step same-entry met new-entry entries names nothing-behind section-alone by-entries named-check unnamed-leaf unnamed-event is-event-number is-closing-number no-nodes not-whole too-many-nodes unknown-kind wrong-field not-lower is-child taken wrong-sort child-taken nobodys-child no-records too-many-records no-record closings-wanted closed wrong-closings after-closings node-grounds child-grounds value-grounds first answer or-else-check each xor entries-of entries-in no-machine matches told judged-by unless-refused answer-of named-judge-check too-short room-of search.judge flow-by drawn made descend record-of
+unfolding named-lines names-section entries-bytes entry-bytes name-bytes number-bytes run _>>=_ byte number ranged name entry same-bytes same-step same-entry met new-entry entries names nothing-behind section-alone by-entries named-check unnamed-leaf unnamed-event is-event-number is-closing-number no-nodes not-whole too-many-nodes unknown-kind wrong-field not-lower is-child taken wrong-sort child-taken nobodys-child no-records too-many-records no-record closings-wanted closed wrong-closings closings-place after-closings node-grounds child-grounds value-grounds first answer or-else-check each xor entries-of entries-in no-machine matches told judged-by unless-refused answer-of named-judge-check too-short room-of search.judge flow-by drawn made descend record-of
 named-lines-told = refl
 
 ---- What is left in the work bytes ----
@@ -138,7 +138,7 @@ named-lines-told = refl
 -- Of 8 bytes lent the first 6 are cleared, where it accepts and where it rejects. That rules out a judge that clears none, or all.
 pub named-bytes-cleared : map (λ batch. named-work-after section (one-leaf 1) batch (replicate 8 7)) (and-done 2 ∷ and-failed 2 ∷ [])
     ≡ (replicate 6 0 ++ replicate 2 7) ∷ (replicate 6 0 ++ replicate 2 7) ∷ []
-unfolding names-section entries-bytes entry-bytes name-bytes number-bytes run _>>=_ byte number ranged name entry same-bytes same-step same-entry met new-entry entries names nothing-behind section-alone by-entries named-check unnamed-leaf unnamed-event is-event-number is-closing-number no-nodes not-whole too-many-nodes unknown-kind wrong-field not-lower is-child taken wrong-sort child-taken nobodys-child no-records too-many-records no-record closings-wanted closed wrong-closings after-closings node-grounds child-grounds value-grounds first answer or-else-check each xor unless-refused named-judge-check too-short room-of cleared bytes-by
+unfolding names-section entries-bytes entry-bytes name-bytes number-bytes run _>>=_ byte number ranged name entry same-bytes same-step same-entry met new-entry entries names nothing-behind section-alone by-entries named-check unnamed-leaf unnamed-event is-event-number is-closing-number no-nodes not-whole too-many-nodes unknown-kind wrong-field not-lower is-child taken wrong-sort child-taken nobodys-child no-records too-many-records no-record closings-wanted closed wrong-closings closings-place after-closings node-grounds child-grounds value-grounds first answer or-else-check each xor unless-refused named-judge-check too-short room-of cleared bytes-by
 named-bytes-cleared = refl
 
 -- A judge that clears before it refuses is ruled out by a refusal of the room, of an event without an entry, and of the names.
@@ -147,5 +147,5 @@ pub named-bytes-kept : named-work-after section (one-leaf 1) (and-done 2) (repli
     ∷ named-work-after (section ++ (0 ∷ [])) (one-leaf 1) (and-done 2) (replicate 8 7)
     ∷ []
     ≡ replicate 5 7 ∷ replicate 8 7 ∷ replicate 8 7 ∷ []
-unfolding names-section entries-bytes entry-bytes name-bytes number-bytes run _>>=_ byte number ranged name entry same-bytes same-step same-entry met new-entry entries names nothing-behind section-alone by-entries named-check unnamed-leaf unnamed-event is-event-number is-closing-number no-nodes not-whole too-many-nodes unknown-kind wrong-field not-lower is-child taken wrong-sort child-taken nobodys-child no-records too-many-records no-record closings-wanted closed wrong-closings after-closings node-grounds child-grounds value-grounds first answer or-else-check each xor unless-refused named-judge-check too-short room-of cleared bytes-by
+unfolding names-section entries-bytes entry-bytes name-bytes number-bytes run _>>=_ byte number ranged name entry same-bytes same-step same-entry met new-entry entries names nothing-behind section-alone by-entries named-check unnamed-leaf unnamed-event is-event-number is-closing-number no-nodes not-whole too-many-nodes unknown-kind wrong-field not-lower is-child taken wrong-sort child-taken nobodys-child no-records too-many-records no-record closings-wanted closed wrong-closings closings-place after-closings node-grounds child-grounds value-grounds first answer or-else-check each xor unless-refused named-judge-check too-short room-of cleared bytes-by
 named-bytes-kept = refl

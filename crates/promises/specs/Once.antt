@@ -2,7 +2,7 @@
 -- contract leaves one possible outcome: the result and each lent byte. That uniqueness is itself a proved fact."
 -- An outcome is the answer with all that was lent to be written, as it is after the call. Here: the general lemma, the search, and the
 -- entry points of `line` and `program`. The others have theirs beside their promises: `judge-unique` (Demands), `named-unique` (NamedDemands), `read-once` and `scan-names-once`
--- (Reader), `write-once` (Writer), `rewrite-once` (Rewritten).
+-- (Reader), `write-once` (Writer), `rewrite-once` (Rewritten), `next-unique` and `named-next-unique` (Following).
 -- Theorems only. Assumes nothing.
 use Prim.Native.Nat.{ℕ, _+_}
 use mathlib.Core.List.{List, _++_}
@@ -12,12 +12,15 @@ use lib.ListN.{length, take, drop}
 use Rattle.search.specs.declared.Out.{Out}
 use Rattle.search.specs.declared.Out.the-variants.{Spent, Back}
 use Rattle.search.specs.Visits.{out-of}
-use Rattle.search.specs.Searches.{Searched}
+use Rattle.flow.specs.Cues.{cued, cue-records}
+use Rattle.flow.specs.Drawn.{flow-by}
+use Rattle.search.specs.Searches.{Searched, asks-after, Asked}
 use Rattle.judge.specs.declared.Answer.{Answer}
 use Rattle.line.specs.declared.Line.{Line}
 use Rattle.line.specs.Line.{line-of, Put, LineWritten}
 use Rattle.program.specs.Program.{line-for}
 use Rattle.program.specs.Answering.{answer-of-file, printed, FileAnswered, AnswerTold, FilePrinted}
+use Rattle.program.specs.NextFile.{file-text, NextPrinted}
 
 -- a contract on outcomes leaves one
 abbrev pub LeavesOne : {A : Type 0} → (A → Type 0) → Type 0
@@ -53,6 +56,12 @@ pub search-once : {ns xs : List ℕ} {allowance : ℕ} {work : List ℕ} {a b : 
     → Searched ns xs allowance work a after → Searched ns xs allowance work b after′ → (a ≡ b) × (after ≡ after′)
 search-once {a = a} {b} p q = (out-once a b (p .out ∙ sym (q .out)), p .leaves ∙ sym (q .leaves))
 
+pub ask-once : {ns xs : List ℕ} {allowance : ℕ} {work qs : List ℕ} {a b : Out} {after after′ qs′ qs″ : List ℕ}
+    → Asked ns xs allowance work qs a after qs′ → Asked ns xs allowance work qs b after′ qs″ → (a ≡ b) × (after ≡ after′) × (qs′ ≡ qs″)
+ask-once {ns} {xs} {qs = qs} p q =
+    let o = search-once (p .search) (q .search) in
+    (o .0, o .1, p .asks ∙ ap (λ (x : Out). asks-after (flow-by cued ns) (cue-records xs) (out-of x) qs) (o .0) ∙ sym (q .asks))
+
 ---- What writes ----
 
 -- the offset behind the text, and every byte of the room
@@ -74,3 +83,6 @@ write-line-once line out = put-once (line-of line) out 0
 
 pub write-file-line-once : (file out : List ℕ) → LeavesOne (λ (o : ℕ × List ℕ). FilePrinted file out (o .1) (o .0))
 write-file-line-once file out = put-once (printed file) out 0
+
+pub next-file-once : (file : List ℕ) (first : ℕ) (out : List ℕ) → LeavesOne (λ (o : ℕ × List ℕ). NextPrinted file first out (o .1) (o .0))
+next-file-once file first out = put-once (file-text file first) out 0

@@ -1,7 +1,8 @@
 -- The tests of the refusal table mean the conditions that Plain puts in words: 5, 7, 8 and 9 of a node (`wrong-field-means` and so
--- on), 13 with its place, in both directions (`wrong-closings-means`, `closings-when`, `closings-fine-when`), and of a file's names 19
--- and 20 (`unnamed-leaf-means`, `unnamed-event-means`). Assumes nothing.
-use Prim.Native.Nat.{ℕ, zero, suc, _<_, _≤_}
+-- on), 13 with its place, in both directions (`wrong-closings-means`, `closings-when`, `closings-fine-when`), of a beginning too
+-- (`extra-closing-means`, `extra-closing-when`, `extra-closing-fine-when`), and of a file's names 19 and 20 (`unnamed-leaf-means`,
+-- `unnamed-event-means`). Assumes nothing.
+use Prim.Native.Nat.{ℕ, zero, suc, _-_, _<_, _≤_}
 use mathlib.Core.Path.{_≡_, refl, sym, ap, _∙_, subst}
 use mathlib.Core.Bool.{Bool, true, false, not, xor, _&&_, _||_}
 use mathlib.Core.List.{List, [], _∷_}
@@ -14,15 +15,16 @@ use borrow.Author.Tests.{leb-true, le-leb}
 use Rattle.calculus.specs.Members.{or-in-left, or-in-right, or-cases, and-in, and-left, and-right}
 use Rattle.flow.specs.declared.Check.{Check}
 use Rattle.flow.specs.declared.Check.the-variants.{Fine, Refused}
+use Rattle.flow.specs.declared.Extent.the-variants.{Whole, Beginning}
 use Rattle.flow.specs.Shapes.{Kid, kid1, kid2}
 use Rattle.flow.specs.Kinds.{form, is-standard, node, one-of, two-of, shape}
 use Rattle.flow.specs.Records.{most-events, is-event-number, is-closing-number}
-use Rattle.flow.specs.Refusals.{count, has-one, has-two, wrong-field, taken, wrong-sort, child-taken, nobodys-child, closings-wanted, closed, wrong-closings, after-closings}
+use Rattle.flow.specs.Refusals.{count, has-one, has-two, wrong-field, taken, wrong-sort, child-taken, nobodys-child, closings-wanted, closed, wrong-closings, closings-place, after-closings, closings-allowed, too-many-closings, extra-closing}
 use Rattle.flow.specs.Checks.{refused, closings-check}
 use Rattle.flow.specs.Tests.{is-true}
 use Rattle.flow.specs.FirstRefusal.{is-fine}
 use Rattle.flow.specs.FineTable.{kid-taken, taken-kid}
-use Rattle.flow.specs.Closings.{event-closed, event-place, closings-fine, closings-refused, wanted-some}
+use Rattle.flow.specs.Closings.{event-closed, event-place, closings-fine, closings-refused, wanted-some, event-many, event-extra, closing-many, closing-extra, closing-over, open-fine, open-refused}
 use Rattle.format.specs.Contents.{unnamed-leaf, unnamed-event}
 use Rattle.promises.specs.Plain.{WrongField, event-out, first-unused, second-unused, WrongSort, wrong-child, ChildTaken, taken-already, same-twice, NobodysChild, closings-in, NthClosing, WrongClosings, goes-on, too-few}
 
@@ -333,10 +335,10 @@ module _ (ns rs : List ℕ) where
   place-is (goes-on {k} x h) = let s = nth-at rs wanted k x in (s .early h, s .place)
   place-is (too-few h) = few-at rs wanted h
 
-  refused-at : {place : ℕ} → WrongClosings rs wanted place → closings-check ns rs ≡ refused 13 place
+  refused-at : {place : ℕ} → WrongClosings rs wanted place → closings-check Whole ns rs ≡ refused 13 place
   refused-at {place} w = let q = place-is w in closings-refused ns rs place (q .0) (sym (q .1))
 
-  fine-at : {k : ℕ} → NthClosing rs wanted k → suc k ≡ length rs → closings-check ns rs ≡ Fine
+  fine-at : {k : ℕ} → NthClosing rs wanted k → suc k ≡ length rs → closings-check Whole ns rs ≡ Fine
   fine-at {k} x h = closings-fine ns rs (nth-at rs wanted k x .last h)
 
   -- the n-th closing is last, or 13 is given, and where
@@ -354,8 +356,8 @@ module _ (ns rs : List ℕ) where
       by (inr l) = inr (length rs, too-few l)
 
   -- 13, as it stands in the order, with its place
-  pub wrong-closings-means : (place : ℕ) → (T (wrong-closings ns rs) × (place ≡ after-closings rs wanted)) ↔ WrongClosings rs wanted place
-  unfolding wrong-closings
+  pub wrong-closings-means : (place : ℕ) → (T (wrong-closings Whole ns rs) × (place ≡ closings-place Whole ns rs)) ↔ WrongClosings rs wanted place
+  unfolding wrong-closings closings-place
   wrong-closings-means place = (λ q. by (q .0) (q .1) by-closings, of)
     where
       by : T (not (closed rs wanted)) → place ≡ after-closings rs wanted
@@ -368,22 +370,104 @@ module _ (ns rs : List ℕ) where
 
   -- 13 is given at a place exactly when it is the first after the closings that the root needs, or they are too few and it is the
   -- number of records
-  pub closings-when : (place : ℕ) → (closings-check ns rs ≡ refused 13 place) ↔ WrongClosings rs wanted place
+  pub closings-when : (place : ℕ) → (closings-check Whole ns rs ≡ refused 13 place) ↔ WrongClosings rs wanted place
   closings-when place = (λ e. by e by-closings, refused-at)
     where
-      by : closings-check ns rs ≡ refused 13 place → ((k : ℕ) × (suc k ≡ length rs) × NthClosing rs wanted k) ⊎ ((p : ℕ) × WrongClosings rs wanted p)
+      by : closings-check Whole ns rs ≡ refused 13 place → ((k : ℕ) × (suc k ≡ length rs) × NthClosing rs wanted k) ⊎ ((p : ℕ) × WrongClosings rs wanted p)
           → WrongClosings rs wanted place
       by e (inl x) = absurd (subst is-fine (sym (fine-at (x .2) (x .1)) ∙ e) tt)
       by e (inr x) = subst (WrongClosings rs wanted) (ap place-of (sym (refused-at (x .1)) ∙ e)) (x .1)
 
   -- and it is not given exactly when the last closing that the root needs is the last record
-  pub closings-fine-when : (closings-check ns rs ≡ Fine) ↔ ((k : ℕ) × (suc k ≡ length rs) × NthClosing rs wanted k)
+  pub closings-fine-when : (closings-check Whole ns rs ≡ Fine) ↔ ((k : ℕ) × (suc k ≡ length rs) × NthClosing rs wanted k)
   closings-fine-when = (λ e. by e by-closings, λ x. fine-at (x .2) (x .1))
     where
-      by : closings-check ns rs ≡ Fine → ((k : ℕ) × (suc k ≡ length rs) × NthClosing rs wanted k) ⊎ ((p : ℕ) × WrongClosings rs wanted p)
+      by : closings-check Whole ns rs ≡ Fine → ((k : ℕ) × (suc k ≡ length rs) × NthClosing rs wanted k) ⊎ ((p : ℕ) × WrongClosings rs wanted p)
           → (k : ℕ) × (suc k ≡ length rs) × NthClosing rs wanted k
       by e (inl x) = x
       by e (inr x) = absurd (subst is-fine (sym e ∙ refused-at (x .1)) tt)
+
+---- The closings of a beginning ----
+
+-- where the closing behind n others stands at k, there are too many, and it is the one
+nth-open : (rs : List ℕ) (n k : ℕ) → NthClosing rs (suc n) k → (too-many-closings rs n ≡ true) × (extra-closing rs n ≡ k)
+unfolding is-closing-number closings-in
+nth-open [] n k x = absurd (subst (λ (b : Bool). T (not b)) (x .closing) tt)
+nth-open (r ∷ rs) n zero x =
+    let c = count-closing r [] (x .closing) in
+    let e : 0 ≡ n = omega (arith, x .nth) in
+    subst (λ (m : ℕ). (too-many-closings (r ∷ rs) m ≡ true) × (extra-closing (r ∷ rs) m ≡ 0)) e (closing-over r rs (x .closing))
+nth-open (r ∷ rs) n (suc k) x = by (is-closing-number r) refl (nth-open rs)
+  where
+    by : (b : Bool) → is-closing-number r ≡ b → ((m j : ℕ) → NthClosing rs (suc m) j → (too-many-closings rs m ≡ true) × (extra-closing rs m ≡ j))
+        → (too-many-closings (r ∷ rs) n ≡ true) × (extra-closing (r ∷ rs) n ≡ suc k)
+    by true e rec =
+        let c = count-closing r (take (suc k) rs) e in
+        let s = nth-at rs (closings-in (take (suc k) rs)) k (record { closing = x .closing; nth = refl }) in
+        let some : 1 ≤ n = omega (arith, x .nth, s .some) in
+        let q = rec (n - 1) k (record { closing = x .closing; nth = omega (arith, x .nth) }) in
+        (closing-many r rs n some e ∙ q .0, closing-extra r rs n some e ∙ ap suc (q .1))
+    by false e rec =
+        let q = rec n k (record { closing = x .closing; nth = sym (count-event r (take (suc k) rs) e) ∙ x .nth }) in
+        (event-many r rs n e ∙ q .0, event-extra r rs n e ∙ ap suc (q .1))
+
+few-open : (rs : List ℕ) (n : ℕ) → closings-in rs ≤ n → too-many-closings rs n ≡ false
+unfolding too-many-closings closings-in
+few-open [] n h = refl
+few-open (r ∷ rs) n h = by (is-closing-number r) refl (few-open rs)
+  where
+    by : (b : Bool) → is-closing-number r ≡ b → ((m : ℕ) → closings-in rs ≤ m → too-many-closings rs m ≡ false) → too-many-closings (r ∷ rs) n ≡ false
+    by true e rec = let c = count-closing r rs e in closing-many r rs n (omega arith) e ∙ rec (n - 1) (omega arith)
+    by false e rec = let c = count-event r rs e in event-many r rs n e ∙ rec n (omega arith)
+
+module _ (ns rs : List ℕ) where
+  -- one more than is allowed
+  wanted-over : suc (closings-allowed ns) ≡ closings-wanted ns
+  unfolding closings-allowed
+  wanted-over = omega (arith, wanted-some ns)
+
+  at-extra : {place : ℕ} → NthClosing rs (closings-wanted ns) place → (too-many-closings rs (closings-allowed ns) ≡ true) × (extra-closing rs (closings-allowed ns) ≡ place)
+  at-extra {place} x = nth-open rs (closings-allowed ns) place (subst (λ (n : ℕ). NthClosing rs n place) (sym wanted-over) x)
+
+  refused-extra : {place : ℕ} → NthClosing rs (closings-wanted ns) place → closings-check Beginning ns rs ≡ refused 13 place
+  refused-extra {place} x = let q = at-extra x in open-refused ns rs place (q .0) (sym (q .1))
+
+  fine-open : closings-in rs < closings-wanted ns → closings-check Beginning ns rs ≡ Fine
+  fine-open h = open-fine ns rs (few-open rs (closings-allowed ns) (omega (arith, wanted-over)))
+
+  by-extra : ((k : ℕ) × (suc k ≤ length rs) × NthClosing rs (closings-wanted ns) k) ⊎ (closings-in rs < closings-wanted ns)
+  by-extra = find-nth rs (closings-wanted ns) (wanted-some ns)
+
+  -- 13 of a beginning, as it stands in the order, with its place: the last closing that the root needs, so any of a standard root and the
+  -- second of a compensable one
+  pub extra-closing-means : (place : ℕ) → (T (wrong-closings Beginning ns rs) × (place ≡ closings-place Beginning ns rs)) ↔ NthClosing rs (closings-wanted ns) place
+  unfolding wrong-closings closings-place
+  extra-closing-means place = (λ q. by (q .0) (q .1) by-extra, of)
+    where
+      by : T (too-many-closings rs (closings-allowed ns)) → place ≡ extra-closing rs (closings-allowed ns)
+          → ((k : ℕ) × (suc k ≤ length rs) × NthClosing rs (closings-wanted ns) k) ⊎ (closings-in rs < closings-wanted ns) → NthClosing rs (closings-wanted ns) place
+      by t e (inl x) = subst (NthClosing rs (closings-wanted ns)) (sym (at-extra (x .2) .1) ∙ sym e) (x .2)
+      by t e (inr h) = absurd (subst T (few-open rs (closings-allowed ns) (omega (arith, wanted-over))) t)
+
+      of : NthClosing rs (closings-wanted ns) place → T (too-many-closings rs (closings-allowed ns)) × (place ≡ extra-closing rs (closings-allowed ns))
+      of x = let q = at-extra x in (subst T (sym (q .0)) tt, sym (q .1))
+
+  -- it is given at a place exactly when that closing stands there
+  pub extra-closing-when : (place : ℕ) → (closings-check Beginning ns rs ≡ refused 13 place) ↔ NthClosing rs (closings-wanted ns) place
+  extra-closing-when place = (λ e. by e by-extra, refused-extra)
+    where
+      by : closings-check Beginning ns rs ≡ refused 13 place → ((k : ℕ) × (suc k ≤ length rs) × NthClosing rs (closings-wanted ns) k) ⊎ (closings-in rs < closings-wanted ns)
+          → NthClosing rs (closings-wanted ns) place
+      by e (inl x) = subst (NthClosing rs (closings-wanted ns)) (ap place-of (sym (refused-extra (x .2)) ∙ e)) (x .2)
+      by e (inr h) = absurd (subst is-fine (sym (fine-open h) ∙ e) tt)
+
+  -- and it is not given exactly when there are fewer closings than the root needs
+  pub extra-closing-fine-when : (closings-check Beginning ns rs ≡ Fine) ↔ (closings-in rs < closings-wanted ns)
+  extra-closing-fine-when = (λ e. by e by-extra, fine-open)
+    where
+      by : closings-check Beginning ns rs ≡ Fine → ((k : ℕ) × (suc k ≤ length rs) × NthClosing rs (closings-wanted ns) k) ⊎ (closings-in rs < closings-wanted ns) → closings-in rs < closings-wanted ns
+      by e (inl x) = absurd (subst is-fine (sym e ∙ refused-extra (x .2)) tt)
+      by e (inr h) = h
 
 ---- The names of a file ----
 

@@ -10,7 +10,7 @@ use lib.ListN.{length, drop, replicate}
 use Rattle.calculus.specs.Search as search
 use Rattle.flow.specs.Trees.{descend}
 use Rattle.flow.specs.Records.{record-of, is-event-number, is-closing-number}
-use Rattle.flow.specs.Refusals.{no-nodes, not-whole, too-many-nodes, unknown-kind, wrong-field, not-lower, is-child, taken, wrong-sort, child-taken, nobodys-child, no-records, too-many-records, no-record, closings-wanted, closed, wrong-closings, after-closings, node-grounds, child-grounds, value-grounds}
+use Rattle.flow.specs.Refusals.{no-nodes, not-whole, too-many-nodes, unknown-kind, wrong-field, not-lower, is-child, taken, wrong-sort, child-taken, nobodys-child, no-records, too-many-records, no-record, closings-wanted, closed, wrong-closings, closings-place, after-closings, node-grounds, child-grounds, value-grounds}
 use Rattle.flow.specs.Checks.{or-else-check, answer, first, each}
 use Rattle.flow.specs.Drawn.{made, drawn, flow-by}
 use Rattle.format.specs.Format.{number-bytes, numbers-bytes, name-bytes, entry-bytes, entries-bytes, names-section, numbers-section, encode}
@@ -38,7 +38,7 @@ use Rattle.promises.specs.Worked.{worked, worked-read}
 -- a program that only refuses, or has one verdict, fails at the worked file; one that judges whatever it gets at a file of no bytes
 
 worked-judged : judged-named (names-of (encode worked)) (worked .nodes) (worked .records) work-lent states-allowed ≡ Accepted (record { place = 3; count = 4 })
-unfolding names-of scanned encode names-section numbers-section entries-bytes entry-bytes name-bytes numbers-bytes number-bytes run _>>=_ byte number ranged name entry same-bytes same-step same-entry met new-entry entries names unnamed-leaf unnamed-event nothing-behind section-alone entries-of entries-in by-entries named-check matches no-machine judged-by unless-refused answer-of named-judge-check too-short room-of search.judge flow-by drawn made descend first answer or-else-check each no-nodes not-whole too-many-nodes unknown-kind wrong-field not-lower is-child taken wrong-sort child-taken nobodys-child no-records too-many-records no-record closings-wanted closed wrong-closings after-closings node-grounds child-grounds value-grounds record-of is-event-number is-closing-number xor
+unfolding names-of scanned encode names-section numbers-section entries-bytes entry-bytes name-bytes numbers-bytes number-bytes run _>>=_ byte number ranged name entry same-bytes same-step same-entry met new-entry entries names unnamed-leaf unnamed-event nothing-behind section-alone entries-of entries-in by-entries named-check matches no-machine judged-by unless-refused answer-of named-judge-check too-short room-of search.judge flow-by drawn made descend first answer or-else-check each no-nodes not-whole too-many-nodes unknown-kind wrong-field not-lower is-child taken wrong-sort child-taken nobodys-child no-records too-many-records no-record closings-wanted closed wrong-closings closings-place after-closings node-grounds child-grounds value-grounds record-of is-event-number is-closing-number xor
 worked-judged = refl
 
 worked-is : answer-of-file (encode worked) ≡ Accepted (record { place = 3; count = 4 })

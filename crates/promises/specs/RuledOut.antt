@@ -8,9 +8,10 @@ use lib.ListN.{replicate}
 use Rattle.calculus.specs.Search as search
 use Rattle.flow.specs.declared.Check.{Check}
 use Rattle.flow.specs.declared.Check.the-variants.{Fine}
+use Rattle.flow.specs.declared.Extent.the-variants.{Whole, Beginning}
 use Rattle.flow.specs.Trees.{descend}
 use Rattle.flow.specs.Records.{record-of, is-event-number, is-closing-number}
-use Rattle.flow.specs.Refusals.{no-nodes, not-whole, too-many-nodes, unknown-kind, wrong-field, not-lower, is-child, taken, wrong-sort, child-taken, nobodys-child, no-records, too-many-records, no-record, closings-wanted, closed, wrong-closings, after-closings, node-grounds, child-grounds, value-grounds}
+use Rattle.flow.specs.Refusals.{no-nodes, not-whole, too-many-nodes, unknown-kind, wrong-field, not-lower, is-child, taken, wrong-sort, child-taken, nobodys-child, no-records, too-many-records, no-record, closings-wanted, closed, wrong-closings, closings-place, after-closings, closings-allowed, too-many-closings, extra-closing, node-grounds, child-grounds, value-grounds}
 use Rattle.flow.specs.Checks.{refused, first, answer, or-else-check, each, nodes-check, table-check, values-check, closings-check, records-check}
 use Rattle.flow.specs.Drawn.{made, drawn, flow-by}
 use Rattle.judge.specs.Judged.{VerdictWord, Told, told, verdict, refusal, room-of, too-short, judge-check, answer-of, unless-refused, judged-by, judged, cleared, bytes-by, work-after}
@@ -69,17 +70,17 @@ abbrev told-of : Line → Told
 told-of l = told (judged (l .nodes) (l .batch) (l .room) (l .allowance))
 
 pub lines-told : map told-of lines ≡ map (λ l. l .answer) lines
-unfolding lines told judged-by unless-refused answer-of judge-check too-short room-of search.judge flow-by drawn made descend first answer or-else-check each no-nodes not-whole too-many-nodes unknown-kind wrong-field not-lower is-child taken wrong-sort child-taken nobodys-child no-records too-many-records no-record closings-wanted closed wrong-closings after-closings node-grounds child-grounds value-grounds record-of is-event-number is-closing-number xor
+unfolding lines told judged-by unless-refused answer-of judge-check too-short room-of search.judge flow-by drawn made descend first answer or-else-check each no-nodes not-whole too-many-nodes unknown-kind wrong-field not-lower is-child taken wrong-sort child-taken nobodys-child no-records too-many-records no-record closings-wanted closed wrong-closings closings-place after-closings node-grounds child-grounds value-grounds record-of is-event-number is-closing-number xor
 lines-told = refl
 
 -- A judge that touches nothing, or clears too little, leaves bytes that are not zero: of 50 bytes lent the first 48 are cleared.
 pub bytes-cleared : work-after nodes batch (replicate 50 7) ≡ replicate 48 0 ++ replicate 2 7
-unfolding bytes-by unless-refused cleared judge-check too-short room-of first answer or-else-check each no-nodes not-whole too-many-nodes unknown-kind wrong-field not-lower is-child taken wrong-sort child-taken nobodys-child no-records too-many-records no-record closings-wanted closed wrong-closings after-closings node-grounds child-grounds value-grounds record-of is-event-number is-closing-number xor
+unfolding bytes-by unless-refused cleared judge-check too-short room-of first answer or-else-check each no-nodes not-whole too-many-nodes unknown-kind wrong-field not-lower is-child taken wrong-sort child-taken nobodys-child no-records too-many-records no-record closings-wanted closed wrong-closings closings-place after-closings node-grounds child-grounds value-grounds record-of is-event-number is-closing-number xor
 bytes-cleared = refl
 
 -- A refusal that clears the bytes lent: here 14.
 pub bytes-kept : work-after nodes batch (replicate 47 7) ≡ replicate 47 7
-unfolding bytes-by unless-refused cleared judge-check too-short room-of first answer or-else-check each no-nodes not-whole too-many-nodes unknown-kind wrong-field not-lower is-child taken wrong-sort child-taken nobodys-child no-records too-many-records no-record closings-wanted closed wrong-closings after-closings node-grounds child-grounds value-grounds record-of is-event-number is-closing-number xor
+unfolding bytes-by unless-refused cleared judge-check too-short room-of first answer or-else-check each no-nodes not-whole too-many-nodes unknown-kind wrong-field not-lower is-child taken wrong-sort child-taken nobodys-child no-records too-many-records no-record closings-wanted closed wrong-closings closings-place after-closings node-grounds child-grounds value-grounds record-of is-event-number is-closing-number xor
 bytes-kept = refl
 
 ---- The checks ----
@@ -115,23 +116,32 @@ check-lines =
     ∷ (nodes-check (2 ∷ 0 ∷ 0 ∷ 0 ∷ 0 ∷ 0 ∷ []), refused 4 1)
     ∷ (nodes-check (9 ∷ 0 ∷ 0 ∷ 0 ∷ 0 ∷ 0 ∷ []), refused 6 0)
     -- `check_records`: none, too many, and 12 of any record before 13
-    ∷ (records-check skip [], refused 10 0)
-    ∷ (records-check skip (replicate 257 1), refused 11 0)
-    ∷ (records-check skip (61441 ∷ 1 ∷ 257 ∷ []), refused 12 2)
+    ∷ (records-check Whole skip [], refused 10 0)
+    ∷ (records-check Whole skip (replicate 257 1), refused 11 0)
+    ∷ (records-check Whole skip (61441 ∷ 1 ∷ 257 ∷ []), refused 12 2)
     -- `check_values`: 0, 257, the number below the closings, and the last closing
     ∷ (values-check (0 ∷ []), refused 12 0)
     ∷ (values-check (1 ∷ 257 ∷ 0 ∷ []), refused 12 1)
     ∷ (values-check (61440 ∷ []), refused 12 0)
     ∷ (values-check (61443 ∷ []), Fine)
     -- `check_closings`: the record after the closing, too few, and the two of a compensable root
-    ∷ (closings-check skip (61441 ∷ 1 ∷ 1 ∷ []), refused 13 1)
-    ∷ (closings-check skip (1 ∷ 1 ∷ []), refused 13 2)
-    ∷ (closings-check skip (61443 ∷ []), Fine)
-    ∷ (closings-check skipp (61441 ∷ []), refused 13 1)
-    ∷ (closings-check skipp (61441 ∷ 1 ∷ 61442 ∷ 61443 ∷ []), refused 13 3)
-    ∷ (closings-check skipp (61441 ∷ 61443 ∷ []), Fine)
+    ∷ (closings-check Whole skip (61441 ∷ 1 ∷ 1 ∷ []), refused 13 1)
+    ∷ (closings-check Whole skip (1 ∷ 1 ∷ []), refused 13 2)
+    ∷ (closings-check Whole skip (61443 ∷ []), Fine)
+    ∷ (closings-check Whole skipp (61441 ∷ []), refused 13 1)
+    ∷ (closings-check Whole skipp (61441 ∷ 1 ∷ 61442 ∷ 61443 ∷ []), refused 13 3)
+    ∷ (closings-check Whole skipp (61441 ∷ 61443 ∷ []), Fine)
+    -- of a beginning: none are fine, too many are not, 12 of any record before 13; the closing of a standard root, and the second of a
+    -- compensable one
+    ∷ (records-check Beginning skip [], Fine)
+    ∷ (records-check Beginning skip (replicate 257 1), refused 11 0)
+    ∷ (records-check Beginning skip (61441 ∷ 1 ∷ 257 ∷ []), refused 12 2)
+    ∷ (closings-check Beginning skip (1 ∷ 61441 ∷ 1 ∷ []), refused 13 1)
+    ∷ (closings-check Beginning skip (1 ∷ 1 ∷ []), Fine)
+    ∷ (closings-check Beginning skipp (1 ∷ 61441 ∷ 1 ∷ []), Fine)
+    ∷ (closings-check Beginning skipp (61441 ∷ 1 ∷ 61442 ∷ 61443 ∷ []), refused 13 2)
     ∷ []
 
 pub checks-told : map (λ l. l .0) check-lines ≡ map (λ l. l .1) check-lines
-unfolding check-lines first answer or-else-check each no-nodes not-whole too-many-nodes unknown-kind wrong-field not-lower is-child taken wrong-sort child-taken nobodys-child no-records too-many-records no-record closings-wanted closed wrong-closings after-closings node-grounds child-grounds value-grounds is-event-number is-closing-number xor nodes-check table-check values-check closings-check records-check
+unfolding check-lines first answer or-else-check each no-nodes not-whole too-many-nodes unknown-kind wrong-field not-lower is-child taken wrong-sort child-taken nobodys-child no-records too-many-records no-record closings-wanted closed wrong-closings closings-place closings-allowed too-many-closings extra-closing after-closings node-grounds child-grounds value-grounds is-event-number is-closing-number xor nodes-check table-check values-check closings-check records-check
 checks-told = refl

@@ -13,6 +13,7 @@ use Rattle.calculus.specs.Records.{Record, Complete, InTraces}
 use Rattle.calculus.specs.Leaves.{EachLeafState, SameLeaf}
 use Rattle.calculus.specs.SpelledTraces.{spelled-in-traces, spelled-complete}
 use Rattle.flow.specs.declared.Check.the-variants.{Fine}
+use Rattle.flow.specs.declared.Extent.the-variants.{Whole}
 use Rattle.flow.specs.declared.Node.the-variants.{Event}
 use Rattle.flow.specs.Tests.{is-false}
 use Rattle.flow.specs.Kinds.{node}
@@ -56,7 +57,7 @@ module _ (es : List Entry) (good : GoodNames es) (ns : List ℕ) (passed : table
 module _ (es : List Entry) (good : GoodNames es) (ns rs : List ℕ) (room allowance : ℕ)
     (judged-so : told (judged-named (names-section es) ns rs room allowance) .word ≡ VerdictWord.refused → ⊥)
     (decided : told (judged-named (names-section es) ns rs room allowance) .word ≡ VerdictWord.undecided → ⊥) where
-  lists : ListsPassed (names-section es) ns rs
+  lists : ListsPassed Whole (names-section es) ns rs
   lists = named-lists ns rs room (names-section es) (not-refused-fine (named-judge-check (names-section es) ns rs room) (named-flow (names-section es) ns) rs allowance judged-so)
 
   -- what is judged has an entry for each event

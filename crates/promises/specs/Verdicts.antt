@@ -23,9 +23,11 @@ use Rattle.flow.specs.declared.Refusal.{Refusal}
 use Rattle.flow.specs.declared.Check.{Check}
 use Rattle.flow.specs.declared.Check.the-variants.{Fine}
 use Rattle.flow.specs.declared.Check.the-variants as check
+use Rattle.flow.specs.declared.Extent.{Extent}
+use Rattle.flow.specs.declared.Extent.the-variants.{Whole, Beginning}
 use Rattle.flow.specs.Kinds.{node, is-standard}
 use Rattle.flow.specs.Records.{records}
-use Rattle.flow.specs.Refusals.{root, wrong-closings, closings-wanted}
+use Rattle.flow.specs.Refusals.{root, wrong-closings, closings-place, closings-wanted, closings-allowed}
 use Rattle.flow.specs.Checks.{or-else-check, table-check, records-check}
 use Rattle.flow.specs.Drawn.{flow-by}
 use Rattle.flow.specs.FineTable.{fine-table}
@@ -193,12 +195,12 @@ module _ {c c′ : Check} {flow flow′ : State} (same : c ≡ c′) (redrawn : 
 
 module _ (ns rs : List ℕ) (room : ℕ) where
   -- a fine table with room enough is refused as its records are
-  pub records-decide : table-check ns ≡ Fine → room-wanted ns rs ≤ room → judge-check ns rs room ≡ records-check ns rs
+  pub records-decide : table-check ns ≡ Fine → room-wanted ns rs ≤ room → judge-check ns rs room ≡ records-check Whole ns rs
   unfolding or-else-check
   records-decide t h =
       check-parts ns rs room
-      ∙ ap (λ (c : Check). or-else-check c (or-else-check (records-check ns rs) (room-check ns rs room))) t
-      ∙ by (records-check ns rs) (room-check ns rs room) (room-passes ns rs room h)
+      ∙ ap (λ (c : Check). or-else-check c (or-else-check (records-check Whole ns rs) (room-check ns rs room))) t
+      ∙ by (records-check Whole ns rs) (room-check ns rs room) (room-passes ns rs room h)
     where
       by : (c d : Check) → d ≡ Fine → or-else-check Fine (or-else-check c d) ≡ c
       by Fine d e = e
@@ -225,6 +227,7 @@ module _ (leaves : ℕ → Leaf) (ns ns′ : List ℕ) (fine : table-check ns �
       by true e false d = absurd (redrawn-mixed h (flow-standard leaves ns (fine-table ns fine) e .1) (flow-compensable leaves ns′ (fine-table ns′ fine′) d .1))
       by false e true d = absurd (mixed-redrawn h (flow-compensable leaves ns (fine-table ns fine) e .1) (flow-standard leaves ns′ (fine-table ns′ fine′) d .1))
 
-  pub redrawn-records : (rs : List ℕ) → records-check ns rs ≡ records-check ns′ rs
-  unfolding records-check wrong-closings
-  redrawn-records rs = rw redrawn-closings
+  pub redrawn-records : (extent : Extent) (rs : List ℕ) → records-check extent ns rs ≡ records-check extent ns′ rs
+  unfolding records-check wrong-closings closings-place closings-allowed
+  redrawn-records Whole rs = rw redrawn-closings
+  redrawn-records Beginning rs = rw redrawn-closings

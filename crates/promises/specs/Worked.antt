@@ -7,7 +7,7 @@ use mathlib.Core.List.{List, [], _∷_, _++_, map}
 use mathlib.Core.Path.{_≡_, refl}
 use lib.ListN.{length, take}
 use Rattle.flow.specs.Records.{is-event-number, is-closing-number}
-use Rattle.flow.specs.Refusals.{no-nodes, not-whole, too-many-nodes, unknown-kind, wrong-field, not-lower, is-child, taken, wrong-sort, child-taken, nobodys-child, no-records, too-many-records, no-record, closings-wanted, closed, wrong-closings, after-closings, node-grounds, child-grounds, value-grounds}
+use Rattle.flow.specs.Refusals.{no-nodes, not-whole, too-many-nodes, unknown-kind, wrong-field, not-lower, is-child, taken, wrong-sort, child-taken, nobodys-child, no-records, too-many-records, no-record, closings-wanted, closed, wrong-closings, closings-place, after-closings, node-grounds, child-grounds, value-grounds}
 use Rattle.flow.specs.Checks.{or-else-check, answer, first, each, table-check, nodes-check, values-check, closings-check, records-check}
 use Rattle.format.specs.Format.{number-bytes, numbers-bytes, name-bytes, entry-bytes, entries-bytes, names-section, numbers-section, File, encode}
 use Rattle.format.specs.Plan.{_>>=_, run}
@@ -36,7 +36,7 @@ worked-length = refl
 
 -- it is read: two names, six nodes, three records, and its numbers
 pub worked-read : reading (encode worked) 192 256 ≡ read-outcome worked
-unfolding xor encode names-section numbers-section entries-bytes entry-bytes name-bytes numbers-bytes number-bytes run _>>=_ byte number ranged name entry same-bytes same-step same-entry met new-entry entries names numbers section layout unnamed-leaf unnamed-event leaves-grounds events-grounds grounds-of checked laid reading reported is-event-number is-closing-number no-nodes not-whole too-many-nodes unknown-kind wrong-field not-lower is-child taken wrong-sort child-taken nobodys-child no-records too-many-records no-record closings-wanted closed wrong-closings after-closings or-else-check answer first each node-grounds child-grounds value-grounds table-check nodes-check values-check closings-check records-check
+unfolding xor encode names-section numbers-section entries-bytes entry-bytes name-bytes numbers-bytes number-bytes run _>>=_ byte number ranged name entry same-bytes same-step same-entry met new-entry entries names numbers section layout unnamed-leaf unnamed-event leaves-grounds events-grounds grounds-of checked laid reading reported is-event-number is-closing-number no-nodes not-whole too-many-nodes unknown-kind wrong-field not-lower is-child taken wrong-sort child-taken nobodys-child no-records too-many-records no-record closings-wanted closed wrong-closings closings-place after-closings or-else-check answer first each node-grounds child-grounds value-grounds table-check nodes-check values-check closings-check records-check
 worked-read = refl
 
 ---- Readers that are ruled out ----
@@ -66,7 +66,7 @@ file-lines =
     ∷ []
 
 pub file-lines-read : map (λ l. reported (reading (l .file) (l .room) 256 .answer)) file-lines ≡ map (λ l. l .report) file-lines
-unfolding file-lines xor encode names-section numbers-section entries-bytes entry-bytes name-bytes numbers-bytes number-bytes run _>>=_ byte number ranged name entry same-bytes same-step same-entry met new-entry entries names numbers section layout unnamed-leaf unnamed-event leaves-grounds events-grounds grounds-of checked laid reading reported is-event-number is-closing-number no-nodes not-whole too-many-nodes unknown-kind wrong-field not-lower is-child taken wrong-sort child-taken nobodys-child no-records too-many-records no-record closings-wanted closed wrong-closings after-closings or-else-check answer first each node-grounds child-grounds value-grounds table-check nodes-check values-check closings-check records-check
+unfolding file-lines xor encode names-section numbers-section entries-bytes entry-bytes name-bytes numbers-bytes number-bytes run _>>=_ byte number ranged name entry same-bytes same-step same-entry met new-entry entries names numbers section layout unnamed-leaf unnamed-event leaves-grounds events-grounds grounds-of checked laid reading reported is-event-number is-closing-number no-nodes not-whole too-many-nodes unknown-kind wrong-field not-lower is-child taken wrong-sort child-taken nobodys-child no-records too-many-records no-record closings-wanted closed wrong-closings closings-place after-closings or-else-check answer first each node-grounds child-grounds value-grounds table-check nodes-check values-check closings-check records-check
 file-lines-read = refl
 
 ---- Scans of names that are ruled out ----

@@ -13,6 +13,7 @@ use lib.ListN.{length}
 use Rattle.flow.specs.Tests.{is-false}
 use Rattle.flow.specs.declared.Check.{Check}
 use Rattle.flow.specs.declared.Check.the-variants as check
+use Rattle.flow.specs.declared.Extent.the-variants.{Whole}
 use Rattle.flow.specs.Refusals.{ground, Round, lone, count, no-nodes, not-whole, too-many-nodes, no-records, too-many-records, table-length-order, records-length-order}
 use Rattle.flow.specs.Checks.{table-length-check, records-length-check}
 use Rattle.flow.specs.Earliest.{Nowhere, end, not-lone}
@@ -47,10 +48,10 @@ table-length-good ns = (
 )
 
 -- 10 and 11 say the same of the records
-pub records-length-good : (rs : List ℕ) → Nowhere (records-length-order rs) ↔ GoodNumbers record-count 1 rs
+pub records-length-good : (rs : List ℕ) → Nowhere (records-length-order Whole rs) ↔ GoodNumbers record-count 1 rs
 unfolding records-length-check no-records too-many-records
 records-length-good rs = (
-  λ n. let f = fine-records-length rs (nowhere-exactly (records-length-order rs) .1 n) in
+  λ n. let f = fine-records-length rs (nowhere-exactly (records-length-order Whole rs) .1 n) in
       record { n = length rs; whole = omega arith; counted = record { low = f .0; high = f .1 } },
   λ g. let none : no-records rs ≡ false = ne-eqb (length rs) 0 (λ e. omega (arith, g .whole, g .counted .low)) in
       let many : too-many-records rs ≡ false = le-ltb 256 (length rs) (omega (arith, g .whole, g .counted .high)) in
@@ -59,10 +60,10 @@ records-length-good rs = (
 
 -- nothing is refused of lists exactly if they are good numbers and hold nothing that is refused of a file
 pub writable-lists : (names : ℕ) (ns rs : List ℕ)
-    → Nowhere (lists-order names ns rs) ↔ (GoodNumbers node-count 3 ns × GoodNumbers record-count 1 rs × Nowhere (content-order names ns rs))
+    → Nowhere (lists-order Whole names ns rs) ↔ (GoodNumbers node-count 3 ns × GoodNumbers record-count 1 rs × Nowhere (content-order Whole names ns rs))
 writable-lists names ns rs = (
-  λ n. let a = nowhere-parts (table-length-order ns) (records-length-order rs ++ content-order names ns rs) n in
-      let b = nowhere-parts (records-length-order rs) (content-order names ns rs) (a .1) in
+  λ n. let a = nowhere-parts (table-length-order ns) (records-length-order Whole rs ++ content-order Whole names ns rs) n in
+      let b = nowhere-parts (records-length-order Whole rs) (content-order Whole names ns rs) (a .1) in
       (table-length-good ns .0 (a .0), records-length-good rs .0 (b .0), b .1),
   λ x. nowhere-both (table-length-good ns .1 (x .0)) (nowhere-both (records-length-good rs .1 (x .1)) (x .2)),
 )
@@ -85,7 +86,7 @@ module _ (s ns rs : List ℕ) (room : ℕ) where
 
   same-order : (es : List Entry) → s ≡ names-section es → order-by-bytes s ns rs room es ≡ write-order ns rs room es
   same-order es e =
-      ap (λ (xs : List ℕ). lists-order (length es) ns rs ++ (lone (ground 14 0 (ltb room (length xs))) ∷ [])) (lists-encoded es e)
+      ap (λ (xs : List ℕ). lists-order Whole (length es) ns rs ++ (lone (ground 14 0 (ltb room (length xs))) ∷ [])) (lists-encoded es e)
 
   -- lists that are writable are the bytes of their file, and nothing is refused of them
   pub writable-bytes : {f : File} → Writable s ns rs room f → lists-bytes s ns rs ≡ encode f
@@ -101,8 +102,8 @@ module _ (s ns rs : List ℕ) (room : ℕ) where
   writable-fine {f} w =
       let n : GoodNumbers node-count 3 ns = subst (GoodNumbers node-count 3) (sym (w .nodes-lent)) (w .within .nodes) in
       let k : GoodNumbers record-count 1 rs = subst (GoodNumbers record-count 1) (sym (w .records-lent)) (w .within .records) in
-      let c : Nowhere (content-order (length (f .names)) ns rs) =
-      subst Nowhere (λ i. content-order (length (f .names)) (sym (w .nodes-lent) i) (sym (w .records-lent) i)) (w .fine) in
+      let c : Nowhere (content-order Whole (length (f .names)) ns rs) =
+      subst Nowhere (λ i. content-order Whole (length (f .names)) (sym (w .nodes-lent) i) (sym (w .records-lent) i)) (w .fine) in
       let l : length (lists-bytes s ns rs) ≤ room = omega (arith, w .room-enough, ap length (writable-bytes w)) in
       let r : Nowhere room-order = not-lone (fails (le-ltb room (length (lists-bytes s ns rs)) l)) end in
       named-passes s (order-by-bytes s ns rs room) (f .names) (w .within .names) (w .names-lent)
@@ -113,7 +114,7 @@ module _ (s ns rs : List ℕ) (room : ℕ) where
   unfolding write-check
   fine-writable bytes e = by (named-fine s (order-by-bytes s ns rs room) bytes .0 e)
     where
-      by-room : (es : List Entry) → GoodNames es → s ≡ names-section es → Nowhere (lists-order (length es) ns rs)
+      by-room : (es : List Entry) → GoodNames es → s ≡ names-section es → Nowhere (lists-order Whole (length es) ns rs)
           → Nowhere room-order → (f : File) × Writable s ns rs room f
       by-room es g d n (not-lone t end) =
           let x = writable-lists (length es) ns rs .0 n in
@@ -131,7 +132,7 @@ module _ (s ns rs : List ℕ) (room : ℕ) where
 
       by : ((es : List Entry) × GoodNames es × (s ≡ names-section es) × Nowhere (order-by-bytes s ns rs room es)) → (f : File) × Writable s ns rs room f
       by x =
-          let n = nowhere-parts (lists-order (length (x .0)) ns rs) room-order (x .3) in
+          let n = nowhere-parts (lists-order Whole (length (x .0)) ns rs) room-order (x .3) in
           by-room (x .0) (x .1) (x .2) (n .0) (n .1)
 
   -- each way of a refusal is answered so, and every refusal is one of these ways

@@ -6,7 +6,7 @@ use mathlib.Core.List.{List, [], _∷_, _++_, map}
 use mathlib.Core.Path.{_≡_, refl, ap, _∙_}
 use lib.ListN.{length, take, drop, replicate}
 use Rattle.flow.specs.Records.{is-event-number, is-closing-number}
-use Rattle.flow.specs.Refusals.{no-nodes, not-whole, too-many-nodes, unknown-kind, wrong-field, not-lower, is-child, taken, wrong-sort, child-taken, nobodys-child, no-records, too-many-records, no-record, closings-wanted, closed, wrong-closings, after-closings, node-grounds, child-grounds, value-grounds}
+use Rattle.flow.specs.Refusals.{no-nodes, not-whole, too-many-nodes, unknown-kind, wrong-field, not-lower, is-child, taken, wrong-sort, child-taken, nobodys-child, no-records, too-many-records, no-record, closings-wanted, closed, wrong-closings, closings-place, after-closings, node-grounds, child-grounds, value-grounds}
 use Rattle.flow.specs.Checks.{or-else-check, answer, first, each}
 use Rattle.format.specs.Format.{number-bytes, numbers-bytes, name-bytes, entry-bytes, entries-bytes, names-section, numbers-section, encode}
 use Rattle.format.specs.Plan.{_>>=_, run}
@@ -55,7 +55,7 @@ write-lines =
     ∷ []
 
 pub write-lines-told : map (λ l. writing-told (writing (l .names) (l .nodes) (l .records) (l .room))) write-lines ≡ map (λ l. l .told) write-lines
-unfolding write-lines xor names-section numbers-section entries-bytes entry-bytes name-bytes numbers-bytes number-bytes run _>>=_ byte number ranged name entry same-bytes same-step same-entry met new-entry entries names unnamed-leaf unnamed-event is-event-number is-closing-number no-nodes not-whole too-many-nodes unknown-kind wrong-field not-lower is-child taken wrong-sort child-taken nobodys-child no-records too-many-records no-record closings-wanted closed wrong-closings after-closings or-else-check answer first each node-grounds child-grounds value-grounds nothing-behind section-alone by-entries named-check lists-bytes write-check wrote writing-told
+unfolding write-lines xor names-section numbers-section entries-bytes entry-bytes name-bytes numbers-bytes number-bytes run _>>=_ byte number ranged name entry same-bytes same-step same-entry met new-entry entries names unnamed-leaf unnamed-event is-event-number is-closing-number no-nodes not-whole too-many-nodes unknown-kind wrong-field not-lower is-child taken wrong-sort child-taken nobodys-child no-records too-many-records no-record closings-wanted closed wrong-closings closings-place after-closings or-else-check answer first each node-grounds child-grounds value-grounds nothing-behind section-alone by-entries named-check lists-bytes write-check wrote writing-told
 write-lines-told = refl
 
 ---- What is written ----
@@ -66,12 +66,12 @@ written-to nodes n = at-front (bytes-first section nodes (worked .records) n) (r
 
 -- a byte behind the end stays; the names section is the first bytes as it was lent, with its count once, and the count of nodes follows it
 worked-bytes : written-to (worked .nodes) 66 ≡ section ++ (6 ∷ 0 ∷ (drop 21 (encode worked) ++ (7 ∷ [])))
-unfolding written-to xor encode names-section numbers-section entries-bytes entry-bytes name-bytes numbers-bytes number-bytes run _>>=_ byte number ranged name entry same-bytes same-step same-entry met new-entry entries names unnamed-leaf unnamed-event is-event-number is-closing-number no-nodes not-whole too-many-nodes unknown-kind wrong-field not-lower is-child taken wrong-sort child-taken nobodys-child no-records too-many-records no-record closings-wanted closed wrong-closings after-closings or-else-check answer first each node-grounds child-grounds value-grounds nothing-behind section-alone by-entries named-check lists-bytes write-check put-first
+unfolding written-to xor encode names-section numbers-section entries-bytes entry-bytes name-bytes numbers-bytes number-bytes run _>>=_ byte number ranged name entry same-bytes same-step same-entry met new-entry entries names unnamed-leaf unnamed-event is-event-number is-closing-number no-nodes not-whole too-many-nodes unknown-kind wrong-field not-lower is-child taken wrong-sort child-taken nobodys-child no-records too-many-records no-record closings-wanted closed wrong-closings closings-place after-closings or-else-check answer first each node-grounds child-grounds value-grounds nothing-behind section-alone by-entries named-check lists-bytes write-check put-first
 worked-bytes = refl
 
 -- a refusal leaves every byte, of 14 too
 short-bytes : written-to (worked .nodes) 64 ≡ replicate 64 7
-unfolding written-to xor names-section numbers-section entries-bytes entry-bytes name-bytes numbers-bytes number-bytes run _>>=_ byte number ranged name entry same-bytes same-step same-entry met new-entry entries names unnamed-leaf unnamed-event is-event-number is-closing-number no-nodes not-whole too-many-nodes unknown-kind wrong-field not-lower is-child taken wrong-sort child-taken nobodys-child no-records too-many-records no-record closings-wanted closed wrong-closings after-closings or-else-check answer first each node-grounds child-grounds value-grounds nothing-behind section-alone by-entries named-check lists-bytes write-check put-first
+unfolding written-to xor names-section numbers-section entries-bytes entry-bytes name-bytes numbers-bytes number-bytes run _>>=_ byte number ranged name entry same-bytes same-step same-entry met new-entry entries names unnamed-leaf unnamed-event is-event-number is-closing-number no-nodes not-whole too-many-nodes unknown-kind wrong-field not-lower is-child taken wrong-sort child-taken nobodys-child no-records too-many-records no-record closings-wanted closed wrong-closings closings-place after-closings or-else-check answer first each node-grounds child-grounds value-grounds nothing-behind section-alone by-entries named-check lists-bytes write-check put-first
 short-bytes = refl
 
 pub worked-written : (file : List ℕ) (r : Writing) → WrittenAs section (worked .nodes) (worked .records) (replicate 66 7) file r

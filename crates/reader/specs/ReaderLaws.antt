@@ -11,6 +11,7 @@ use lib.ListN.{length}
 use Rattle.flow.specs.declared.Refusal.{Refusal}
 use Rattle.flow.specs.declared.Check.{Check}
 use Rattle.flow.specs.declared.Check.the-variants as check
+use Rattle.flow.specs.declared.Extent.the-variants.{Whole}
 use Rattle.flow.specs.Checks.{first}
 use Rattle.format.specs.Format.{File}
 use Rattle.format.specs.Plan.{Ran, got, bad, run}
@@ -83,12 +84,12 @@ module _ (s nodes records : List ℕ) where
   module _ {f : File} {o : Offsets} (p : Placed s f o) (h : 192 ≤ length nodes) (l : 256 ≤ length records) where
     -- the check of the numbers at their offsets
     abbrev pub checked-at : Check
-    checked-at = first (grounds-of (o .counts .names) (numbers-at s (3 * o .counts .nodes) (o .nodes)) (numbers-at s (o .counts .records) (o .records)))
+    checked-at = first (grounds-of Whole (o .counts .names) (numbers-at s (3 * o .counts .nodes) (o .nodes)) (numbers-at s (o .counts .records) (o .records)))
 
     laid-contents : reading s (length nodes) (length records) ≡ checked f checked-at
     laid-contents =
         reading-laid s (length nodes) (length records) h l ∙ laid-checked s (run s 0 layout) (placed-run s p)
-        ∙ (λ i. checked f (first (grounds-of (sym (ap (λ (c : Counts). c .names) (p .counts-are)) i) (placed-nodes s p i) (placed-records s p i))))
+        ∙ (λ i. checked f (first (grounds-of Whole (sym (ap (λ (c : Counts). c .names) (p .counts-are)) i) (placed-nodes s p i) (placed-records s p i))))
 
     pub read-faulty : {k : Check} {q r : Refusal} → k ≡ checked-at → k ≡ check.Refused q → r ≡ check-refusal k → reading s (length nodes) (length records) ≡ refused-outcome r
     unfolding checked check-refusal

@@ -1,11 +1,13 @@
 // The flow file's reader: a file's bytes to the counts of names, nodes and records and the two tables, or a refusal with its
 // number and place. What it answers is defined in specs/Reading.antt; the items and checks are those of crate `format`.
 use flow::Check;
+use flow::Extent;
 use flow::Refusal;
 use format::Item;
 use format::Range;
 ghost use mathlib.Core.Path.{_≡_};
 ghost use Prim.Native.Nat.{_*_};
+ghost use Rattle.flow.specs.declared.Extent.the-variants.{Whole};
 ghost use Rattle.flow.specs.Checks.{first};
 ghost use Rattle.format.specs.ContentChecks.{grounds-of};
 ghost use Rattle.format.specs.Items.{numbers-at};
@@ -112,7 +114,7 @@ fn lay_out(file: &[u8]) -> Layout
 // 4 to 9, 12, 13, 19 and 20, of the numbers at their offsets: they are checked on copies.
 fn check_numbers(file: &[u8], o: Offsets) -> Check
     requires { ⌜ Inside (now file) o ⌝ }
-    ensures { λ r. ⌜ r ≡ first (grounds-of (o .counts .names) (numbers-at (now (file .entry)) (3 * o .counts .nodes) (o .nodes)) (numbers-at (now (file .entry)) (o .counts .records) (o .records))) ⌝ }
+    ensures { λ r. ⌜ r ≡ first (grounds-of Whole (o .counts .names) (numbers-at (now (file .entry)) (3 * o .counts .nodes) (o .nodes)) (numbers-at (now (file .entry)) (o .counts .records) (o .records))) ⌝ }
 {
     let counts = o.counts;
     let n = 3 * counts.nodes as usize;
@@ -121,7 +123,7 @@ fn check_numbers(file: &[u8], o: Offsets) -> Check
     let mut records = [0u16; 256];
     format::fill(file, o.nodes, n, &mut nodes);
     format::fill(file, o.records, k, &mut records);
-    format::check_contents(&nodes[..n], &records[..k], counts.names)
+    format::check_contents(&nodes[..n], &records[..k], counts.names, Extent::Whole)
 }
 
 // A flow file's bytes: the counts of names, nodes and records, with the numbers of the nodes and the records at the front of the

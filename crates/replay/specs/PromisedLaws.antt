@@ -53,7 +53,7 @@ clean-exactly zeros work = (λ e. to e, λ e. from e)
 ---- The judge leaves them clean ----
 
 -- all filler but for the first, which are zero
-cleared-clean : (n zeros : ℕ) → is-clean zeros (cleared zeros (replicate n filler)) ≡ true
+pub cleared-clean : (n zeros : ℕ) → is-clean zeros (cleared zeros (replicate n filler)) ≡ true
 unfolding cleared
 cleared-clean n zeros =
     let nought : ℕ = 0 in

@@ -5,7 +5,7 @@ use mathlib.Core.Bool.{Bool}
 use mathlib.Core.List.{List, [], _∷_, _++_}
 use lib.ListN.{length, take}
 use Rattle.line.specs.Line.{spaced}
-use Rattle.writer.specs.declared.Extent.{Extent}
+use Rattle.writer.specs.declared.Size.{Size}
 use Rattle.writer.specs.declared.Writing.{Writing}
 use Rattle.writer.specs.declared.Writing.the-variants.{Written, Refused}
 use Rattle.replay.specs.Filler.{filler, kept}
@@ -26,8 +26,7 @@ file-clean a file = kept filler (length-written a) file
 ---- The line ----
 
 -- "written" in ASCII, the length, and the first bytes of the file, as many
-unfoldable pub written-text : Extent → List ℕ → List ℕ
-unfolding hex-of
+unfoldable pub written-text : Size → List ℕ → List ℕ
 written-text e file = (119 ∷ 114 ∷ 105 ∷ 116 ∷ 116 ∷ 101 ∷ 110 ∷ []) ++ (spaced (e .length) ++ (32 ∷ hex-of (take (e .length) file)))
 
 unfoldable pub write-text : Writing → List ℕ → List ℕ

@@ -5,6 +5,7 @@
 mod filler;
 mod input;
 mod judge_line;
+mod next_line;
 mod promised;
 mod read_line;
 mod text;
@@ -25,6 +26,8 @@ const CALL_CASE: u8 = 67;
 
 // The functions of a call with everything that may be lent.
 const JUDGE: u8 = 0;
+
+const NEXT: u8 = 1;
 
 const WRITE: u8 = 3;
 
@@ -94,6 +97,45 @@ fn judge_call(call: Call, names: &[u8], nodes: &[u16], records: &[u16]) -> bool
     io::write_all(STDOUT_FILENO, &out[..end])
 }
 
+// A call of `next`, with the names or without.
+fn next_call(call: Call, names: &[u8], nodes: &[u16], records: &[u16]) -> bool
+    requires { ⌜ length (now nodes) ≤ 400 ⌝ }
+    requires { ⌜ length (now records) ≤ 400 ⌝ }
+{
+    let lent = call.work as usize;
+    if MOST_WORK < lent {
+        return input::bad_case();
+    }
+    let room = call.room as usize;
+    if MOST_ROOM < room {
+        return input::bad_case();
+    }
+    let mut list = [0u16; 70000];
+    let mut work = [0u8; 40000];
+    let mut out = [0u8; 2884];
+    if call.named {
+        let end = next_line::next_named_lists(
+            names,
+            nodes,
+            records,
+            &mut list[..room],
+            &mut work[..lent],
+            call.allowance,
+            &mut out,
+        );
+        return io::write_all(STDOUT_FILENO, &out[..end]);
+    }
+    let end = next_line::next_lists(
+        nodes,
+        records,
+        &mut list[..room],
+        &mut work[..lent],
+        call.allowance,
+        &mut out,
+    );
+    io::write_all(STDOUT_FILENO, &out[..end])
+}
+
 // A call of the writer.
 fn write_call(call: Call, names: &[u8], nodes: &[u16], records: &[u16]) -> bool {
     let room = call.room as usize;
@@ -114,6 +156,7 @@ fn call_with(call: Call, names: &[u8], nodes: &[u16], records: &[u16]) -> bool
     let function = call.function;
     match function {
         JUDGE => judge_call(call, names, nodes, records),
+        NEXT => next_call(call, names, nodes, records),
         WRITE => write_call(call, names, nodes, records),
         _ => input::bad_case(),
     }
@@ -170,11 +213,11 @@ fn judge_case() -> bool {
     numbers_lent(call, b"")
 }
 
-// Whether a function takes the edition and the names, so many bytes of them: the judge the one edition, with names or without; the
-// writer names, in any edition.
+// Whether a function takes the edition and the names, so many bytes of them: the judge and `next` the one edition, with names or without;
+// the writer names, in any edition.
 fn takes(function: u8, edition: u8, lent: u8, names: usize) -> bool {
     match function {
-        JUDGE => {
+        JUDGE | NEXT => {
             if edition != EDITION {
                 return false;
             }

@@ -1,4 +1,4 @@
-// What the judge promises of the work bytes: how many are to be zero, and whether they are, and the others filler as before the call.
+// What the judge and `next` promise of the work bytes: how many are to be zero, and whether they are, and the others filler as before the call.
 use crate::filler;
 use judge::Answer;
 ghost use mathlib.Core.Path.{_≡_};
@@ -18,7 +18,7 @@ pub fn clean(zeros: usize, work: &[u8]) -> bool
 }
 
 // How many work bytes a call wants.
-fn wanted(numbers: usize, records: usize) -> usize
+pub fn wanted(numbers: usize, records: usize) -> usize
     requires { ⌜ numbers ≤ 400 ⌝ }
     requires { ⌜ records ≤ 400 ⌝ }
     ensures { λ r. ⌜ r ≡ room-of (numbers / 3) records ⌝ }

@@ -1,11 +1,9 @@
-// What the lines of several kinds of case have: a refusal, bytes in hexadecimal, and the word for what was lent.
+// What the lines of several kinds of case have: a refusal, bytes in hexadecimal, numbers, and the word for what was lent.
 use flow::Refusal;
-ghost use mathlib.Core.Path.{_≡_};
-ghost use Prim.Native.Nat.{_+_, _*_, _≤_, _<_};
+ghost use Prim.Native.Nat.{_+_, _*_, _≤_};
 ghost use lib.ListN.{length};
-ghost use Rattle.io.specs.Digits.{glyph};
 ghost use Rattle.line.specs.Line.{Put};
-ghost use Rattle.replay.specs.Text.{noted, refused-text, hex-byte, hex-of};
+ghost use Rattle.replay.specs.Text.{noted, refused-text, hex-of, numbers-text};
 
 // The word, the number and the place of a refusal, at the start of the room.
 pub fn put_refused(refusal: Refusal, out: &mut [u8]) -> usize
@@ -18,32 +16,31 @@ pub fn put_refused(refusal: Refusal, out: &mut [u8]) -> usize
     line::put_number(refusal.place, out, b)
 }
 
-fn digit(d: u8) -> u8
-    requires { ⌜ d < 16 ⌝ }
-    ensures { λ r. ⌜ r ≡ glyph d ⌝ }
-{
-    if d < 10 { 48 + d } else { 87 + d }
-}
-
-fn put_byte(byte: u8, out: &mut [u8], at: usize) -> usize
-    requires { ⌜ at + 2 ≤ length (now out) ⌝ }
-    ensures { λ r. ⌜ Put (hex-byte byte) (now (out .entry)) at (now (out .exit)) r ⌝ }
-{
-    let mut pair = [0u8; 2];
-    pair[0] = digit(byte / 16);
-    pair[1] = digit(byte % 16);
-    line::put(&pair, out, at)
-}
-
 // The bytes, two digits each, at an offset of the room; leaves the rest, and answers the offset behind them.
 pub fn put_hex(bytes: &[u8], out: &mut [u8], at: usize) -> usize
     requires { ⌜ at + 2 * length (now bytes) ≤ length (now out) ⌝ }
     ensures { λ r. ⌜ Put (hex-of (now (bytes .entry))) (now (out .entry)) at (now (out .exit)) r ⌝ }
+    ensures { λ r. ⌜ r ≤ at + 2 * length (now (bytes .entry)) ⌝ }
 {
     let mut end = at;
     let mut i = 0;
     while i < bytes.len() {
-        end = put_byte(bytes[i], out, end);
+        end = line::put_byte(bytes[i], out, end);
+        i += 1;
+    }
+    end
+}
+
+// The numbers, each with a space before it, at an offset of the room; leaves the rest, and answers the offset behind them.
+pub fn put_numbers(numbers: &[u16], out: &mut [u8], at: usize) -> usize
+    requires { ⌜ at + 11 * length (now numbers) ≤ length (now out) ⌝ }
+    ensures { λ r. ⌜ Put (numbers-text (now (numbers .entry))) (now (out .entry)) at (now (out .exit)) r ⌝ }
+    ensures { λ r. ⌜ r ≤ at + 11 * length (now (numbers .entry)) ⌝ }
+{
+    let mut end = at;
+    let mut i = 0;
+    while i < numbers.len() {
+        end = line::put_number(numbers[i] as u32, out, end);
         i += 1;
     }
     end

@@ -2,7 +2,7 @@
 // business with are unchanged, else `dirty`.
 use crate::filler;
 use crate::text;
-use writer::Extent;
+use writer::Size;
 use writer::Writing;
 ghost use mathlib.Core.Bool.{true};
 ghost use mathlib.Core.Path.{_≡_};
@@ -15,16 +15,16 @@ ghost use Rattle.writer.specs.Writing.{writing, bytes-first};
 ghost use Rattle.replay.specs.Filler.{filler};
 ghost use Rattle.replay.specs.WriteLine.{length-written, file-clean, written-text, write-text, write-line, Printable};
 
-fn put_written(extent: Extent, file: &[u8], out: &mut [u8]) -> usize
-    requires { ⌜ extent .length ≤ 21894 ⌝ }
-    requires { ⌜ extent .length ≤ length (now file) ⌝ }
+fn put_written(size: Size, file: &[u8], out: &mut [u8]) -> usize
+    requires { ⌜ size .length ≤ 21894 ⌝ }
+    requires { ⌜ size .length ≤ length (now file) ⌝ }
     requires { ⌜ 43807 ≤ length (now out) ⌝ }
-    ensures { λ r. ⌜ Put (written-text extent (now (file .entry))) (now (out .entry)) 0 (now (out .exit)) r ⌝ }
+    ensures { λ r. ⌜ Put (written-text size (now (file .entry))) (now (out .entry)) 0 (now (out .exit)) r ⌝ }
     ensures { λ r. ⌜ r ≤ 43807 ⌝ }
 {
-    let n = extent.length as usize;
+    let n = size.length as usize;
     let a = line::put(b"written", out, 0);
-    let b = line::put_number(extent.length, out, a);
+    let b = line::put_number(size.length, out, a);
     let c = line::put(b" ", out, b);
     text::put_hex(&file[..n], out, c)
 }

@@ -2,5 +2,6 @@ mod Turns
 mod Stretches
 mod Numbers
 mod OneRecord
+mod Asks
 mod Memories
 mod Deeper

@@ -9,6 +9,7 @@ use native.Mathlib.Omega.{arith}
 use lib.ListN.{length, drop, getD, replicate, length-drop, length-replicate}
 use lib.Seq.{drop-drop}
 use borrow.Author.Tests.{lt-leb, le-leb}
+use Rattle.calculus.specs.Records.{Record, State}
 use Rattle.calculus.specs.Search.{Seen, visit}
 use Rattle.calculus.specs.Spending.{Out as Found, spent, back, visitB, left-of}
 use Rattle.calculus.specs.Budget.{visit-left, back-seen}
@@ -24,7 +25,8 @@ use Rattle.memory.specs.MemoryLaws.{remembered-held, zeros-held}
 use Rattle.search.specs.declared.Trip.{Trip}
 use Rattle.search.specs.declared.Out.{Out}
 use Rattle.search.specs.declared.Out.the-variants.{Spent, Back}
-use Rattle.search.specs.Visits.{state, out-of, Memory, memory, role-number, key-of, saw-none, last, Has, Saw, Truthful, SearchedState, Learned, Added, KeptOut}
+use Rattle.search.specs.Visits.{state, out-of, Memory, memory, role-number, key-of, saw-none, last, Has, Strikes, Settled, Asking, Knows, Truthful, SearchedState, Learned, Added, KeptOut}
+use Rattle.search.proofs.Asks.{asking-still, settled-still}
 use Rattle.search.proofs.Stretches.{state-same}
 
 -- Keys --------------------------------------------------------------------------------------------------------------------
@@ -70,45 +72,66 @@ last-rest d xs some h =
 
 -- What is learned ---------------------------------------------------------------------------------------------------------
 
-module _ (ns xs : List ℕ) where
-  pub learned-same : (m : Memory) → Learned ns xs m m
-  learned-same m key t x h = inl h
+-- what was found out of a state, by the records after the first and by all of them; and with more asks answered
+abbrev Finds : List ℕ → List ℕ → List ℕ → Role → List ℕ → Sight → Type 0
+Finds ns l qs role t x = (visit (cue-records l) (state ns role t) ≡ saw-none x) × Settled (state ns role t) (cue-records l) qs
 
-  pub learned-trans : {m m′ m″ : Memory} → Learned ns xs m m′ → Learned ns xs m′ m″ → Learned ns xs m m″
-  learned-trans {m} {m′} {m″} f g key t x h = by (g key t x h)
+module _ {ns : List ℕ} {qs : List ℕ} {role : Role} {t : List ℕ} {x : Sight} where
+  knows-by : {xs xs′ : List ℕ} {d d′ : ℕ} → last d xs ≡ last d′ xs′ → Knows ns xs qs role d t x → Knows ns xs′ qs role d′ t x
+  knows-by {xs} {xs′} {d} {d′} e k = let z = subst (λ l. Finds ns l qs role t x) e (k .saw, k .settled) in record { saw = z .0; settled = z .1 }
+
+  knows-still : {xs : List ℕ} {d : ℕ} {s : State} {rs : List Record} {qs′ : List ℕ} → Strikes s rs qs qs′ → Knows ns xs qs role d t x → Knows ns xs qs′ role d t x
+  knows-still f k = record { saw = k .saw; settled = settled-still (k .settled) f }
+
+module _ (ns xs : List ℕ) where
+  pub learned-same : (qs : List ℕ) (m : Memory) → Learned ns xs qs m m
+  learned-same qs m key t x h = inl h
+
+  searched-still : {s : State} {rs : List Record} {qs qs′ : List ℕ} {key : ℕ} {t : List ℕ} {x : Sight} → Strikes s rs qs qs′ → SearchedState ns xs qs key t x → SearchedState ns xs qs′ key t x
+  searched-still f s = record { role = s .role; depth = s .depth; is = s .is; within = s .within; knows = knows-still f (s .knows) }
+
+  -- what was learned stays learned when more asks are answered
+  pub learned-trans : {s : State} {rs : List Record} {qs qs′ : List ℕ} {m m′ m″ : Memory} → Strikes s rs qs qs′ → Learned ns xs qs m m′ → Learned ns xs qs′ m′ m″ → Learned ns xs qs′ m m″
+  learned-trans {qs = qs} {qs′} {m} {m′} {m″} e f g key t x h = by (g key t x h)
     where
-      by : Has ns xs m′ key t x ⊎ SearchedState ns xs key t x → Has ns xs m key t x ⊎ SearchedState ns xs key t x
-      by (inl k) = f key t x k
+      first : Has ns xs m key t x ⊎ SearchedState ns xs qs key t x → Has ns xs m key t x ⊎ SearchedState ns xs qs′ key t x
+      first (inl k) = inl k
+      first (inr s) = inr (searched-still e s)
+
+      by : Has ns xs m′ key t x ⊎ SearchedState ns xs qs′ key t x → Has ns xs m key t x ⊎ SearchedState ns xs qs′ key t x
+      by (inl k) = first (f key t x k)
       by (inr s) = inr s
 
   -- what was right stays right
-  pub truthful-still : {m m′ : Memory} → Truthful ns xs m → Learned ns xs m m′ → length (m′ .modes) ≡ length (m .modes) → length (m′ .marks) ≡ length (m .marks) → Truthful ns xs m′
-  truthful-still {m} {m′} f g em ek =
+  pub truthful-still : {s : State} {rs : List Record} {qs qs′ : List ℕ} {m m′ : Memory} → Truthful ns xs qs m → Strikes s rs qs qs′ → Learned ns xs qs′ m m′
+      → length (m′ .modes) ≡ length (m .modes) → length (m′ .marks) ≡ length (m .marks) → Truthful ns xs qs′ m′
+  truthful-still {qs = qs} {qs′} {m} {m′} f e g em ek =
       let r = f .room in
       record {
         room = subst (λ n. 64 * (n / 3) ≤ length (m′ .modes)) (sym ek) (omega arith);
-        right = λ role d some few t x h. by role d some few t x (g (key-of role d) t x h);
+        asking = asking-still e (f .asking);
+        right = λ role d few t x h. by role d few t x (g (key-of role d) t x h);
       }
     where
-      by : (role : Role) (d : ℕ) → 1 ≤ d → d ≤ length xs → (t : List ℕ) (x : Sight) → Has ns xs m (key-of role d) t x ⊎ SearchedState ns xs (key-of role d) t x → Saw ns xs role d t x
-      by role d some few t x (inl k) = f .right role d some few t x k
-      by role d some few t x (inr s) =
-          subst (λ z. Saw ns xs z d t x) (sym (key-role role (s .role) d (s .depth) (s .is)))
-          (subst (λ n. Saw ns xs (s .role) n t x) (sym (key-depth role (s .role) d (s .depth) (s .is))) (s .saw))
+      by : (role : Role) (d : ℕ) → d ≤ length xs → (t : List ℕ) (x : Sight) → Has ns xs m (key-of role d) t x ⊎ SearchedState ns xs qs′ (key-of role d) t x → Knows ns xs qs′ role d t x
+      by role d few t x (inl k) = knows-still e (f .right role d few t x k)
+      by role d few t x (inr s) =
+          subst (λ z. Knows ns xs qs′ z d t x) (sym (key-role role (s .role) d (s .depth) (s .is)))
+          (subst (λ n. Knows ns xs qs′ (s .role) n t x) (sym (key-depth role (s .role) d (s .depth) (s .is))) (s .knows))
 
   -- the records after the first
   module _ (some : 1 ≤ length xs) where
-    pub truthful-rest : {m : Memory} → Truthful ns xs m → Truthful ns (drop 1 xs) m
-    truthful-rest {m} f = record {
+    pub truthful-rest : {qs : List ℕ} {m : Memory} → Truthful ns xs qs m → Truthful ns (drop 1 xs) qs m
+    truthful-rest {qs} {m} f = record {
       room = f .room;
-      right = λ role d one few t x h.
-          subst (λ l. visit (cue-records l) (state ns role t) ≡ saw-none x) (sym (last-rest d xs some few)) (f .right role d one (let l = length-drop 1 xs in omega arith) t x h);
+      asking = f .asking;
+      right = λ role d few t x h. knows-by (sym (last-rest d xs some few)) (f .right role d (let l = length-drop 1 xs in omega arith) t x h);
     }
 
-    pub learned-rest : {m m′ : Memory} → Learned ns (drop 1 xs) m m′ → Learned ns xs m m′
-    learned-rest {m} {m′} f key t x h = by (f key t x h)
+    pub learned-rest : {qs : List ℕ} {m m′ : Memory} → Learned ns (drop 1 xs) qs m m′ → Learned ns xs qs m m′
+    learned-rest {qs} {m} {m′} f key t x h = by (f key t x h)
       where
-        by : Has ns (drop 1 xs) m key t x ⊎ SearchedState ns (drop 1 xs) key t x → Has ns xs m key t x ⊎ SearchedState ns xs key t x
+        by : Has ns (drop 1 xs) m key t x ⊎ SearchedState ns (drop 1 xs) qs key t x → Has ns xs m key t x ⊎ SearchedState ns xs qs key t x
         by (inl k) = inl k
         by (inr s) =
             let l = length-drop 1 xs in
@@ -118,24 +141,27 @@ module _ (ns xs : List ℕ) where
               depth = s .depth;
               is = s .is;
               within = omega arith;
-              saw = subst (λ l. visit (cue-records l) (state ns (s .role) t) ≡ saw-none x) (last-rest (s .depth) xs some (s .within)) (s .saw);
+              knows = knows-by (last-rest (s .depth) xs some (s .within)) (s .knows);
             })
 
+module _ (ns xs qs : List ℕ) (asks : Asking qs) where
   -- nothing is remembered
-  pub truthful-none : (m : Memory) → slots (m .marks) ≡ 0 → Truthful ns xs m
+  pub truthful-none : (m : Memory) → slots (m .marks) ≡ 0 → Truthful ns xs qs m
   truthful-none m e = record {
     room = omega arith;
-    right = λ role d some few t x h. let q = h .there in absurd (omega arith);
+    asking = asks;
+    right = λ role d few t x h. let q = h .there in absurd (omega arith);
   }
 
-  pub truthful-zeros : (m : Memory) → 64 * slots (m .marks) ≤ length (m .modes) → ((j : ℕ) → getD (m .marks) j 0 ≡ 0) → Truthful ns xs m
+  pub truthful-zeros : (m : Memory) → 64 * slots (m .marks) ≤ length (m .modes) → ((j : ℕ) → getD (m .marks) j 0 ≡ 0) → Truthful ns xs qs m
   truthful-zeros m room z = record {
     room = room;
-    right = λ role d some few t x h. let q = zeros-held z h in absurd (omega (arith, small role));
+    asking = asks;
+    right = λ role d few t x h. let q = zeros-held z h in absurd (omega (arith, small role));
   }
 
   -- zeros, as many modes and marks as these
-  pub truthful-fresh : (a b : ℕ) → 64 * (b / 3) ≤ a → Truthful ns xs (memory (replicate a 0) (replicate b 0))
+  pub truthful-fresh : (a b : ℕ) → 64 * (b / 3) ≤ a → Truthful ns xs qs (memory (replicate a 0) (replicate b 0))
   truthful-fresh a b h = truthful-zeros (memory (replicate a 0) (replicate b 0))
       (rw (length-replicate, length-replicate) h) (zero-at b)
     where
@@ -146,11 +172,15 @@ module _ (ns xs : List ℕ) where
 
 -- A state that is recalled, and one that is kept ----------------------------------------------------------------------------
 
-module _ {ns xs : List ℕ} {m : Memory} (f : Truthful ns xs m) (some : 1 ≤ length xs) (role : Role) (t : List ℕ) (left : ℕ) where
-  pub recalled-out : (x : Sight) (o : Out) → Has ns xs m (key-of role (length xs)) t x → out-of o ≡ left-of (saw-none x) left → out-of o ≡ visitB (cue-records xs) (state ns role t) left
-  recalled-out x o h e =
-      let s : visit (cue-records xs) (state ns role t) ≡ saw-none x = subst (λ l. visit (cue-records l) (state ns role t) ≡ saw-none x) (last-all xs) (f .right role (length xs) some (omega arith) t x h) in
-      e ∙ ap (λ z. left-of z left) (sym s) ∙ sym (visit-left (cue-records xs) (state ns role t) left)
+module _ {ns xs qs : List ℕ} {m : Memory} (f : Truthful ns xs qs m) (role : Role) (t : List ℕ) (left : ℕ) (x : Sight) (h : Has ns xs m (key-of role (length xs)) t x) where
+  found : Finds ns xs qs role t x
+  found = let k = f .right role (length xs) (omega arith) t x h in subst (λ l. Finds ns l qs role t x) (last-all xs) (k .saw, k .settled)
+
+  pub recalled-out : (o : Out) → out-of o ≡ left-of (saw-none x) left → out-of o ≡ visitB (cue-records xs) (state ns role t) left
+  recalled-out o e = e ∙ ap (λ z. left-of z left) (sym (found .0)) ∙ sym (visit-left (cue-records xs) (state ns role t) left)
+
+  pub recalled-settled : Settled (state ns role t) (cue-records xs) qs
+  recalled-settled = found .1
 
 -- the code's two ways
 module _ (x : Sight) (left : ℕ) where
@@ -184,10 +214,12 @@ not-added n key t left o m = record { adds = λ key′ t′ x h. inl h }
 module _ (ns xs : List ℕ) (sound : Sound ns) (enough : 3 ≤ length ns) (role : Role) (t t′ : List ℕ) (left : ℕ)
     (same : (j : ℕ) → j < count ns → getD t j 0 ≡ getD t′ j 0) where
   -- what came of the state that t held, put in by the modes of t′
-  pub kept-learned : {o : Found} {m m′ : Memory} → o ≡ visitB (cue-records xs) (state ns role t) left → KeptOut (count ns) (key-of role (length xs)) t′ left o m m′ → Learned ns xs m m′
-  kept-learned {o} {m} {m′} e f key u x h = by (f .adds key u x h)
+  pub kept-learned : {o : Found} {qs : List ℕ} {m m′ : Memory} → o ≡ visitB (cue-records xs) (state ns role t) left
+      → ((far rest : ℕ) → o ≡ back false far rest → Settled (state ns role t) (cue-records xs) qs)
+      → KeptOut (count ns) (key-of role (length xs)) t′ left o m m′ → Learned ns xs qs m m′
+  kept-learned {o} {qs} {m} {m′} e settles f key u x h = by (f .adds key u x h)
     where
-      by : Has ns xs m key u x ⊎ Added (count ns) (key-of role (length xs)) t′ left o x key u → Has ns xs m key u x ⊎ SearchedState ns xs key u x
+      by : Has ns xs m key u x ⊎ Added (count ns) (key-of role (length xs)) t′ left o x key u → Has ns xs m key u x ⊎ SearchedState ns xs qs key u x
       by (inl k) = inl k
       by (inr a) =
           let s : state ns role t ≡ state ns role u = state-same ns sound enough t u (λ j l. same j l ∙ sym (a .same .modes j l)) role in
@@ -198,6 +230,11 @@ module _ (ns xs : List ℕ) (sound : Sound ns) (enough : 3 ≤ length ns) (role 
             depth = length xs;
             is = a .same .keys;
             within = omega arith;
-            saw = subst (λ l. visit (cue-records l) (state ns role u) ≡ saw-none x) (sym (last-all xs))
-                (subst (λ z. visit (cue-records xs) z ≡ saw-none x) s (v ∙ (λ i. record { found = false; reached = x .reached; entered = q i })));
+            knows =
+                let z : Finds ns (last (length xs) xs) qs role u x
+                = subst (λ l. Finds ns l qs role u x) (sym (last-all xs)) (
+                  subst (λ z. visit (cue-records xs) z ≡ saw-none x) s (v ∙ (λ i. record { found = false; reached = x .reached; entered = q i })),
+                  subst (λ z. Settled z (cue-records xs) qs) s (settles (x .reached) (a .rest) (a .none)),
+                ) in
+                record { saw = z .0; settled = z .1 };
           })

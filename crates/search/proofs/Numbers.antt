@@ -1,21 +1,23 @@
--- What the cues of records are: an event's or a closing's, and, where the closings are as a state needs, that of a record that is not
--- the last, and of the last one. Assumes nothing.
+-- What the cues of records are: an event's or a closing's, and, where the closings are no more than a state can take, that of a record that
+-- does not end the search, and of one that does. Assumes nothing.
 use Prim.Native.Nat.{ℕ, _≤_, _<_}
-use mathlib.Core.Path.{_≡_, refl, subst}
+use mathlib.Core.Path.{_≡_, refl, sym, subst}
 use mathlib.Core.Bool.{Bool, true, false, cond}
 use mathlib.Core.List.{List, [], _∷_}
-use mathlib.Core.Logic.{_⊎_, inl, inr}
 use native.Mathlib.Omega.{arith}
 use native.Mathlib.Decide.{decLe}
 use lib.Dec.{eqb}
-use lib.ListN.{length, getD}
-use borrow.Author.Tests.{ne-eqb}
+use borrow.Author.Tests.{ne-eqb, leb-true, leb-false}
 use Rattle.calculus.specs.Term.{Closing, done, withdrawn, failed}
-use Rattle.calculus.specs.Records.{Record, event, close, Closed, ClosedTwice, turn, Fits}
+use Rattle.calculus.specs.Records.{Record, event, close, std, Closed, last, ClosedTwice, turn, Fits}
+use Rattle.calculus.specs.Within.{WithinOne, Within}
 use Rattle.flow.specs.Cues.{done-cue, withdrawn-cue, failed-cue, cue-record, cue-records}
+use Rattle.flow.specs.Refusals.{root}
 use Rattle.states.specs.declared.Role.{Role}
 use Rattle.states.specs.declared.Role.the-variants.{Plain, Running}
-use Rattle.search.specs.Visits.{state, closing-of, Known, Inner}
+use Rattle.states.specs.State.{part, modes}
+use Rattle.search.specs.Visits.{state, closing-of, Settled, Inner, ends}
+use Rattle.search.proofs.Asks.{ended-settled}
 
 module _ (r : ℕ) where
   pub record-event : r < done-cue → cue-record r ≡ event r
@@ -30,13 +32,6 @@ module _ (r : ℕ) where
       | yes m ↦ let e : r ≡ withdrawn-cue = omega (arith, l) in rw e
       | no m ↦ let e : r ≡ failed-cue = omega (arith, m) in rw e
     ]
-  ]
-
-  -- a cue is an event's, below those of the closings, or a closing's
-  known-cue : r ≤ failed-cue → (r < done-cue) ⊎ (cue-record r ≡ close (closing-of r))
-  known-cue l = elim (decLe done-cue r) [
-    | yes h ↦ inr (record-close h l)
-    | no h ↦ inl (omega (arith, h))
   ]
 
   single : (a : ℕ) → Closed (event a ∷ []) → ⊥
@@ -58,20 +53,30 @@ pub not-twice : {x : Record} → ClosedTwice (x ∷ []) → ⊥
 not-twice (turn h) = elim h [ ]
 not-twice (ClosedTwice.more h) = elim h [ ]
 
-early : {w : Closing} {x : Record} {xs : List Record} → Closed (close w ∷ (x ∷ xs)) → ⊥
-early h = elim h [ ]
+-- a record that does not end the search
+pub first-inner : (role : Role) (r : ℕ) → r ≤ failed-cue → ends role r ≡ false → Inner role r
+unfolding ends
+first-inner (Plain s) r l e = leb-false done-cue r e
+first-inner Running r l e = l
 
-event-first : (r : ℕ) {x : Record} {xs : List Record} → r ≤ failed-cue → Closed (cue-record r ∷ (x ∷ xs)) → r < done-cue
-event-first r {x} {xs} l f = by (known-cue r l)
-  where
-    by : (r < done-cue) ⊎ (cue-record r ≡ close (closing-of r)) → r < done-cue
-    by (inl h) = h
-    by (inr g) = absurd (early (subst (λ y. Closed (y ∷ (x ∷ xs))) g f))
+-- and one that ends it: a standard part's closing, with nothing behind it
+closed-last : {w : Closing} (xs : List ℕ) → WithinOne (close w ∷ cue-records xs) → xs ≡ []
+closed-last [] f = refl
+closed-last (x ∷ xs) f = elim f [ ]
 
--- a record that is not the last
-pub first-inner : (ns t : List ℕ) (role : Role) (xs : List ℕ) → Known xs → 2 ≤ length xs → Fits (state ns role t) (cue-records xs) → Inner role (getD xs 0 0)
-unfolding state
-first-inner ns t role [] k h f = absurd (omega arith)
-first-inner ns t role (r ∷ []) k h f = absurd (omega arith)
-first-inner ns t (Plain s) (r ∷ q ∷ xs) k h f = event-first r (k .low 0 (omega arith)) f
-first-inner ns t Running (r ∷ q ∷ xs) k h f = k .low 0 (omega arith)
+module _ (ns t : List ℕ) (r : ℕ) (low : r ≤ failed-cue) where
+  pub ends-alone : (role : Role) (xs : List ℕ) → ends role r ≡ true → Within (state ns role t) (cue-records (r ∷ xs)) → xs ≡ []
+  unfolding state ends
+  ends-alone (Plain s) xs e f = closed-last xs (subst (λ y. WithinOne (y ∷ cue-records xs)) (record-close r (leb-true done-cue r e) low) f)
+  ends-alone Running xs e f = absurd (let z : _≡_ {A = ℕ} 0 1 = cc e in omega arith)
+
+  pub ends-fits : (role : Role) → ends role r ≡ true → Fits (state ns role t) (cue-records (r ∷ []))
+  unfolding state ends
+  ends-fits (Plain s) e = subst (λ y. Closed (y ∷ [])) (sym (record-close r (leb-true done-cue r e) low)) last
+  ends-fits Running e = absurd (let z : _≡_ {A = ℕ} 0 1 = cc e in omega arith)
+
+  -- nothing follows nothing left
+  pub ends-settled : (role : Role) → ends role r ≡ true → (qs : List ℕ) → Settled (state ns role t) (cue-records (r ∷ [])) qs
+  unfolding state ends
+  ends-settled (Plain s) e qs = subst (λ y. Settled (std (part ns (modes t) (root ns) .std s)) (y ∷ []) qs) (sym (record-close r (leb-true done-cue r e) low)) (ended-settled (part ns (modes t) (root ns) .std s) (closing-of r) qs)
+  ends-settled Running e qs = absurd (let z : _≡_ {A = ℕ} 0 1 = cc e in omega arith)

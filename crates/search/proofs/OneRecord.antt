@@ -1,18 +1,19 @@
--- One record: the counting pass, the steps and the choice of a compensation give what the functions over a role promise.
--- `i` is the root's number, as the code has it. Assumes nothing.
+-- One record: the counting pass, the steps and the choice of a compensation give what the functions over a role promise, and tell whether
+-- the record can follow. `i` is the root's number, as the code has it. Assumes nothing.
 use Prim.Native.Nat.{ℕ, suc, _-_, _≤_, _<_}
 use mathlib.Core.Path.{_≡_, refl, sym, ap, _∙_, subst, subst₂}
 use mathlib.Core.Bool.{Bool, true, false, cond}
 use mathlib.Core.Logic.{_≢_, inl, inr}
 use mathlib.Core.List.{List, [], _∷_, map}
 use native.Mathlib.Omega.{arith}
-use lib.Dec.{T}
+use lib.Dec.{T, ltb}
 use lib.ListN.{length, length-map}
 use borrow.Author.Tests.{lt-ltb, le-ltb, leb-true, leb-false}
 use Rattle.calculus.specs.Term.{Closing, done, withdrawn, failed, Std}
-use Rattle.calculus.specs.Records.{State, over, std, cmp, Fits}
-use Rattle.calculus.specs.Successors.{only, ends, comps}
+use Rattle.calculus.specs.Records.{State, over, std, cmp, Closed, Fits}
+use Rattle.calculus.specs.Successors.{only, some-of, ends, comps}
 use Rattle.calculus.specs.Search.{next}
+use Rattle.calculus.specs.Ahead.{passes, may-follow}
 use Rattle.calculus.specs.Spending.{spent, back, chain, triesB, visitB}
 use Rattle.flow.specs.Cues.{done-cue, failed-cue, cue-record, cue-records}
 use Rattle.flow.specs.Refusals.{root}
@@ -113,6 +114,28 @@ module _ (ns t : List ℕ) (r i : ℕ) (e : i ≡ root ns) {role x : Role} (g : 
           kept = q .kept;
         })
 
+-- Whether a record can follow -----------------------------------------------------------------------------------------------
+
+-- it can where there is a successor
+some-follow : (l : List State) → ltb 0 (cap (length l)) ≡ some-of (λ t. passes [] t) l
+unfolding passes some-of
+some-follow [] = refl
+some-follow (s ∷ l) = lt-ltb 0 (cap (length (s ∷ l))) (omega arith)
+
+pub count-follows : (ns : List ℕ) (role : Role) (r : ℕ) (t : List ℕ) {n : ℕ} → n ≡ successor-count ns role r t → ltb 0 n ≡ may-follow [] (state ns role t) (cue-record r)
+unfolding passes
+count-follows ns role r t e = ap (ltb 0) e ∙ some-follow (next (state ns role t) (cue-record r))
+
+-- nothing left, or no successor
+only-follow : (b : Bool) → b ≡ some-of (λ t. passes [] t) (only b (over ∷ []))
+unfolding passes some-of only
+only-follow true = refl
+only-follow false = refl
+
+pub end-follows : (s : State) (r : ℕ) {b : Bool} → next s (cue-record r) ≡ only b (over ∷ []) → b ≡ may-follow [] s (cue-record r)
+unfolding passes
+end-follows s r {b} e = only-follow b ∙ ap (some-of (λ t. passes [] t)) (sym e)
+
 -- A closing of a part that runs ---------------------------------------------------------------------------------------------
 
 module _ (ns t : List ℕ) (r i : ℕ) (e : i ≡ root ns) {role : Role} (g : role ≡ Running) (low : done-cue ≤ r) (inner : Inner role r) (w : ℕ) (cw : closing w ≡ closing-of r) where
@@ -136,15 +159,20 @@ module _ (ns t : List ℕ) (r i : ℕ) (e : i ≡ root ns) {role : Role} (g : ro
         kept = q .kept;
       })
 
-pub counted-closing : (ns t : List ℕ) (r i : ℕ) → i ≡ root ns → done-cue ≤ r → r ≤ failed-cue → (w : ℕ) → closing w ≡ closing-of r → {d : List ℕ} {v : Word} {y : Tally}
-    → v ≡ word r (part ns (modes t) i .run) → Weighed (scene ns t r) d i → y ≡ byW v (closing w) → ClosingsCounted ns r t d (y .many)
-unfolding tally
-counted-closing ns t r i e low high w cw {d} {v} {y} ev ok ey = record {
-  many =
+-- how many they are, as the tally says
+module _ (ns t : List ℕ) (r i : ℕ) (e : i ≡ root ns) (low : done-cue ≤ r) (high : r ≤ failed-cue) (w : ℕ) (cw : closing w ≡ closing-of r)
+    {v : Word} {y : Tally} (ev : v ≡ word r (part ns (modes t) i .run)) (ey : y ≡ byW v (closing w)) where
+  tallied-closing : y .many ≡ successor-count ns Running r t
+  unfolding tally
+  tallied-closing =
       ap (λ (z : Tally). z .many) (tally-by r (at-root ns t .run) (closing-of r) (ev ∙ ap (λ j. word r (part ns (modes t) j .run)) e) (ey ∙ ap (byW v) cw))
-      ∙ sym (count-closing ns t r low high);
-  right = subst (λ j. Weighed (scene ns t r) d j) e ok;
-}
+      ∙ sym (count-closing ns t r low high)
+
+  pub counted-closing : {d : List ℕ} → Weighed (scene ns t r) d i → ClosingsCounted ns r t d (y .many)
+  counted-closing {d} ok = record { many = tallied-closing; right = subst (λ j. Weighed (scene ns t r) d j) e ok }
+
+  pub running-follows : {role : Role} → role ≡ Running → ltb 0 (y .many) ≡ may-follow [] (state ns role t) (cue-record r)
+  running-follows {role} g = count-follows ns role r t (tallied-closing ∙ ap (λ z. successor-count ns z r t) (sym g))
 
 -- which of the two it is
 closes-running : (role : Role) (r : ℕ) → closes role r ≡ true → (role ≡ Running) × (done-cue ≤ r)
@@ -189,6 +217,13 @@ view-ends a p failed e = ap (λ (x : View). x .fails) e
 last-ends : (p : Std) (r : ℕ) (b : Bool) → Fits (std p) (cue-records (r ∷ [])) → b ≡ ends p (closing-of r) → next (std p) (cue-record r) ≡ only b (over ∷ [])
 unfolding next
 last-ends p r b f e = ap (next (std p)) (last-close r f) ∙ ap (λ b. only b (over ∷ [])) (sym e)
+
+-- a standard part's closing is its last record
+pub plain-fits : (ns t : List ℕ) (r : ℕ) → done-cue ≤ r → r ≤ failed-cue → {role : Role} {z : Sense} → role ≡ Plain z → Fits (state ns role t) (cue-records (r ∷ []))
+unfolding state
+plain-fits ns t r low high {role} {z} g =
+    let f : Fits (state ns (Plain z) t) (cue-records (r ∷ [])) = subst (λ x. Closed (x ∷ [])) (sym (record-close r low high)) Closed.last in
+    subst (λ x. Fits (state ns x t) (cue-records (r ∷ []))) (sym g) f
 
 module _ (ns t : List ℕ) (r i : ℕ) (e : i ≡ root ns) (role : Role) (f : Fits (state ns role t) (cue-records (r ∷ []))) where
   module _ {b : Bool} {v : View} (q : b ≡ ends-by v (closing-of r)) where

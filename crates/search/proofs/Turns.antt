@@ -100,10 +100,13 @@ module _ (s : State) (r : ℕ) (xs : List ℕ) (left : ℕ) where
 
   module _ {k far rest : ℕ} (t : Turn s r xs left k far rest) where
     -- no successor is left, since none could be paid for that is not counted
+    pub turn-all : cap (length (next s (cue-record r))) ≤ k → left < most → length (next s (cue-record r)) ≤ k
+    turn-all h l = omega (arith, t .spends)
+
     pub turn-over : cap (length (next s (cue-record r))) ≤ k → left < most → out-of (Back (record { found = false; far = far; left = rest })) ≡ onward s r xs left
     unfolding out-of bump triesB
     turn-over h l =
-        let few : length (next s (cue-record r)) ≤ k = omega (arith, t .spends) in
+        let few = turn-all h l in
         let z : max far 0 ≡ far = omega arith in
         sym (t .same ∙ ap (λ l. bump far (triesB (λ t m. visitB (cue-records xs) t m) l rest)) (drop-of-length-le (next s (cue-record r)) few) ∙ ap (λ d. back false d rest) z)
 

@@ -1,23 +1,28 @@
 -- What ties the code of `search` to what it leaves: all modes 0 are the drawn flow (`state-drawn`), what a search asks is what a visit
--- asks (`ready`), and clearing, visiting and clearing again bring back what the counted search does and leave the bytes as promised
--- (`searched`). Assumes nothing.
+-- asks (`visit-ready`), and clearing, searching and clearing again bring back what the counted search does, leave the bytes as promised,
+-- and answer what is asked: all of it where the search went through (`asked-all`), and else nothing (`asked-nothing`). Assumes nothing.
 use Prim.Native.Nat.{ℕ, zero, suc, _+_, _*_, _-_, _<_, _≤_}
 use mathlib.Core.Path.{_≡_, refl, sym, ap, _∙_, subst}
 use mathlib.Core.Bool.{Bool, true, false, cond}
-use mathlib.Core.List.{List, [], _∷_, _++_}
+use mathlib.Core.List.{List, [], _∷_, _++_, map, append-nil}
 use native.Mathlib.Omega.{arith}
 use native.Mathlib.Nat.{mul-le-mul, mul-suc}
+use native.Mathlib.Decide.{decLe}
 use native.Mathlib.Numerals.{add-one}
-use lib.ListN.{length, getD, set, drop, replicate, length-append, length-replicate, length-drop, getD-replicate, List·getD-append}
-use lib.Seq.{drop-drop, drop-at}
+use lib.ListN.{length, getD, set, drop, replicate, length-append, length-replicate, length-drop, length-map, getD-replicate, List·getD-append, List·getD-map}
+use lib.Seq.{drop-drop, drop-at, drop-length, ext-getD}
 use borrow.Author.Fill.{fill-more}
-use Rattle.calculus.specs.Records.{Record, State, std, cmp, Fits}
+use borrow.Author.Tests.{le-leb, lt-leb}
+use Rattle.calculus.specs.Records.{Record, State, std, cmp}
+use Rattle.calculus.specs.Members.{is-true}
+use Rattle.calculus.specs.Within.{Within}
+use Rattle.calculus.specs.Ahead.{may-follow}
 use Rattle.calculus.specs.Search.{next}
 use Rattle.calculus.specs.Spending.{Out as Found, spent, back, bump, chain, triesB, visitB}
 use Rattle.flow.specs.declared.Check.the-variants.{Fine}
 use Rattle.flow.specs.Nodes.{under-le}
 use Rattle.flow.specs.Kinds.{node, is-standard, shape}
-use Rattle.flow.specs.Cues.{cued, cue-records}
+use Rattle.flow.specs.Cues.{cued, cue-record, cue-records}
 use Rattle.flow.specs.Refusals.{count, root}
 use Rattle.flow.specs.Checks.{table-check}
 use Rattle.flow.specs.FineTable.{FineTable, fine-table, fine-tree}
@@ -32,8 +37,8 @@ use Rattle.states.specs.DrawnLaws.{none-done, Means, drawn-means}
 use Rattle.search.specs.declared.Out.{Out}
 use Rattle.search.specs.declared.Out.the-variants.{Spent, Back}
 use Rattle.search.specs.Room.{room-of, cleared}
-use Rattle.search.specs.Visits.{state, out-of, stretches, VisitReady, Used, Began}
-use Rattle.search.specs.Searches.{role-of, LeftWithin, SearchReady, Searched}
+use Rattle.search.specs.Visits.{state, out-of, stretches, VisitReady, Used, follows-mark, Answers, as-was, can, Settled, AsksAfter, Began}
+use Rattle.search.specs.Searches.{role-of, LeftWithin, SearchReady, Searched, answered, went-through, asks-after, Asked}
 
 ---- All modes 0 are the drawn flow ----
 
@@ -85,9 +90,11 @@ pub cleared-more : (work t : List ℕ) (i : ℕ) → i < length work → t ≡ c
 unfolding cleared
 cleared-more work t i h e = rw e (fill-more i 0 work h)
 
--- a stretch more
-room-next : (n m : ℕ) → 2 * n * (m + 1) ≡ 2 * n * m + 2 * n
-room-next n m = rw (add-one, mul-suc) (omega arith)
+-- all of them
+pub cleared-all : (work t : List ℕ) (i : ℕ) → length work ≡ i → t ≡ cleared i work → t ≡ replicate (length work) 0
+unfolding cleared
+cleared-all work t i h e =
+    e ∙ ap (λ (n : ℕ). replicate n 0 ++ drop n work) (sym h) ∙ ap (λ (l : List ℕ). replicate (length work) 0 ++ l) (drop-length work) ∙ append-nil (replicate (length work) 0)
 
 pub room-small : (n m : ℕ) → n ≤ 64 → m ≤ 256 → 2 * n * (m + 1) ≤ 32896
 room-small n m h k =
@@ -95,20 +102,20 @@ room-small n m h k =
     let b : m + 1 ≤ 257 = omega arith in
     mul-le-mul a b
 
--- the states of all records are within the room
-pub room-stretches : (n m : ℕ) → room-of n m ≡ stretches n m + 2 * n
+-- a stretch for the drawn state, and one for each record
+pub room-stretches : (n m : ℕ) → room-of n m ≡ stretches n (suc m)
 unfolding room-of stretches
-room-stretches n m = room-next n m
+room-stretches n m = ap (λ (k : ℕ). 2 * n * k) (add-one m)
 
-bytes-after : (n m : ℕ) (work later : List ℕ) → Used n m (cleared n work) later → cleared (room-of n m) later ≡ cleared (room-of n m) work
+stretches-own : (n m : ℕ) → n ≤ stretches n (suc m)
+unfolding stretches
+stretches-own n m = omega (arith, mul-suc (2 * n) m)
+
+bytes-after : (n m : ℕ) (work later : List ℕ) → Used n (suc m) (cleared n work) later → cleared (room-of n m) later ≡ cleared (room-of n m) work
 unfolding cleared
 bytes-after n m work later used =
     let behind : drop (room-of n m) later ≡ drop (room-of n m) work
-    = rw (room-stretches n m)
-    (sym (drop-drop (2 * n) (stretches n m) later)
-    ∙ ap (drop (2 * n)) (used .rest)
-    ∙ drop-drop (2 * n) (stretches n m) (cleared n work)
-    ∙ cleared-behind n work (stretches n m + 2 * n) (omega arith)) in
+    = rw (room-stretches n m) (used .rest ∙ cleared-behind n work (stretches n (suc m)) (stretches-own n m)) in
     ap (λ (l : List ℕ). replicate (room-of n m) 0 ++ l) behind
 
 ---- What a visit asks ----
@@ -127,14 +134,14 @@ module _ {ns xs work : List ℕ} (asked : SearchReady ns xs work) where
   state-clear = state-drawn ns (asked .table) (cleared (count ns) work) (cleared-zero (count ns) work)
 
   pub nodes-within : count ns ≤ length work
-  nodes-within = omega (arith, room-stretches (count ns) (length xs), asked .room)
+  nodes-within = omega (arith, room-stretches (count ns) (length xs), stretches-own (count ns) (length xs), asked .room)
 
   ready : VisitReady ns xs (cleared (count ns) work) (role-of ns)
   ready = record {
     sound = record { few = few-nodes; tree = fine-tree ns fine };
     some = some-nodes;
     known = record { few = asked .few; low = asked .low };
-    fits = subst (λ (s : State). Fits s (cue-records xs)) (sym state-clear) (asked .fits);
+    fits = subst (λ (s : State). Within s (cue-records xs)) (sym state-clear) (asked .fits);
     room = rw (cleared-length (count ns) work nodes-within) (omega (arith, room-stretches (count ns) (length xs), asked .room));
   }
 
@@ -181,6 +188,52 @@ out-within allowance (Back trip) l = l
 pub visit-within : (xs : List Record) (s : State) (n : ℕ) (o : Out) → out-of o ≡ visitB xs s n → LeftWithin n o
 visit-within xs s n o e = out-within n o (subst (LeftOver n) (sym e) (visit-left xs s n))
 
+---- What is asked ----
+
+-- what a search that went through brings back
+no-end : (o : Found) → went-through o ≡ true → (far : ℕ) × (left : ℕ) × (o ≡ back false far left)
+unfolding went-through
+no-end spent g = absurd (let z : _≡_ {A = ℕ} 0 1 = cc g in omega arith)
+no-end (back true far left) g = absurd (let z : _≡_ {A = ℕ} 0 1 = cc g in omega arith)
+no-end (back false far left) g = (far, left, refl)
+
+module _ (s : State) (rs : List Record) where
+  -- nothing more is asked
+  answered-none : (x : ℕ) → x ≤ follows-mark → answered s rs x ≡ x
+  unfolding answered
+  answered-none x h = rw (le-leb x follows-mark h)
+
+  -- an ask, by whether its record can follow
+  answered-as : (x : ℕ) → follows-mark < x → (b : Bool) → may-follow rs s (cue-record x) ≡ b → answered s rs x ≡ cond b follows-mark x
+  unfolding answered
+  answered-as x h b e = rw (lt-leb x follows-mark h, e)
+
+  -- an ask comes out so, where it was answered rightly and does not follow if it is still asked
+  answers-is : {x y : ℕ} → Answers s rs x y → (follows-mark < y → may-follow rs s (cue-record y) ≡ false) → y ≡ answered s rs x
+  answers-is {x} as-was settled = elim (decLe x follows-mark) [
+    | yes h ↦ sym (answered-none x h)
+    | no h ↦ let l : follows-mark < x = omega (arith, h) in sym (answered-as x l false (settled l))
+  ]
+  answers-is {x} (can h c) settled = sym (answered-as x h true (is-true (may-follow rs s (cue-record x)) c))
+
+  module _ {o : Found} {qs qs′ : List ℕ} (a : AsksAfter s rs o qs qs′) where
+    -- all runs were searched
+    answered-all : went-through o ≡ true → qs′ ≡ asks-after s rs o qs
+    unfolding asks-after answered went-through
+    answered-all g =
+        let w = no-end o g in
+        let told : qs′ ≡ map (answered s rs) qs
+        = ext-getD 0 qs′ (map (answered s rs) qs) (a .strikes .long ∙ sym (length-map qs (answered s rs)))
+        (λ j h. answers-is (a .strikes .each j) (a .settles (w .0) (w .1) (w .2) .none j) ∙ sym (List·getD-map (answered s rs) qs j 0)) in
+        told ∙ ap (λ (b : Bool). cond b (map (answered s rs) qs) (replicate (length qs) 0)) (sym g)
+
+    -- an end was found, or the allowance is used up
+    answered-nothing : went-through o ≡ false → {none : List ℕ} → none ≡ replicate (length qs′) 0 → none ≡ asks-after s rs o qs
+    unfolding asks-after
+    answered-nothing g e =
+        e ∙ ap (λ (n : ℕ). replicate n 0) (a .strikes .long)
+        ∙ ap (λ (b : Bool). cond b (map (answered s rs) qs) (replicate (length qs) 0)) (sym g)
+
 ---- The search, as the code comes to it ----
 
 module _ {ns xs work : List ℕ} (asked : SearchReady ns xs work) where
@@ -189,12 +242,27 @@ module _ {ns xs work : List ℕ} (asked : SearchReady ns xs work) where
     pub visit-ready : VisitReady ns xs t role
     visit-ready = subst (VisitReady ns xs t) (sym d) (subst (λ (l : List ℕ). VisitReady ns xs l (role-of ns)) (sym e) (ready asked))
 
-    -- what the visit leaves there and brings back, and what is cleared after it
-    pub searched : {allowance : ℕ} {t′ : List ℕ} {o : Out} → Began ns xs t role allowance t′ o → {room : ℕ} {after : List ℕ}
-        → room ≡ room-of (count ns) (length xs) → after ≡ cleared room t′ → Searched ns xs allowance work o after
-    searched {allowance} {t′} v er ea = record {
-      out = v .out ∙ (λ z. visitB (cue-records xs) (state ns (d z) (e z)) allowance) ∙ ap (λ (s : State). visitB (cue-records xs) s allowance) (state-clear asked);
-      leaves =
-          ea ∙ ap (λ (n : ℕ). cleared n t′) er
-          ∙ bytes-after (count ns) (length xs) work t′ (subst (λ (l : List ℕ). Used (count ns) (length xs) l t′) e (v .used));
-    }
+    -- what the search leaves there and brings back, and what is cleared after it
+    module _ {allowance : ℕ} {qs t′ qs′ : List ℕ} {o : Out} (v : Began ns xs t role qs allowance t′ qs′ o)
+        {room : ℕ} {after : List ℕ} (er : room ≡ room-of (count ns) (length xs)) (ea : after ≡ cleared room t′) where
+      drawn : state ns role t ≡ flow-by cued ns
+      drawn = (λ z. state ns (d z) (e z)) ∙ state-clear asked
+
+      searched : Searched ns xs allowance work o after
+      searched = record {
+        out = v .out ∙ ap (λ (s : State). visitB (cue-records xs) s allowance) drawn;
+        leaves =
+            ea ∙ ap (λ (n : ℕ). cleared n t′) er
+            ∙ bytes-after (count ns) (length xs) work t′ (subst (λ (l : List ℕ). Used (count ns) (suc (length xs)) l t′) e (v .used));
+      }
+
+      asks-drawn : AsksAfter (flow-by cued ns) (cue-records xs) (out-of o) qs qs′
+      asks-drawn = subst (λ (s : State). AsksAfter s (cue-records xs) (out-of o) qs qs′) drawn (v .asked)
+
+      -- the asks stay as they are
+      pub asked-all : went-through (out-of o) ≡ true → Asked ns xs allowance work qs o after qs′
+      asked-all g = record { search = searched; asks = answered-all (flow-by cued ns) (cue-records xs) asks-drawn g }
+
+      -- they are forgotten
+      pub asked-nothing : went-through (out-of o) ≡ false → {none : List ℕ} → none ≡ replicate (length qs′) 0 → Asked ns xs allowance work qs o after none
+      asked-nothing g z = record { search = searched; asks = answered-nothing (flow-by cued ns) (cue-records xs) asks-drawn g z }

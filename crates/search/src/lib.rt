@@ -1,5 +1,6 @@
-// The counted search of a flow, by the cues of the records: from the drawn flow, in lent work bytes. What is refused, and what an answer
-// tells, is the judge's.
+// The counted search of a flow, by the cues of the records: from the drawn flow, in lent work bytes. Where the records are a beginning, it
+// goes through all their runs, and finds out which of the cues that are asked for can follow. What is refused, and what an answer tells,
+// is for those that call it.
 use memory::Recalled;
 use memory::Sight;
 use states::Role;
@@ -7,13 +8,14 @@ use states::Sense;
 use tallies::View;
 use tallies::Weight;
 ghost use mathlib.Core.Path.{_≡_};
-ghost use mathlib.Core.List.{[], _∷_};
+ghost use mathlib.Core.List.{[], _∷_, map};
 ghost use Prim.Native.Nat.{_+_, _*_, _-_, _<_, _≤_, max};
-ghost use lib.ListN.{length, getD};
+ghost use lib.ListN.{length, getD, replicate};
 ghost use lib.Seq.{paste};
-ghost use mathlib.Core.Bool.{true};
+ghost use mathlib.Core.Bool.{true, false};
 ghost use Rattle.calculus.specs.Records.{Fits, over};
 ghost use Rattle.calculus.specs.Search.{next};
+ghost use Rattle.calculus.specs.Ahead.{may-follow};
 ghost use Rattle.calculus.specs.Spending.{left-of};
 ghost use Rattle.calculus.specs.Successors.{only};
 ghost use Rattle.flow.specs.Cues.{done-cue, failed-cue, cue-record, cue-records};
@@ -24,8 +26,8 @@ ghost use Rattle.states.specs.Contracts.{Spot};
 ghost use Rattle.memory.specs.Memory.{Fitting};
 ghost use Rattle.search.specs.declared.Out.the-variants.{Back};
 ghost use Rattle.search.specs.Room.{room-of, cleared};
-ghost use Rattle.search.specs.Searches.{role-of, LeftWithin, SearchReady, Searched};
-ghost use Rattle.search.specs.Visits.{state, role-next, out-of, closing-of, ends-by, onward, VisitReady, memory, key-of, saw-none, Truthful, KeptOut, quest, Began, Visited, Tried, Followed, Inner, closes, RightCounts, successor-count, SuccessorsCounted, ClosingsCounted, Applied};
+ghost use Rattle.search.specs.Searches.{role-of, LeftWithin, SearchReady, Searched, answered, went-through, Asked};
+ghost use Rattle.search.specs.Visits.{state, role-next, out-of, closing-of, ends-by, onward, VisitReady, Asking, memory, key-of, saw-none, Truthful, KeptOut, quest, Began, Visited, Tried, Followed, Inner, closes, ends, RightCounts, successor-count, SuccessorsCounted, ClosingsCounted, Applied};
 
 // What a search brings back: whether it found the end, how many records at most it followed, and what is left of the allowance.
 pub struct Trip {
@@ -38,6 +40,9 @@ pub enum Out {
     Spent,
     Back(Trip),
 }
+
+// An ask whose record can follow. No cue is as low, and neither is 0, which asks nothing.
+pub const FOLLOWS: u32 = 1;
 
 // A closing's rank.
 fn rank_of(cue: u32) -> u8
@@ -190,12 +195,86 @@ fn finish(ns: &[u16], t: &[u8], cue: u32, role: Role, left: u32) -> Out
     }
 }
 
+// Whether the root can close by this closing.
+fn closes_by(ns: &[u16], t: &[u8], cue: u32, role: Role) -> bool
+    requires { ⌜ Spot (now ns) (now t) (root (now ns)) ⌝ }
+    requires { ⌜ (3 ≤ length (now ns)) × ((done-cue ≤ cue) × (cue ≤ failed-cue)) ⌝ }
+    ensures { λ r. ⌜ r ≡ may-follow [] (state (now (ns .entry)) role (now (t .entry))) (cue-record cue) ⌝ }
+{
+    match role {
+        Role::Plain(_) => can_end(ns, t, cue, role),
+        Role::Running => {
+            let mut c = [0u32; 64];
+            let w = counting::count_run(ns, t, cue, &mut c, root_of(ns));
+            let y = tallies::tally_by(w, rank_of(cue));
+            y.many > 0
+        }
+    }
+}
+
+// Whether the record of a cue can follow in this state.
+fn follows(ns: &[u16], t: &[u8], cue: u32, role: Role) -> bool
+    requires { ⌜ Spot (now ns) (now t) (root (now ns)) ⌝ }
+    requires { ⌜ (3 ≤ length (now ns)) × (cue ≤ failed-cue) ⌝ }
+    ensures { λ r. ⌜ r ≡ may-follow [] (state (now (ns .entry)) role (now (t .entry))) (cue-record cue) ⌝ }
+{
+    if cue >= flow::DONE_CUE {
+        return closes_by(ns, t, cue, role);
+    }
+    let mut c = [0u32; 64];
+    successors(ns, t, cue, &mut c, role) > 0
+}
+
+// An ask whose record can follow in this state is answered; others stay.
+fn answer(ns: &[u16], t: &[u8], cue: u32, role: Role) -> u32
+    requires { ⌜ Spot (now ns) (now t) (root (now ns)) ⌝ }
+    requires { ⌜ (3 ≤ length (now ns)) × (cue ≤ failed-cue) ⌝ }
+    ensures { λ r. ⌜ r ≡ answered (state (now (ns .entry)) role (now (t .entry))) [] cue ⌝ }
+{
+    if cue <= FOLLOWS {
+        return cue;
+    }
+    if follows(ns, t, cue, role) {
+        FOLLOWS
+    } else {
+        cue
+    }
+}
+
+// The asks are answered by this state, where the records end. What is answered already is not tried again.
+fn gather(ns: &[u16], t: &[u8], role: Role, asks: &mut [u32])
+    requires { ⌜ Spot (now ns) (now t) (root (now ns)) ⌝ }
+    requires { ⌜ (3 ≤ length (now ns)) × Asking (now asks) ⌝ }
+    ensures { λ _. ⌜ now (asks .exit) ≡ map (answered (state (now (ns .entry)) role (now (t .entry))) []) (now (asks .entry)) ⌝ }
+{
+    let mut j = 0;
+    while j < asks.len() {
+        asks[j] = answer(ns, t, asks[j], role);
+        j += 1;
+    }
+}
+
+// The records end here: what is asked is answered, and there is no more to follow.
+fn arrive(ns: &[u16], t: &[u8], role: Role, asks: &mut [u32], left: u32) -> Out
+    requires { ⌜ Spot (now ns) (now t) (root (now ns)) ⌝ }
+    requires { ⌜ (3 ≤ length (now ns)) × Asking (now asks) ⌝ }
+    ensures { λ r. ⌜ r ≡ Back (record { found = false; far = 0; left = left }) ⌝ }
+    ensures asked { λ r. ⌜ now (asks .exit) ≡ map (answered (state (now (ns .entry)) role (now (t .entry))) []) (now (asks .entry)) ⌝ }
+{
+    gather(ns, t, role, asks);
+    Out::Back(Trip {
+        found: false,
+        far: 0,
+        left: left,
+    })
+}
+
 // What a state is remembered by, beside its modes: how many records are left, and the role.
 fn key_of(records: usize, role: Role) -> u32
     requires { ⌜ records ≤ 256 ⌝ }
     ensures { λ r. ⌜ r ≡ key-of role records ⌝ }
 {
-    let depth = 4 * records as u32;
+    let depth = 4 * (records as u32 + 1);
     match role {
         Role::Plain(sense) => match sense {
             Sense::Drawn => depth,
@@ -270,20 +349,21 @@ fn visit(
     cues: &[u32],
     work: &mut [u8],
     role: Role,
+    asks: &mut [u32],
     left: u32,
     modes: &mut [u8],
     marks: &mut [u32],
 ) -> Out
     requires { ⌜ VisitReady (now ns) (now cues) (now work) role ⌝ }
-    requires { ⌜ Truthful (now ns) (now cues) (memory (now modes) (now marks)) ⌝ }
-    ensures { λ r. ⌜ Visited (quest (now (ns .entry)) (now (cues .entry)) (now (work .entry)) role left (memory (now (modes .entry)) (now (marks .entry)))) (now (work .exit)) (memory (now (modes .exit)) (now (marks .exit))) r ⌝ }
+    requires { ⌜ Truthful (now ns) (now cues) (now asks) (memory (now modes) (now marks)) ⌝ }
+    ensures { λ r. ⌜ Visited (quest (now (ns .entry)) (now (cues .entry)) (now (work .entry)) role (now (asks .entry)) left (memory (now (modes .entry)) (now (marks .entry)))) (now (work .exit)) (now (asks .exit)) (memory (now (modes .exit)) (now (marks .exit))) r ⌝ }
 {
     let n = ns.len() / 3;
     let key = key_of(cues.len(), role);
     match memory::recall(modes, marks, work, n, key) {
         Recalled::Known(seen) => known(seen, left),
         Recalled::Unknown(slot) => {
-            let out = enter(ns, cues, work, role, left, modes, marks);
+            let out = enter(ns, cues, work, role, asks, left, modes, marks);
             keep(out, left, modes, marks, slot, work, n, key);
             out
         }
@@ -296,21 +376,25 @@ fn enter(
     cues: &[u32],
     work: &mut [u8],
     role: Role,
+    asks: &mut [u32],
     left: u32,
     modes: &mut [u8],
     marks: &mut [u32],
 ) -> Out
     requires { ⌜ VisitReady (now ns) (now cues) (now work) role ⌝ }
-    requires { ⌜ Truthful (now ns) (now cues) (memory (now modes) (now marks)) ⌝ }
-    ensures { λ r. ⌜ Visited (quest (now (ns .entry)) (now (cues .entry)) (now (work .entry)) role left (memory (now (modes .entry)) (now (marks .entry)))) (now (work .exit)) (memory (now (modes .exit)) (now (marks .exit))) r ⌝ }
+    requires { ⌜ Truthful (now ns) (now cues) (now asks) (memory (now modes) (now marks)) ⌝ }
+    ensures { λ r. ⌜ Visited (quest (now (ns .entry)) (now (cues .entry)) (now (work .entry)) role (now (asks .entry)) left (memory (now (modes .entry)) (now (marks .entry)))) (now (work .exit)) (now (asks .exit)) (memory (now (modes .exit)) (now (marks .exit))) r ⌝ }
 {
     if left == 0 {
         return Out::Spent;
     }
-    if cues.len() == 1 {
+    if cues.len() == 0 {
+        return arrive(ns, work, role, asks, left - 1);
+    }
+    if ends(role, cues[0]) {
         finish(ns, work, cues[0], role, left - 1)
     } else {
-        visit_each(ns, cues, work, role, left - 1, modes, marks)
+        visit_each(ns, cues, work, role, asks, left - 1, modes, marks)
     }
 }
 
@@ -332,23 +416,35 @@ fn closes(role: Role, cue: u32) -> bool
     }
 }
 
+// Whether a standard part closes: then nothing is left of it.
+fn ends(role: Role, cue: u32) -> bool
+    ensures { λ r. ⌜ r ≡ ends role cue ⌝ }
+{
+    match role {
+        Role::Plain(_) => cue >= flow::DONE_CUE,
+        Role::Running => false,
+    }
+}
+
 // The successors are counted, and tried.
 fn visit_each(
     ns: &[u16],
     cues: &[u32],
     work: &mut [u8],
     role: Role,
+    asks: &mut [u32],
     left: u32,
     modes: &mut [u8],
     marks: &mut [u32],
 ) -> Out
     requires { ⌜ VisitReady (now ns) (now cues) (now work) role ⌝ }
-    requires { ⌜ Truthful (now ns) (now cues) (memory (now modes) (now marks)) ⌝ }
-    requires { ⌜ (2 ≤ length (now cues)) × (left < most) ⌝ }
-    ensures { λ r. ⌜ Tried (quest (now (ns .entry)) (now (cues .entry)) (now (work .entry)) role left (memory (now (modes .entry)) (now (marks .entry)))) (now (work .exit)) (memory (now (modes .exit)) (now (marks .exit))) r ⌝ }
+    requires { ⌜ Truthful (now ns) (now cues) (now asks) (memory (now modes) (now marks)) ⌝ }
+    requires { ⌜ (1 ≤ length (now cues)) × (left < most) ⌝ }
+    requires { ⌜ ends role (getD (now cues) 0 0) ≡ false ⌝ }
+    ensures { λ r. ⌜ Tried (quest (now (ns .entry)) (now (cues .entry)) (now (work .entry)) role (now (asks .entry)) left (memory (now (modes .entry)) (now (marks .entry)))) (now (work .exit)) (now (asks .exit)) (memory (now (modes .exit)) (now (marks .exit))) r ⌝ }
 {
     if closes(role, cues[0]) {
-        return visit_closing(ns, cues, work, role, left, modes, marks);
+        return visit_closing(ns, cues, work, role, asks, left, modes, marks);
     }
     let mut c = [0u32; 64];
     let many = successors(ns, work, cues[0], &mut c, role);
@@ -358,6 +454,7 @@ fn visit_each(
         cues,
         work,
         role,
+        asks,
         left,
         modes,
         marks,
@@ -373,20 +470,22 @@ fn visit_closing(
     cues: &[u32],
     work: &mut [u8],
     role: Role,
+    asks: &mut [u32],
     left: u32,
     modes: &mut [u8],
     marks: &mut [u32],
 ) -> Out
     requires { ⌜ VisitReady (now ns) (now cues) (now work) role ⌝ }
-    requires { ⌜ Truthful (now ns) (now cues) (memory (now modes) (now marks)) ⌝ }
-    requires { ⌜ (2 ≤ length (now cues)) × (left < most) ⌝ }
+    requires { ⌜ Truthful (now ns) (now cues) (now asks) (memory (now modes) (now marks)) ⌝ }
+    requires { ⌜ (1 ≤ length (now cues)) × (left < most) ⌝ }
+    requires { ⌜ ends role (getD (now cues) 0 0) ≡ false ⌝ }
     requires { ⌜ closes role (getD (now cues) 0 0) ≡ true ⌝ }
-    ensures { λ r. ⌜ Tried (quest (now (ns .entry)) (now (cues .entry)) (now (work .entry)) role left (memory (now (modes .entry)) (now (marks .entry)))) (now (work .exit)) (memory (now (modes .exit)) (now (marks .exit))) r ⌝ }
+    ensures { λ r. ⌜ Tried (quest (now (ns .entry)) (now (cues .entry)) (now (work .entry)) role (now (asks .entry)) left (memory (now (modes .entry)) (now (marks .entry)))) (now (work .exit)) (now (asks .exit)) (memory (now (modes .exit)) (now (marks .exit))) r ⌝ }
 {
     let c = [0u32; 64];
     let mut d = [0u32; 576];
     let many = closings(ns, work, cues[0], &mut d);
-    try_each(ns, cues, work, role, left, modes, marks, &c, &d, many)
+    try_each(ns, cues, work, role, asks, left, modes, marks, &c, &d, many)
 }
 
 // The successors one after the other, until one finds the end.
@@ -395,6 +494,7 @@ fn try_each(
     cues: &[u32],
     work: &mut [u8],
     role: Role,
+    asks: &mut [u32],
     left: u32,
     modes: &mut [u8],
     marks: &mut [u32],
@@ -403,17 +503,18 @@ fn try_each(
     many: u32,
 ) -> Out
     requires { ⌜ VisitReady (now ns) (now cues) (now work) role ⌝ }
-    requires { ⌜ Truthful (now ns) (now cues) (memory (now modes) (now marks)) ⌝ }
-    requires { ⌜ (2 ≤ length (now cues)) × (left < most) ⌝ }
+    requires { ⌜ Truthful (now ns) (now cues) (now asks) (memory (now modes) (now marks)) ⌝ }
+    requires { ⌜ (1 ≤ length (now cues)) × (left < most) ⌝ }
+    requires { ⌜ ends role (getD (now cues) 0 0) ≡ false ⌝ }
     requires { ⌜ RightCounts (now ns) role (getD (now cues) 0 0) (now work) (now c) (now d) ⌝ }
     requires { ⌜ many ≡ successor-count (now ns) role (getD (now cues) 0 0) (now work) ⌝ }
-    ensures { λ r. ⌜ Tried (quest (now (ns .entry)) (now (cues .entry)) (now (work .entry)) role left (memory (now (modes .entry)) (now (marks .entry)))) (now (work .exit)) (memory (now (modes .exit)) (now (marks .exit))) r ⌝ }
+    ensures { λ r. ⌜ Tried (quest (now (ns .entry)) (now (cues .entry)) (now (work .entry)) role (now (asks .entry)) left (memory (now (modes .entry)) (now (marks .entry)))) (now (work .exit)) (now (asks .exit)) (memory (now (modes .exit)) (now (marks .exit))) r ⌝ }
 {
     let mut k = 0;
     let mut far = 0;
     let mut rest = left;
     while k < many {
-        match follow(ns, cues, c, d, work, role, k, rest, modes, marks) {
+        match follow(ns, cues, c, d, work, role, asks, k, rest, modes, marks) {
             Out::Spent => {
                 return Out::Spent;
             }
@@ -459,24 +560,35 @@ fn follow(
     d: &[u32],
     work: &mut [u8],
     role: Role,
+    asks: &mut [u32],
     k: u32,
     left: u32,
     modes: &mut [u8],
     marks: &mut [u32],
 ) -> Out
     requires { ⌜ VisitReady (now ns) (now cues) (now work) role ⌝ }
-    requires { ⌜ Truthful (now ns) (now cues) (memory (now modes) (now marks)) ⌝ }
-    requires { ⌜ 2 ≤ length (now cues) ⌝ }
+    requires { ⌜ Truthful (now ns) (now cues) (now asks) (memory (now modes) (now marks)) ⌝ }
+    requires { ⌜ 1 ≤ length (now cues) ⌝ }
+    requires { ⌜ ends role (getD (now cues) 0 0) ≡ false ⌝ }
     requires { ⌜ RightCounts (now ns) role (getD (now cues) 0 0) (now work) (now c) (now d) ⌝ }
     requires { ⌜ k < successor-count (now ns) role (getD (now cues) 0 0) (now work) ⌝ }
-    ensures { λ r. ⌜ Followed (quest (now (ns .entry)) (now (cues .entry)) (now (work .entry)) role left (memory (now (modes .entry)) (now (marks .entry)))) (now (work .exit)) (memory (now (modes .exit)) (now (marks .exit))) r k ⌝ }
+    ensures { λ r. ⌜ Followed (quest (now (ns .entry)) (now (cues .entry)) (now (work .entry)) role (now (asks .entry)) left (memory (now (modes .entry)) (now (marks .entry)))) (now (work .exit)) (now (asks .exit)) (memory (now (modes .exit)) (now (marks .exit))) r k ⌝ }
 {
     let n = ns.len() / 3;
     copy_down(work, n);
     let w = 2 * n;
     apply(ns, &mut work[w..], cues[0], c, d, role, k);
     let after = role_after(role, cues[0]);
-    visit(ns, &cues[1..], &mut work[w..], after, left, modes, marks)
+    visit(
+        ns,
+        &cues[1..],
+        &mut work[w..],
+        after,
+        asks,
+        left,
+        modes,
+        marks,
+    )
 }
 
 // Zeroes the first bytes, up to `end`.
@@ -521,9 +633,16 @@ const MODES: usize = 131072;
 const MARKS: usize = 6144;
 
 // Up to so many states, and nothing is remembered.
-fn first_search(ns: &[u16], cues: &[u32], work: &mut [u8], role: Role, allowance: u32) -> Out
-    requires { ⌜ VisitReady (now ns) (now cues) (now work) role ⌝ }
-    ensures { λ r. ⌜ Began (now (ns .entry)) (now (cues .entry)) (now (work .entry)) role allowance (now (work .exit)) r ⌝ }
+fn first_search(
+    ns: &[u16],
+    cues: &[u32],
+    work: &mut [u8],
+    role: Role,
+    asks: &mut [u32],
+    allowance: u32,
+) -> Out
+    requires { ⌜ VisitReady (now ns) (now cues) (now work) role × Asking (now asks) ⌝ }
+    ensures { λ r. ⌜ Began (now (ns .entry)) (now (cues .entry)) (now (work .entry)) role (now (asks .entry)) allowance (now (work .exit)) (now (asks .exit)) r ⌝ }
 {
     let mut modes = [0u8; 1];
     let mut marks = [0u32; 1];
@@ -532,6 +651,7 @@ fn first_search(ns: &[u16], cues: &[u32], work: &mut [u8], role: Role, allowance
         cues,
         work,
         role,
+        asks,
         allowance,
         &mut modes[..0],
         &mut marks[..0],
@@ -539,13 +659,29 @@ fn first_search(ns: &[u16], cues: &[u32], work: &mut [u8], role: Role, allowance
 }
 
 // With a memory.
-fn long_search(ns: &[u16], cues: &[u32], work: &mut [u8], role: Role, allowance: u32) -> Out
-    requires { ⌜ VisitReady (now ns) (now cues) (now work) role ⌝ }
-    ensures { λ r. ⌜ Began (now (ns .entry)) (now (cues .entry)) (now (work .entry)) role allowance (now (work .exit)) r ⌝ }
+fn long_search(
+    ns: &[u16],
+    cues: &[u32],
+    work: &mut [u8],
+    role: Role,
+    asks: &mut [u32],
+    allowance: u32,
+) -> Out
+    requires { ⌜ VisitReady (now ns) (now cues) (now work) role × Asking (now asks) ⌝ }
+    ensures { λ r. ⌜ Began (now (ns .entry)) (now (cues .entry)) (now (work .entry)) role (now (asks .entry)) allowance (now (work .exit)) (now (asks .exit)) r ⌝ }
 {
     let mut modes = [0u8; MODES];
     let mut marks = [0u32; MARKS];
-    visit(ns, cues, work, role, allowance, &mut modes, &mut marks)
+    visit(
+        ns,
+        cues,
+        work,
+        role,
+        asks,
+        allowance,
+        &mut modes,
+        &mut marks,
+    )
 }
 
 // What came of a search of fewer states, with the whole allowance.
@@ -561,30 +697,71 @@ fn with_more(trip: Trip, few: u32, allowance: u32) -> Out
     })
 }
 
-// First without a memory; if that is not enough, once more with it.
-fn search_twice(ns: &[u16], cues: &[u32], work: &mut [u8], role: Role, allowance: u32) -> Out
-    requires { ⌜ VisitReady (now ns) (now cues) (now work) role ⌝ }
-    ensures { λ r. ⌜ Began (now (ns .entry)) (now (cues .entry)) (now (work .entry)) role allowance (now (work .exit)) r ⌝ }
+// First without a memory; if that is not enough, once more with it. What the first answered is right, so the second need not ask it.
+fn search_twice(
+    ns: &[u16],
+    cues: &[u32],
+    work: &mut [u8],
+    role: Role,
+    asks: &mut [u32],
+    allowance: u32,
+) -> Out
+    requires { ⌜ VisitReady (now ns) (now cues) (now work) role × Asking (now asks) ⌝ }
+    ensures { λ r. ⌜ Began (now (ns .entry)) (now (cues .entry)) (now (work .entry)) role (now (asks .entry)) allowance (now (work .exit)) (now (asks .exit)) r ⌝ }
 {
     if allowance <= FEW_STATES {
-        return first_search(ns, cues, work, role, allowance);
+        return first_search(ns, cues, work, role, asks, allowance);
     }
-    match first_search(ns, cues, work, role, FEW_STATES) {
-        Out::Spent => long_search(ns, cues, work, role, allowance),
+    match first_search(ns, cues, work, role, asks, FEW_STATES) {
+        Out::Spent => long_search(ns, cues, work, role, asks, allowance),
         Out::Back(trip) => with_more(trip, FEW_STATES, allowance),
     }
 }
 
-// The search from the drawn flow, in work bytes that are zero up to the room wanted when it is over.
-pub fn search(ns: &[u16], cues: &[u32], work: &mut [u8], allowance: u32) -> Out
-    requires { ⌜ SearchReady (now ns) (now cues) (now work) ⌝ }
-    ensures { λ r. ⌜ Searched (now (ns .entry)) (now (cues .entry)) allowance (now (work .entry)) r (now (work .exit)) ⌝ }
+// Whether all runs were searched and none found the end.
+fn went_through(out: Out) -> bool
+    ensures { λ r. ⌜ r ≡ went-through (out-of out) ⌝ }
+{
+    match out {
+        Out::Spent => false,
+        Out::Back(trip) => !trip.found,
+    }
+}
+
+// Nothing is asked, and nothing answered.
+fn forget(asks: &mut [u32])
+    ensures { λ _. ⌜ now (asks .exit) ≡ replicate (length (now (asks .entry))) 0 ⌝ }
+{
+    let mut j = 0;
+    while j < asks.len() {
+        asks[j] = 0;
+        j += 1;
+    }
+}
+
+// The search from the drawn flow, in work bytes that are zero up to the room wanted when it is over. If it went through all runs without
+// an end, each ask whose record can follow has become `FOLLOWS`; else all are 0.
+pub fn ask(ns: &[u16], cues: &[u32], work: &mut [u8], asks: &mut [u32], allowance: u32) -> Out
+    requires { ⌜ SearchReady (now ns) (now cues) (now work) × Asking (now asks) ⌝ }
+    ensures { λ r. ⌜ Asked (now (ns .entry)) (now (cues .entry)) allowance (now (work .entry)) (now (asks .entry)) r (now (work .exit)) (now (asks .exit)) ⌝ }
 {
     let n = ns.len() / 3;
     let room = room_wanted(n, cues.len());
     clear(work, n);
     let role = role_of(ns);
-    let out = search_twice(ns, cues, work, role, allowance);
+    let out = search_twice(ns, cues, work, role, asks, allowance);
     clear(work, room);
+    if !went_through(out) {
+        forget(asks);
+    }
     out
+}
+
+// The search by itself.
+pub fn search(ns: &[u16], cues: &[u32], work: &mut [u8], allowance: u32) -> Out
+    requires { ⌜ SearchReady (now ns) (now cues) (now work) ⌝ }
+    ensures { λ r. ⌜ Searched (now (ns .entry)) (now (cues .entry)) allowance (now (work .entry)) r (now (work .exit)) ⌝ }
+{
+    let mut none = [0u32; 1];
+    ask(ns, cues, work, &mut none[..0], allowance)
 }

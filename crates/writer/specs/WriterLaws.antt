@@ -10,6 +10,7 @@ use lib.ListN.{length}
 use Rattle.flow.specs.declared.Refusal.{Refusal}
 use Rattle.flow.specs.declared.Check.{Check}
 use Rattle.flow.specs.declared.Check.the-variants as check
+use Rattle.flow.specs.declared.Extent.the-variants.{Whole}
 use Rattle.flow.specs.Refusals.{ground, lone}
 use Rattle.flow.specs.Checks.{refused, first, or-else-check}
 use Rattle.flow.specs.FirstRefusal.{is-fine, both-fine, or-else-refused, or-else-fine, single-held, single-passed}
@@ -23,7 +24,7 @@ use Rattle.format.specs.Told.{at-front}
 use Rattle.format.specs.ItemLaws.{got-not-bad}
 use Rattle.format.specs.ListChecks.{section-alone, lists-check}
 use Rattle.format.specs.ListLaws.{alone-bad, alone-longer, lists-passed, lists-then}
-use Rattle.writer.specs.declared.Extent.{Extent}
+use Rattle.writer.specs.declared.Size.{Size}
 use Rattle.writer.specs.declared.Writing.{Writing}
 use Rattle.writer.specs.declared.Writing.the-variants.{Written, Refused}
 use Rattle.writer.specs.Told.{writing-told}
@@ -31,7 +32,7 @@ use Rattle.writer.specs.Writing.{lists-bytes, write-check, wrote, put-fi
 use Rattle.writer.specs.Fronts.{lists-length}
 
 -- lists that are written: what stands first then, how long it is, and that there is room for it
-pub record WrittenLists (s ns rs : List ℕ) (room : ℕ) (e : Extent) : Type 0 where
+pub record WrittenLists (s ns rs : List ℕ) (room : ℕ) (e : Size) : Type 0 where
   pub first : bytes-first s ns rs room ≡ lists-bytes s ns rs
   pub sized : e .length ≡ length (lists-bytes s ns rs)
   pub fits : e .length ≤ room
@@ -57,11 +58,11 @@ alone-short s {es} {at} e = by-run (run s 0 names) refl
     by-run (got ds end) r = by-end r (ltb end (length s)) refl
     by-run (bad n p) r = got-not-bad e (alone-bad s r)
 
-pub fine-lists : (s ns rs : List ℕ) → lists-check s ns rs ≡ check.Fine → FineLists s ns rs
+pub fine-lists : (s ns rs : List ℕ) → lists-check Whole s ns rs ≡ check.Fine → FineLists s ns rs
 fine-lists s ns rs f =
-    let p = lists-passed s ns rs f in
+    let p = lists-passed Whole s ns rs f in
     let t = fine-table ns (p .table) in
-    record { names-few = alone-short s (p .section .is); nodes-few = omega (arith, t .few, t .whole); records-few = fine-records ns rs (p .records) .few }
+    record { names-few = alone-short s (p .section .is); nodes-few = omega (arith, t .few, t .whole); records-few = fine-records Whole ns rs (p .records) .few }
 
 ---- The check in two parts ----
 
@@ -73,11 +74,11 @@ module _ (s ns rs : List ℕ) (room : ℕ) where
   abbrev room-check : Check
   room-check = first (ground 14 0 short-of-room ∷ [])
 
-  check-parts : write-check s ns rs room ≡ or-else-check (lists-check s ns rs) room-check
+  check-parts : write-check s ns rs room ≡ or-else-check (lists-check Whole s ns rs) room-check
   unfolding write-check
-  check-parts = lists-then s ns rs (lone (ground 14 0 short-of-room) ∷ [])
+  check-parts = lists-then Whole s ns rs (lone (ground 14 0 short-of-room) ∷ [])
 
-  pub lists-refused : {r : Refusal} → lists-check s ns rs ≡ check.Refused r → write-check s ns rs room ≡ check.Refused r
+  pub lists-refused : {r : Refusal} → lists-check Whole s ns rs ≡ check.Refused r → write-check s ns rs room ≡ check.Refused r
   lists-refused e = check-parts ∙ sym (or-else-refused room-check e) ∙ e
 
   room-fine : room-check ≡ check.Fine → length (lists-bytes s ns rs) ≤ room
@@ -87,7 +88,7 @@ module _ (s ns rs : List ℕ) (room : ℕ) where
       by true h = absurd (subst is-fine (sym e ∙ single-held 14 0 short-of-room h) tt)
       by false h = ltb-false room (length (lists-bytes s ns rs)) h
 
-  module _ (f : lists-check s ns rs ≡ check.Fine) where
+  module _ (f : lists-check Whole s ns rs ≡ check.Fine) where
     pub room-refused : room < length (lists-bytes s ns rs) → write-check s ns rs room ≡ refused 14 0
     room-refused h = check-parts ∙ sym (or-else-fine room-check f) ∙ single-held 14 0 short-of-room (lt-ltb room (length (lists-bytes s ns rs)) h)
 
@@ -112,11 +113,11 @@ module _ (s ns rs file : List ℕ) where
 ---- What a caller knows ----
 
 -- what is written is not refused
-written-not-refused : {A : Type 0} {e : Extent} {r : Refusal} → Written e ≡ Refused r → A
+written-not-refused : {A : Type 0} {e : Size} {r : Refusal} → Written e ≡ Refused r → A
 written-not-refused h = let z : _≡_ {A = ℕ} 0 1 = cc in absurd (omega arith)
 
 module _ (s ns rs : List ℕ) (room : ℕ) where
-  pub written-lists : {e : Extent} → writing s ns rs room ≡ Written e → WrittenLists s ns rs room e
+  pub written-lists : {e : Size} → writing s ns rs room ≡ Written e → WrittenLists s ns rs room e
   unfolding wrote put-first writing-told
   written-lists {e} h = by (write-check s ns rs room) refl
     where

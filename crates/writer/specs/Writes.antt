@@ -6,6 +6,7 @@ use mathlib.Core.List.{List, [], _∷_, _++_}
 use mathlib.Core.Path.{_≡_}
 use lib.Dec.{ltb}
 use lib.ListN.{length}
+use Rattle.flow.specs.declared.Extent.the-variants.{Whole}
 use Rattle.flow.specs.Refusals.{ground, Round, lone}
 use Rattle.flow.specs.Earliest.{Nowhere}
 use Rattle.format.specs.Format.{Entry, names-section, File, encode}
@@ -19,7 +20,7 @@ file-of-lists es ns rs = record { names = es; nodes = ns; records = rs }
 
 -- 1, 2, 3, 10, 11, then as the reader; 14, "lent room too short", last
 abbrev pub write-order : List ℕ → List ℕ → ℕ → List Entry → List Round
-write-order ns rs room es = lists-order (length es) ns rs ++ (lone (ground 14 0 (ltb room (length (encode (file-of-lists es ns rs))))) ∷ [])
+write-order ns rs room es = lists-order Whole (length es) ns rs ++ (lone (ground 14 0 (ltb room (length (encode (file-of-lists es ns rs))))) ∷ [])
 
 module _ (s ns rs : List ℕ) (room : ℕ) where
   abbrev pub WriteRefuses : ℕ → ℕ → Type 0

@@ -8,6 +8,7 @@ use lib.Dec.{ltb}
 use lib.ListN.{length}
 use Rattle.flow.specs.declared.Check.{Check}
 use Rattle.flow.specs.declared.Check.the-variants as check
+use Rattle.flow.specs.declared.Extent.the-variants.{Whole}
 use Rattle.flow.specs.Refusals.{ground, Round, lone}
 use Rattle.format.specs.Format.{Entry, numbers-section}
 use Rattle.format.specs.Contents.{lists-order}
@@ -23,7 +24,7 @@ lists-bytes s ns rs = s ++ (numbers-section 3 ns ++ numbers-section 1 rs)
 
 module _ (s ns rs : List ℕ) (room : ℕ) where
   abbrev pub order-by-bytes : List Entry → List Round
-  order-by-bytes es = lists-order (length es) ns rs ++ (lone (ground 14 0 (ltb room (length (lists-bytes s ns rs)))) ∷ [])
+  order-by-bytes es = lists-order Whole (length es) ns rs ++ (lone (ground 14 0 (ltb room (length (lists-bytes s ns rs)))) ∷ [])
 
   -- 15 to 18, 21, 1 to 3, 10, 11, 4 to 9, 12, 13, 19, 20, 14
   unfoldable pub write-check : Check

@@ -2,6 +2,7 @@
 // What it answers is defined in specs/Writing.antt; the scan of the names and the checks on the lists are those of crate `format`, as the
 // reader makes them.
 use flow::Check;
+use flow::Extent;
 use flow::Refusal;
 ghost use mathlib.Core.Path.{_≡_};
 ghost use Prim.Native.Nat.{_+_, _*_, _≤_};
@@ -11,12 +12,12 @@ ghost use Rattle.format.specs.Told.{at-front};
 ghost use Rattle.writer.specs.Writing.{lists-bytes, WrittenAs};
 
 // How long the file is that was written.
-pub struct Extent {
+pub struct Size {
     pub length: u32,
 }
 
 pub enum Writing {
-    Written(Extent),
+    Written(Size),
     Refused(Refusal),
 }
 
@@ -67,7 +68,7 @@ fn put_lists(names: &[u8], nodes: &[u16], records: &[u16], file: &mut [u8])
 pub fn write(names: &[u8], nodes: &[u16], records: &[u16], file: &mut [u8]) -> Writing
     ensures { λ r. ⌜ WrittenAs (now (names .entry)) (now (nodes .entry)) (now (records .entry)) (now (file .entry)) (now (file .exit)) r ⌝ }
 {
-    let check = format::check_lists(names, nodes, records);
+    let check = format::check_lists(names, nodes, records, Extent::Whole);
     if let Check::Refused(refusal) = check {
         return Writing::Refused(refusal);
     }
@@ -76,5 +77,5 @@ pub fn write(names: &[u8], nodes: &[u16], records: &[u16], file: &mut [u8]) -> W
         return Writing::Refused(format::refusal(flow::NO_ROOM, 0));
     }
     put_lists(names, nodes, records, file);
-    Writing::Written(Extent { length: end as u32 })
+    Writing::Written(Size { length: end as u32 })
 }

@@ -3,11 +3,13 @@
 use super::{Reply, MOST_WORK};
 use crate::by_hand::MILLION;
 use crate::judge::Lent;
+use crate::next::{Beginning, LIST_ROOM};
 use crate::refusals::work_wanted;
 use crate::writer::{file_of, write};
 
 /// The functions by their numbers.
 pub const JUDGE: u8 = 0;
+pub const NEXT: u8 = 1;
 pub const WRITE: u8 = 3;
 
 /// What a function does not use may be anything: a judge looks at no room, a write at no edition, allowance or work length.
@@ -19,6 +21,7 @@ pub struct Call {
     pub names_lent: u8,
     pub allowance: u32,
     pub work_len: u32,
+    /// Bytes for a write, numbers of the list for what may come next.
     pub room: u32,
     /// Empty if they are not lent.
     pub names: Vec<u8>,
@@ -35,6 +38,11 @@ impl Call {
         let (function, edition, names_lent) = (JUDGE, 1, names.is_some() as u8);
         let (allowance, room, names, sets) = (MILLION, 0, names.unwrap_or_default(), vec![]);
         Call { function, edition, names_lent, allowance, work_len, room, names, nodes, records, sets }
+    }
+
+    /// A call that asks what may come next, lent just the table and the work bytes that it wants, as far as `replay` has so many.
+    pub fn next(names: Option<Vec<u8>>, nodes: Vec<u16>, records: Vec<u16>) -> Call {
+        Call { function: NEXT, room: LIST_ROOM as u32, ..Call::judge(names, nodes, records) }
     }
 
     /// A write of these three sections, lent just the bytes that it wants.
@@ -57,10 +65,14 @@ impl Call {
         all
     }
 
+    fn names(&self) -> Option<&[u8]> {
+        Some(&self.names[..]).filter(|_| self.names_lent == 1)
+    }
+
     /// What a judge is called with.
     pub fn lent(&self) -> Lent<'_> {
         Lent {
-            names: Some(&self.names[..]).filter(|_| self.names_lent == 1),
+            names: self.names(),
             nodes: &self.nodes,
             records: &self.records,
             work_len: self.work_len as usize,
@@ -68,10 +80,28 @@ impl Call {
         }
     }
 
+    /// What may come next is asked with.
+    pub fn beginning(&self) -> Beginning<'_> {
+        Beginning {
+            names: self.names(),
+            nodes: &self.nodes,
+            records: &self.records,
+            list_room: self.room as usize,
+            work_len: self.work_len as usize,
+            allowance: self.allowance,
+        }
+    }
+
+    /// The call without names.
+    pub fn nameless(self) -> Call {
+        Call { names_lent: 0, names: vec![], ..self }
+    }
+
     /// None where more states than `patience` would have to be entered to know.
     pub fn reply(&self, patience: u32) -> Option<Reply> {
         match self.function {
             JUDGE => self.lent().judged_within(patience).map(Reply::Judged),
+            NEXT => self.beginning().listed_within(patience).map(Reply::Next),
             WRITE => Some(match write(&self.names, &self.nodes, &self.records, self.room as usize) {
                 Ok(file) => Reply::Written(file),
                 Err(refusal) => Reply::Refused(refusal),
@@ -84,6 +114,8 @@ impl Call {
         match (self.function, self.names_lent) {
             (JUDGE, 0) => "judge",
             (JUDGE, _) => "judge with names",
+            (NEXT, 0) => "next",
+            (NEXT, _) => "next with names",
             (WRITE, _) => "writer",
             (other, _) => unreachable!("no case is made of function {other}"),
         }

@@ -1,4 +1,4 @@
-//! A names section, nodes and records, lent one by one to a writer or to a judge: with one or two damages, or at the limits.
+//! A names section, nodes and records, lent one by one to whatever takes them: with one or two damages, or at the limits.
 
 use super::spoiling::{spoil, AIMS};
 use super::{filing, MOST_NUMBERS};
@@ -57,8 +57,8 @@ fn any_damage(rng: &mut Rng) -> Damage {
     }
 }
 
-/// With one or two damages.
-pub fn lists(rng: &mut Rng) -> Lists {
+/// What stands in a file, with one or two damages.
+pub fn lists(rng: &mut Rng, mut file: FlowFile) -> Lists {
     let two = rng.once_in(2);
     let damages: Vec<Damage> = (0..if two { 2 } else { 1 }).map(|_| any_damage(rng)).collect();
     let of_names = |damage: &Damage| match damage {
@@ -66,7 +66,6 @@ pub fn lists(rng: &mut Rng) -> Lists {
         _ => None,
     };
     let to_names: Vec<filing::Damage> = damages.iter().filter_map(of_names).collect();
-    let mut file = filing::whole(rng);
     to_names.iter().for_each(|&damage| filing::damage_lists(rng, damage, &mut file));
     let mut items = file.names_items();
     to_names.iter().for_each(|&damage| filing::damage_items(rng, damage, &mut items));

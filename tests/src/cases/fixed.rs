@@ -1,7 +1,7 @@
 //! The cases that every stream begins with, whatever its seed: those of document 01 and one or more for
 //! each boundary that chance might miss.
 
-use super::{lending, reading, writing, Case, MOST_WORK};
+use super::{lending, listing, reading, writing, Case, MOST_WORK};
 use crate::by_hand::{self, A, B, C, MILLION};
 use crate::drawing::*;
 use crate::flowfile::{self, entry, Entry, FlowFile};
@@ -28,6 +28,7 @@ pub fn cases() -> Vec<(&'static str, Case)> {
     add("fixed: writing", writing::fixed());
     add("fixed: any machine", lending::fixed());
     add("fixed: any machine", lending::files());
+    add("fixed: next", listing::fixed());
     all
 }
 
@@ -119,17 +120,28 @@ fn every_node() -> Vec<Case> {
     all
 }
 
-/// Every list of one to four of event, closings and 0, for both sorts of root.
-fn every_record_list() -> Vec<Case> {
+/// Every list of at most so many of event, closings and 0.
+pub fn short_record_lists(most: usize) -> Vec<Vec<u16>> {
     let mut lists: Vec<Vec<u16>> = vec![vec![]];
     let mut longest = lists.clone();
-    for _ in 0..4 {
+    for _ in 0..most {
         let longer = |list: &Vec<u16>| [A, DONE, WITHDRAWN, 0].map(|r| [&list[..], &[r]].concat());
         longest = longest.iter().flat_map(longer).collect();
         lists.extend(longest.clone());
     }
-    let roots = [choice(event(A), yields()), pair(choice(event(A), yields()), event(A))];
-    roots.iter().flat_map(|root| lists.iter().map(|records| judge(root, records, 9))).collect()
+    lists
+}
+
+/// A flow of each sort that can step and end in two ways.
+pub fn roots_of_both_sorts() -> [Drawing; 2] {
+    [choice(event(A), yields()), pair(choice(event(A), yields()), event(A))]
+}
+
+/// Every list of at most four, for both sorts of root.
+fn every_record_list() -> Vec<Case> {
+    let lists = short_record_lists(4);
+    let of_root = |root: Drawing| lists.iter().map(move |records| judge(&root, records, 9));
+    roots_of_both_sorts().into_iter().flat_map(of_root).collect()
 }
 
 /// Allowances and work lengths on both sides of what is needed, in one small flow.
@@ -154,7 +166,6 @@ fn boundaries() -> Vec<Case> {
 
 /// Searches of about a million states, and blocks with thousands of millions of compensations.
 fn wide() -> Vec<Case> {
-    let a_times = |n: usize, closing: u16| [vec![A; n], vec![closing]].concat();
     let (nine, ten, seven) = (orders(9), orders(10), orders(7));
     let late = choice(seq(orders(8).0, throw()), tower(8, &event(A), seq));
     let silent = block(parallel(throww(), tower(30, &yieldd(), parallel)));
@@ -178,7 +189,7 @@ fn wide() -> Vec<Case> {
 }
 
 /// So many equal events side by side, and as many records that close wrongly.
-fn orders(n: usize) -> (Drawing, Vec<u16>) {
+pub fn orders(n: usize) -> (Drawing, Vec<u16>) {
     (tower(n, &event(A), parallel), [vec![A; n], vec![FAILED]].concat())
 }
 
@@ -186,34 +197,45 @@ fn count(flow: &Drawing, records: &[u16]) -> u32 {
     Lent::enough(None, &flow.table(), records, u32::MAX).effort().entered
 }
 
-/// Searches in which the same states come again, with allowances on both sides of what is needed and of powers of two; and record lists that
-/// differ in one slip, one after the other.
-fn equal_parts() -> Vec<Case> {
-    let a_times = |n: usize, closing: u16| [vec![A; n], vec![closing]].concat();
+/// One a or two.
+fn one_or_two() -> Drawing {
+    choice(event(A), seq(event(A), event(A)))
+}
+
+fn a_times(n: usize, closing: u16) -> Vec<u16> {
+    [vec![A; n], vec![closing]].concat()
+}
+
+/// Flows and records for them, in whose searches the same states come again.
+pub fn flows_of_equal_parts() -> Vec<(Drawing, Vec<u16>)> {
     let side_by_side = |n: usize| tower(n, &event(A), parallel);
     let a_b = pair(event(A), event(B));
-    let one_or_two = choice(event(A), seq(event(A), event(A)));
     let again = handler(seq(side_by_side(5), throw()), side_by_side(5));
     let late = choice(seq(side_by_side(7), throw()), side_by_side(7));
     let undone = block(seq(tower(4, &a_b, parallel), throww()));
     let two_kinds = parallel(tower(6, &event(A), parallel), tower(6, &event(B), parallel));
     let twice = parallel(tower(3, &choice(a_b.clone(), a_b.clone()), parallel), yieldd());
-    let flows = [
+    vec![
         orders(8),
         seven(),
         lines(),
         (again, a_times(10, FAILED)),
         (late, a_times(7, DONE)),
         (tower(12, &choice(event(A), event(A)), seq), a_times(12, FAILED)),
-        (tower(9, &one_or_two, seq), a_times(13, FAILED)),
+        (tower(9, &one_or_two(), seq), a_times(13, FAILED)),
         (undone, [vec![A; 4], vec![B; 3], vec![C, DONE]].concat()),
         (pair(side_by_side(5), side_by_side(5)), [a_times(5, DONE), a_times(5, FAILED)].concat()),
         (twice, [a_times(3, WITHDRAWN), vec![B, B, B, FAILED]].concat()),
         (two_kinds, [[A, B].repeat(6), vec![FAILED]].concat()),
         (withdrawing(2, 10), [a_times(2, WITHDRAWN), vec![B, FAILED]].concat()),
-    ];
+    ]
+}
+
+/// These with allowances on both sides of what is needed and of powers of two; and record lists that differ in one slip, one after the
+/// other.
+fn equal_parts() -> Vec<Case> {
     let mut all = vec![];
-    for (flow, records) in &flows {
+    for (flow, records) in &flows_of_equal_parts() {
         let count = count(flow, records);
         for allowance in [31, 32, 33, 64, 65, count / 2, count - 1, count, count + 1] {
             all.push(judge(flow, records, allowance));
@@ -222,7 +244,7 @@ fn equal_parts() -> Vec<Case> {
     for later in [1, 2, 4, 8, 16] {
         // The same term comes after so many records more, which leaves fewer for what follows.
         let first = choice(event(A), tower(1 + later, &event(A), seq));
-        let (flow, records) = (seq(first, tower(4, &one_or_two, seq)), a_times(later + 6, FAILED));
+        let (flow, records) = (seq(first, tower(4, &one_or_two(), seq)), a_times(later + 6, FAILED));
         let count = count(&flow, &records);
         all.extend([count - 1, count].map(|allowance| judge(&flow, &records, allowance)));
     }
@@ -237,13 +259,18 @@ fn equal_parts() -> Vec<Case> {
     all
 }
 
+/// Six equal lines of three steps, gone through in rounds.
+pub fn six_lines() -> (Drawing, Vec<u16>) {
+    let line = seq(seq(event(A), event(B)), event(C));
+    let rounds = [vec![A; 6], vec![B; 6], vec![C; 6], vec![FAILED]].concat();
+    (tower(6, &line, parallel), rounds)
+}
+
 /// Searches of thousands of millions of states of which some thousand differ: in no stream, because a judge that goes through equal states
 /// again would take hours.
 pub fn long() -> Vec<Case> {
-    let line = seq(seq(event(A), event(B)), event(C));
-    let rounds = [vec![A; 6], vec![B; 6], vec![C; 6], vec![FAILED]].concat();
-    let mut all = vec![];
-    for (flow, records) in [orders(12), (tower(6, &line, parallel), rounds)] {
+    let mut all = listing::long();
+    for (flow, records) in [orders(12), six_lines()] {
         let count = count(&flow, &records);
         all.extend([1 << 31, count - 1, count, u32::MAX].map(|allowance| judge(&flow, &records, allowance)));
     }

@@ -22,6 +22,16 @@ pub fn case(rng: &mut Rng) -> Case {
 pub fn flow_and_records(rng: &mut Rng, most_event: usize) -> (Vec<u16>, Vec<u16>) {
     let events = rng.between(1, 4.min(most_event));
     let flow = flow(rng, events);
+    records_of_flow(rng, &flow, events, most_event)
+}
+
+/// The same of this flow, which has events 1 to `events`.
+pub fn records_of_flow(
+    rng: &mut Rng,
+    flow: &Drawing,
+    events: usize,
+    most_event: usize,
+) -> (Vec<u16>, Vec<u16>) {
     let mut nodes = flow.table_in_any_order(rng);
     let mut records = random::records_for(rng, &root(&nodes), &Matching::ByNumber, events);
     if rng.once_in(2) {
@@ -69,15 +79,24 @@ pub fn rename(nodes: &mut [u16], records: &mut [u16], numbers: &[u16]) {
 
 /// The call with an allowance near the count of its search and a work length near the one wanted.
 pub fn around_the_count(rng: &mut Rng, patience: u32, nodes: Vec<u16>, records: Vec<u16>) -> Case {
-    let allowance = near_the_count(rng, patience, Lent::enough(None, &nodes, &records, u32::MAX));
+    let count = count_within(patience, Lent::enough(None, &nodes, &records, u32::MAX));
+    let allowance = near_the_count(rng, patience, count);
     let work_len = near(rng, work_wanted(&nodes, &records), MOST_WORK);
     Case::Judge { allowance, work_len, nodes, records }
 }
 
-/// An allowance near the count of the search, or any below `patience` where the count is above that.
-pub fn near_the_count(rng: &mut Rng, patience: u32, lent: Lent) -> u32 {
+/// The count of a search, if it has one that is not above `patience`.
+pub fn count_within(patience: u32, lent: Lent) -> Option<u32> {
     match lent.judged_within(patience) {
-        Some(Answer::Accepted { count, .. } | Answer::Rejected { count, .. }) => match rng.below(12) {
+        Some(Answer::Accepted { count, .. } | Answer::Rejected { count, .. }) => Some(count),
+        _ => None,
+    }
+}
+
+/// An allowance near the count of the search, or any below `patience` where there is none within that.
+pub fn near_the_count(rng: &mut Rng, patience: u32, count: Option<u32>) -> u32 {
+    match count {
+        Some(count) => match rng.below(12) {
             0 | 1 => count - 1,
             2..=5 => count,
             6..=8 => count + 1,
@@ -86,7 +105,7 @@ pub fn near_the_count(rng: &mut Rng, patience: u32, lent: Lent) -> u32 {
             10 => u32::MAX,
             _ => 1_000_000,
         },
-        _ => rng.below(patience as usize) as u32,
+        None => rng.below(patience as usize) as u32,
     }
 }
 

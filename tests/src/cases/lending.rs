@@ -2,9 +2,9 @@
 
 use super::calling::Call;
 use super::damaging::{self, Lists};
-use super::judging::{near, near_the_count};
+use super::judging::{count_within, near, near_the_count};
 use super::writing::{self, Fault, FAULTS};
-use super::{fixed, judging, naming, undoing, wide, Case, MOST_WORK};
+use super::{filing, fixed, judging, naming, undoing, wide, Case, MOST_WORK};
 use crate::by_hand;
 use crate::drawing::*;
 use crate::flowfile::{entry, Entry, FlowFile};
@@ -59,11 +59,6 @@ fn judge_of(file: FlowFile) -> Call {
     Call::judge(Some(file.names_section()), file.nodes, file.records)
 }
 
-/// The call without names.
-fn nameless(call: Call) -> Call {
-    Call { names_lent: 0, names: vec![], ..call }
-}
-
 // ---- the fixed ones ----
 
 pub fn fixed() -> Vec<Case> {
@@ -95,7 +90,7 @@ fn judged_by_hand() -> Vec<Call> {
     let call = |case: by_hand::HandCase| {
         let call = judge(&fixed::four_names(), &case.flow, &case.records);
         let call = Call { allowance: case.allowance, ..call };
-        [call.clone(), nameless(call)]
+        [call.clone(), call.nameless()]
     };
     by_hand::table().into_iter().flat_map(call).collect()
 }
@@ -109,7 +104,7 @@ fn every_leaf_with_every_record() -> Vec<Call> {
         for record in events.clone() {
             let call = judge(&names, &event(leaf), &[record, DONE]);
             if leaf <= 3 && record <= 3 {
-                all.push(nameless(call.clone()));
+                all.push(call.clone().nameless());
             }
             all.push(call);
         }
@@ -117,10 +112,10 @@ fn every_leaf_with_every_record() -> Vec<Call> {
     all
 }
 
-/// Leaves with and without a machine in every kind of standard part, with every list of at most two records of pressing.
-fn in_every_place() -> Vec<Call> {
+/// Leaves with and without a machine in every kind of standard part.
+pub fn flows_in_every_place() -> [Drawing; 8] {
     let (any, on_p1) = (|| event(PRESS), || event(PRESS_P1));
-    let flows = [
+    [
         parallel(any(), on_p1()),
         parallel(on_p1(), any()),
         parallel(any(), any()),
@@ -130,12 +125,16 @@ fn in_every_place() -> Vec<Call> {
         seq(any(), on_p1()),
         handler(seq(any(), throw()), any()),
         seq(yields(), block(pair(any(), on_p1()))),
-    ];
+    ]
+}
+
+/// These with every list of at most two records of pressing.
+fn in_every_place() -> Vec<Call> {
     let each = [PRESS, PRESS_P1, PRESS_P2];
     let mut lists: Vec<Vec<u16>> = each.map(|one| vec![one]).into();
     lists.extend(each.iter().flat_map(|one| each.map(|other| vec![*one, other])));
     let mut all = vec![];
-    for flow in &flows {
+    for flow in &flows_in_every_place() {
         for list in &lists {
             let closed = |closing| judge(&presses(), flow, &[&list[..], &[closing]].concat());
             all.extend([DONE, FAILED].map(closed));
@@ -183,9 +182,9 @@ pub fn planned() -> Call {
 fn faults() -> Vec<Call> {
     let with_names = writing::faults_alone_and_in_pairs(&planned(), &FAULTS.each_ref());
     let others: Vec<&Fault> = FAULTS.iter().filter(|fault| fault.refusal.number <= 14).collect();
-    let without = writing::faults_alone_and_in_pairs(&nameless(planned()), &others);
+    let without = writing::faults_alone_and_in_pairs(&planned().nameless(), &others);
     let faulty = with_names.into_iter().chain(without).map(|(_, call)| call);
-    [planned(), nameless(planned())].into_iter().chain(faulty).collect()
+    [planned(), planned().nameless()].into_iter().chain(faulty).collect()
 }
 
 /// The lists that the writer's fixed cases are about: cut and changed names, lengths, events without a name.
@@ -217,7 +216,7 @@ fn limits() -> Vec<Call> {
     all.extend(presses_at_the_limit());
     for room in [1, 70_000, 70_001, u32::MAX] {
         all.push(Call { room, ..planned() });
-        all.push(Call { room, ..nameless(planned()) });
+        all.push(Call { room, ..planned().nameless() });
     }
     all
 }
@@ -252,8 +251,8 @@ fn boundaries() -> Vec<Call> {
                 all.push(Call { allowance, work_len, ..call.clone() });
             }
         }
-        all.push(nameless(Call { work_len: wanted - 1, ..call.clone() }));
-        all.push(nameless(call));
+        all.push(Call { work_len: wanted - 1, ..call.clone() }.nameless());
+        all.push(call.nameless());
     }
     all
 }
@@ -264,9 +263,9 @@ fn side_by_side(leaves: &[u16], records: &[u16]) -> (Drawing, Vec<u16>) {
     (rest.fold(event(leaves[0]), parallel), [records, &[FAILED]].concat())
 }
 
-/// Searches in which the same states come again, with allowances on both sides of what is needed.
-fn equal_parts() -> Vec<Call> {
-    let flows = [
+/// Flows of presses and records for them, in whose searches the same states come again.
+pub fn flows_of_equal_parts() -> Vec<(Drawing, Vec<u16>)> {
+    vec![
         side_by_side(&[PRESS; 7], &[PRESS_P1, PRESS_P2, PRESS, PRESS_P1, PRESS_P2, PRESS, PRESS_P1]),
         side_by_side(&[PRESS, PRESS, PRESS, PRESS_P1, PRESS_P1, PRESS_P1], &[PRESS_P1; 6]),
         side_by_side(&[PRESS, PRESS_P1, PRESS, PRESS_P2, PRESS, PRESS_P1], &[PRESS_P1, PRESS_P2].repeat(3)),
@@ -275,9 +274,13 @@ fn equal_parts() -> Vec<Call> {
             vec![PRESS_P1, PRESS_P2, PRESS, PRESS_P1, LIFT, LIFT_P2, LIFT_P1, PRESS, DONE],
         ),
         (tower(10, &choice(event(PRESS), event(PRESS_P1)), seq), [vec![PRESS_P1; 10], vec![FAILED]].concat()),
-    ];
+    ]
+}
+
+/// These with allowances on both sides of what is needed.
+fn equal_parts() -> Vec<Call> {
     let mut all = vec![];
-    for (flow, records) in &flows {
+    for (flow, records) in &flows_of_equal_parts() {
         let call = judge(&presses(), flow, records);
         let count = Lent { allowance: u32::MAX, ..call.lent() }.effort().entered;
         for allowance in [31, 33, 64, count / 2, count - 1, count, count + 1] {
@@ -289,9 +292,8 @@ fn equal_parts() -> Vec<Call> {
     all
 }
 
-/// The same nodes and records under other names, and under none, one after the other: what was found with some names is nothing for
-/// others.
-fn one_after_the_other() -> Vec<Call> {
+/// Names for pressing and lifting under which the same events match otherwise.
+pub fn other_presses() -> [Vec<Entry>; 5] {
     let swapped = |i: usize, j: usize| {
         let mut names = presses();
         names.swap(i, j);
@@ -300,7 +302,13 @@ fn one_after_the_other() -> Vec<Call> {
     let mut on_machines = presses();
     on_machines[0] = entry("press", "P3");
     on_machines[3] = entry("lift", "P3");
-    let named = [presses(), on_machines, swapped(0, 1), swapped(0, 3), swapped(2, 5)];
+    [presses(), on_machines, swapped(0, 1), swapped(0, 3), swapped(2, 5)]
+}
+
+/// The same nodes and records under other names, and under none, one after the other: what was found with some names is nothing for
+/// others.
+fn one_after_the_other() -> Vec<Call> {
+    let named = other_presses();
     let (six, pressed) = side_by_side(&[PRESS, PRESS, PRESS, PRESS, PRESS_P1, PRESS_P1], &[PRESS_P1; 6]);
     let undone = block(seq(tower(3, &pair(event(PRESS), event(LIFT)), parallel), throww()));
     let lifted = vec![PRESS_P1, PRESS, PRESS_P1, LIFT_P2, LIFT, LIFT_P2, FAILED];
@@ -308,7 +316,7 @@ fn one_after_the_other() -> Vec<Call> {
     for (flow, records) in [(six, pressed), (undone, lifted)] {
         for names in named.iter().chain(&named) {
             let call = judge(names, &flow, &records);
-            all.extend([call.clone(), nameless(call)]);
+            all.extend([call.clone(), call.nameless()]);
         }
     }
     all
@@ -321,18 +329,23 @@ const PATIENCE: u32 = 30_000;
 
 /// A flow of any sort, but with events, with names that much hangs on; or now and then without the names that its records follow.
 pub fn case(rng: &mut Rng) -> Case {
-    let flow = loop {
+    let flow = any_flow(rng);
+    let file = naming::file_of_machines(rng, &flow);
+    around_the_count(rng, file)
+}
+
+/// A flow of any sort with at least one of events 1 to 4.
+pub fn any_flow(rng: &mut Rng) -> Drawing {
+    loop {
         let flow = match rng.below(6) {
             0 | 1 => undoing::flow(rng),
             2 => wide::flow(rng),
             _ => judging::flow(rng, 4),
         };
         if flow.leaves(kind::EVENT) > 0 {
-            break flow;
+            return flow;
         }
-    };
-    let file = naming::file_of_machines(rng, &flow);
-    around_the_count(rng, file)
+    }
 }
 
 /// 255 to 257 names, 63 to 65 nodes, 255 to 257 records, alone or together, and the most numbers that `replay` takes.
@@ -343,20 +356,21 @@ pub fn case_at_limits(rng: &mut Rng) -> Case {
 
 /// The call with an allowance near the count of its search and a work length near the one wanted.
 fn around_the_count(rng: &mut Rng, file: FlowFile) -> Case {
-    let call = if rng.once_in(8) { nameless(judge_of(file)) } else { judge_of(file) };
-    let lent = Lent { allowance: u32::MAX, ..call.lent() };
-    let allowance = near_the_count(rng, PATIENCE, lent);
+    let call = if rng.once_in(8) { judge_of(file).nameless() } else { judge_of(file) };
+    let count = count_within(PATIENCE, Lent { allowance: u32::MAX, ..call.lent() });
+    let allowance = near_the_count(rng, PATIENCE, count);
     let work_len = near(rng, work_wanted(&call.nodes, &call.records), MOST_WORK) as u32;
     Case::Call(Call { allowance, work_len, room: rng.turn() as u32, ..call })
 }
 
 /// A call with one or two damages.
 pub fn damaged_case(rng: &mut Rng) -> Case {
-    let Lists { names, nodes, records, short } = damaging::lists(rng);
+    let file = filing::whole(rng);
+    let Lists { names, nodes, records, short } = damaging::lists(rng, file);
     let call = Call::judge(Some(names), nodes, records);
     let wanted = call.work_len as usize;
     let work_len = if short { rng.below(wanted.max(1)) } else { wanted + rng.below(2) };
     let work_len = work_len.min(MOST_WORK) as u32;
     let call = Call { allowance: rng.below(300) as u32, work_len, room: rng.turn() as u32, ..call };
-    Case::Call(if rng.once_in(12) { nameless(call) } else { call })
+    Case::Call(if rng.once_in(12) { call.nameless() } else { call })
 }

@@ -67,9 +67,10 @@ fn calls() -> Vec<Malformed> {
     let write = || Call::write(vec![0, 0], vec![2, 0, 0], vec![DONE]);
     let judge = || Call::judge(Some(vec![0, 0]), vec![2, 0, 0], vec![DONE]);
     let plain = || Call::judge(None, vec![2, 0, 0], vec![DONE]);
+    let next = || Call::next(Some(vec![0, 0]), vec![2, 0, 0], vec![1]);
+    let plain_next = || Call::next(None, vec![2, 0, 0], vec![]);
     let call = |what, call: Call| whole(what, call.bytes());
     let mut all = vec![
-        call("function 1, not there yet", Call { function: 1, work_len: 40_000, room: 259, ..write() }),
         call("function 2, not there yet", Call { function: 2, work_len: 40_000, ..write() }),
         call("function 4", Call { function: 4, ..write() }),
         call("function 255", Call { function: 255, ..judge() }),
@@ -86,8 +87,20 @@ fn calls() -> Vec<Malformed> {
         call("too many work bytes in a call", Call { work_len: 40_001, ..judge() }),
         call("too many work bytes without names", Call { work_len: 40_001, ..plain() }),
         call("far too many work bytes in a call", Call { work_len: u32::MAX, ..judge() }),
+        call("a next that is lent no names but has some", Call { names_lent: 0, ..next() }),
+        call("a next that is lent no names but a byte", Call { names: vec![0], ..plain_next() }),
+        call("a next of edition 0", Call { edition: 0, ..next() }),
+        call("a next of edition 2, not there yet", Call { edition: 2, ..next() }),
+        call("a next of edition 2 without names", Call { edition: 2, ..plain_next() }),
+        call("a next of edition 255", Call { edition: 255, ..plain_next() }),
+        call("too many work bytes in a next", Call { work_len: 40_001, ..next() }),
+        call("too many work bytes in a next without names", Call { work_len: 40_001, ..plain_next() }),
+        call("far too many work bytes in a next", Call { work_len: u32::MAX, ..next() }),
+        call("too long a list", Call { room: MOST_ROOM as u32 + 1, ..next() }),
+        call("too long a list without names", Call { room: MOST_ROOM as u32 + 1, ..plain_next() }),
+        call("far too long a list", Call { room: u32::MAX, ..next() }),
     ];
-    for good in [write(), judge(), plain()] {
+    for good in [write(), judge(), plain(), next(), plain_next()] {
         let of = |change: fn(&mut Call)| {
             let mut call = good.clone();
             change(&mut call);
@@ -106,5 +119,7 @@ fn calls() -> Vec<Malformed> {
     all.extend(cuts("a cut call of the writer", Case::Call(write())));
     all.extend(cuts("a cut call of the judge with names", Case::Call(judge())));
     all.extend(cuts("a cut call of the judge without names", Case::Call(plain())));
+    all.extend(cuts("a cut call of next with names", Case::Call(next())));
+    all.extend(cuts("a cut call of next without names", Case::Call(plain_next())));
     all
 }

@@ -1,13 +1,13 @@
 //! Cases for the program `replay`, each with the line it has to print. This file says what a case is and
 //! what it looks like on the way; the other files here make cases:
 //! - `fixed`: the same in every stream: hand cases, limits, every kind of node, every cut of the worked file, and those that
-//!   `reading`, `writing` and `lending` begin with.
+//!   `reading`, `writing`, `lending` and `listing` begin with.
 //! - `judging`: flows and records for the judge; `undoing`: small flows that are all about compensations;
 //!   `wide`: families with many runs or many compensations; `repeating`: flows of equal parts.
 //! - `naming`: names, and flows whose leaves carry them; `filing`: flow files, whole, cut and damaged.
 //! - `spoiling`: one damage for each refusal number; `damaging`: damages to names, nodes and records lent one by one.
 //! - `reading`: files for the reader itself; `writing`: calls of the writer; `lending`: calls of the judge with names and without;
-//!   `calling`: what such a call looks like.
+//!   `listing`: calls that ask what may come next; `calling`: what such a call looks like.
 //! - `malformed`: what is no case at all; `showing`: a case as a person reads it.
 
 pub mod calling;
@@ -16,6 +16,7 @@ pub mod filing;
 pub mod fixed;
 pub mod judging;
 pub mod lending;
+pub mod listing;
 pub mod malformed;
 pub mod naming;
 pub mod reading;
@@ -26,9 +27,10 @@ pub mod undoing;
 pub mod wide;
 pub mod writing;
 
-use self::calling::{Call, JUDGE};
+use self::calling::{Call, JUDGE, NEXT};
 use self::malformed::malformed;
 use crate::judge::{Answer, Lent};
+use crate::next::{Beginning, Next};
 use crate::program::program_within;
 use crate::reader::read_into;
 use crate::refusals::Refusal;
@@ -58,6 +60,8 @@ pub enum Case {
 pub enum Reply {
     /// From the program and the judge.
     Judged(Answer),
+    /// To the question what may come next.
+    Next(Next),
     /// From the reader: its counts.
     Read { names: usize, nodes: usize, records: usize },
     /// From the writer: the file.
@@ -70,6 +74,7 @@ impl fmt::Display for Reply {
     fn fmt(&self, f: &mut fmt::Formatter) -> fmt::Result {
         match self {
             Reply::Judged(answer) => answer.fmt(f),
+            Reply::Next(next) => next.fmt(f),
             Reply::Read { names, nodes, records } => write!(f, "read {names} {nodes} {records}"),
             Reply::Written(file) => {
                 write!(f, "written {} ", file.len())?;
@@ -85,10 +90,13 @@ impl Reply {
         match self {
             Reply::Judged(Answer::Accepted { .. }) => "accepted",
             Reply::Judged(Answer::Rejected { .. }) => "rejected",
-            Reply::Judged(Answer::Undecided { .. }) => "undecided",
+            Reply::Judged(Answer::Undecided { .. }) | Reply::Next(Next::Undecided { .. }) => "undecided",
+            Reply::Next(Next::Listed { .. }) => "listed",
             Reply::Read { .. } => "read",
             Reply::Written(_) => "written",
-            Reply::Judged(Answer::Refused(_)) | Reply::Refused(_) => "refused",
+            Reply::Judged(Answer::Refused(_)) | Reply::Next(Next::Refused(_)) | Reply::Refused(_) => {
+                "refused"
+            }
         }
     }
 
@@ -96,14 +104,18 @@ impl Reply {
     fn states(&self) -> u64 {
         match self {
             Reply::Judged(Answer::Accepted { count, .. } | Answer::Rejected { count, .. }) => *count as u64,
+            Reply::Next(Next::Listed { count, .. }) => *count as u64,
             Reply::Judged(Answer::Undecided { allowance }) => *allowance as u64,
+            Reply::Next(Next::Undecided { allowance }) => *allowance as u64,
             _ => 0,
         }
     }
 
     pub fn refusal(&self) -> Option<Refusal> {
         match self {
-            Reply::Judged(Answer::Refused(refusal)) | Reply::Refused(refusal) => Some(*refusal),
+            Reply::Judged(Answer::Refused(refusal)) => Some(*refusal),
+            Reply::Next(Next::Refused(refusal)) => Some(*refusal),
+            Reply::Refused(refusal) => Some(*refusal),
             _ => None,
         }
     }
@@ -181,6 +193,14 @@ impl Case {
         }
     }
 
+    /// What may come next is asked with, if the case is such a call.
+    pub fn beginning(&self) -> Option<Beginning<'_>> {
+        match self {
+            Case::Call(call) if call.function == NEXT => Some(call.beginning()),
+            _ => None,
+        }
+    }
+
     /// The line that `replay` has to print for a reply: what is lent is always left as promised.
     pub fn line(&self, reply: &Reply) -> String {
         match self {
@@ -216,7 +236,7 @@ impl Stream {
     /// A random case of a random family, or some that belong together; none if it asks for too many states.
     fn random(&mut self) -> VecDeque<Made> {
         let rng = &mut self.rng;
-        let (family, case) = match rng.below(150) {
+        let (family, case) = match rng.below(184) {
             0..=21 => ("judge", judging::case(rng)),
             22..=39 => ("judge, undoing", undoing::case(rng)),
             40..=46 => ("judge, wide flow", wide::case(rng)),
@@ -236,7 +256,14 @@ impl Stream {
             120 => ("write, at the limits", writing::case_at_limits(rng)),
             121..=138 => ("names", lending::case(rng)),
             139..=148 => ("names, damaged", lending::damaged_case(rng)),
-            _ => ("names, at the limits", lending::case_at_limits(rng)),
+            149 => ("names, at the limits", lending::case_at_limits(rng)),
+            150..=166 => ("next", listing::case(rng)),
+            167..=170 => {
+                let made = |case| Made::within(u32::MAX, "next, equal parts", case);
+                return listing::cases_of_equal_parts(rng).into_iter().filter_map(made).collect();
+            }
+            171..=182 => ("next, damaged", listing::damaged_case(rng)),
+            _ => ("next, at the limits", listing::case_at_limits(rng)),
         };
         Made::within(PATIENCE, family, case).into_iter().collect()
     }
@@ -261,7 +288,7 @@ impl Iterator for Stream {
 }
 
 /// The gate's stored run, `crates/replay/stdin` and `stdout`: so many cases of this seed.
-pub const STORED_CASES: usize = 10_000;
+pub const STORED_CASES: usize = 13_000;
 pub const STORED_SEED: u64 = 1;
 
 /// A run of `replay`: its input, and the lines that it has to print.
@@ -289,33 +316,46 @@ impl Run {
 #[derive(Default)]
 pub struct Totals {
     pub cases: u64,
-    pub states: u64,
     families: BTreeMap<&'static str, BTreeMap<&'static str, u64>>,
-    /// By who was asked, then by number.
-    refusals: BTreeMap<&'static str, BTreeMap<u32, u64>>,
+    /// By who was asked.
+    asked: BTreeMap<&'static str, OfAsked>,
+}
+
+/// What one of those who are asked has answered.
+#[derive(Default)]
+struct OfAsked {
+    states: u64,
+    words: BTreeMap<&'static str, u64>,
+    /// By number.
+    refusals: BTreeMap<u32, u64>,
 }
 
 impl Totals {
     pub fn count(&mut self, made: &Made) {
         self.cases += 1;
-        self.states += made.reply.states();
+        let of_asked = self.asked.entry(made.case.asked()).or_default();
+        of_asked.states += made.reply.states();
+        *of_asked.words.entry(made.reply.word()).or_default() += 1;
         if let Some(refusal) = made.reply.refusal() {
-            let of_asked = self.refusals.entry(made.case.asked()).or_default();
-            *of_asked.entry(refusal.number).or_default() += 1;
+            *of_asked.refusals.entry(refusal.number).or_default() += 1;
         }
         *self.families.entry(made.family).or_default().entry(made.reply.word()).or_default() += 1;
     }
 
     pub fn of_refusal(&self, asked: &str, number: u32) -> u64 {
-        *self.refusals.get(asked).and_then(|of_asked| of_asked.get(&number)).unwrap_or(&0)
+        *self.asked.get(asked).and_then(|of_asked| of_asked.refusals.get(&number)).unwrap_or(&0)
     }
 
-    pub fn of_word(&self, word: &str) -> u64 {
-        self.families.values().filter_map(|words| words.get(word)).sum()
+    pub fn of_word(&self, asked: &str, word: &str) -> u64 {
+        *self.asked.get(asked).and_then(|of_asked| of_asked.words.get(word)).unwrap_or(&0)
+    }
+
+    pub fn states(&self, asked: &str) -> u64 {
+        self.asked.get(asked).map_or(0, |of_asked| of_asked.states)
     }
 
     pub fn show(&self) -> String {
-        let words = ["accepted", "rejected", "undecided", "read", "written", "refused"];
+        let words = ["accepted", "rejected", "undecided", "listed", "read", "written", "refused"];
         let mut text = format!("{:24}", "");
         words.iter().for_each(|word| write!(text, "{word:>11}").unwrap());
         for (family, counts) in &self.families {
@@ -323,12 +363,17 @@ impl Totals {
             words.iter().for_each(|word| write!(text, "{:>11}", counts.get(word).unwrap_or(&0)).unwrap());
         }
         write!(text, "\n{:24}", "all").unwrap();
-        words.iter().for_each(|word| write!(text, "{:>11}", self.of_word(word)).unwrap());
-        for (asked, refusals) in &self.refusals {
-            let refusals: Vec<String> = refusals.iter().map(|(no, n)| format!("{no}: {n}")).collect();
-            write!(text, "\nrefusals of the {asked} {}", refusals.join(", ")).unwrap();
+        for word in words {
+            let all: u64 = self.asked.keys().map(|asked| self.of_word(asked, word)).sum();
+            write!(text, "{all:>11}").unwrap();
         }
-        write!(text, "\n{} cases, {} states entered\n", self.cases, self.states).unwrap();
+        for (asked, of_asked) in self.asked.iter().filter(|(_, of_asked)| !of_asked.refusals.is_empty()) {
+            let refusals: Vec<String> =
+                of_asked.refusals.iter().map(|(no, n)| format!("{no}: {n}")).collect();
+            write!(text, "\nrefusals, {asked}: {}", refusals.join(", ")).unwrap();
+        }
+        let states: u64 = self.asked.values().map(|of_asked| of_asked.states).sum();
+        write!(text, "\n{} cases, {states} states entered\n", self.cases).unwrap();
         text
     }
 }

@@ -84,9 +84,9 @@ fn around(
     all
 }
 
-fn call(rng: &mut Rng, lent: Lent, effort: Effort) -> Case {
-    let count = effort.entered;
-    let allowance = match rng.below(16) {
+/// An allowance around the count of a search with equal states.
+pub fn allowance(rng: &mut Rng, count: u32) -> u32 {
+    match rng.below(16) {
         0..=4 => count,
         5..=7 => count - 1,
         8 => count + 1,
@@ -95,7 +95,11 @@ fn call(rng: &mut Rng, lent: Lent, effort: Effort) -> Case {
         11 => count / 2,
         12 => rng.below(count as usize) as u32,
         _ => u32::MAX,
-    };
+    }
+}
+
+fn call(rng: &mut Rng, lent: Lent, effort: Effort) -> Case {
+    let allowance = allowance(rng, effort.entered);
     let work_len = if rng.once_in(8) { near(rng, lent.work_len, MOST_WORK) } else { lent.work_len };
     let (nodes, records) = (lent.nodes.to_vec(), lent.records.to_vec());
     match lent.names {

@@ -63,7 +63,7 @@ pub struct Fault {
     pub damage: fn(&mut Call),
 }
 
-const fn fault(number: u32, place: usize, damage: fn(&mut Call)) -> Fault {
+pub const fn fault(number: u32, place: usize, damage: fn(&mut Call)) -> Fault {
     Fault { refusal: Refusal { number, place }, damage }
 }
 
@@ -217,7 +217,8 @@ fn with_room(rng: &mut Rng, call: Call, room: usize) -> Case {
 
 /// A call with one or two damages.
 pub fn damaged_case(rng: &mut Rng) -> Case {
-    let Lists { names, nodes, records, short } = damaging::lists(rng);
+    let file = filing::whole(rng);
+    let Lists { names, nodes, records, short } = damaging::lists(rng, file);
     let call = Call::write(names, nodes, records);
     if short {
         let room = rng.below(call.room as usize);

@@ -1,6 +1,7 @@
 -- `judge::check_all` meets its contract: 1 to 9, 10 to 13 and 14 in their order. Assumes nothing.
 use mathlib.Core.Path.{sym, _∙_}
 use borrow.Author.Needs.{needs}
+use Rattle.flow.specs.declared.Extent.the-variants.{Whole}
 use Rattle.judge.specs.JudgedLaws.{table-refuses, records-refuse, room-last, table-some, table-few, records-few}
 use Rattle.judge.proofs.check_all.Statement.{statement}
 use Rattle.judge.proofs.check_all.Tie as tie
@@ -38,7 +39,7 @@ check-room-requires : tie.Need-check-room-requires
 check-room-requires c κs =
     let a = c .before .before .before .before .before .before .before .before .args in
     let table = sym (c .before .before .before .before .before .check-table .ensures) ∙ c .before .before .before .enum-told .given .1 in
-    (table-few (a .nodes .now) table, records-few (a .nodes .now) (a .records .now) (sym (c .before .before .check-records .ensures) ∙ c .enum-told3 .given .1))
+    (table-few (a .nodes .now) table, records-few Whole (a .nodes .now) (a .records .now) (sym (c .before .before .check-records .ensures) ∙ c .enum-told3 .given .1))
 
 returns-3 : tie.Need-returns-3
 returns-3 c =

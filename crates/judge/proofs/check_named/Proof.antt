@@ -1,6 +1,7 @@
 -- `judge::check_named` meets its contract: the lists by the reader's own checks, then 14. Assumes nothing.
 use mathlib.Core.Path.{sym, _∙_}
 use borrow.Author.Needs.{needs}
+use Rattle.flow.specs.declared.Extent.the-variants.{Whole}
 use Rattle.format.specs.ListLaws.{lists-passed}
 use Rattle.judge.specs.JudgedLaws.{lists-refuse, named-room-last, table-few, records-few}
 use Rattle.judge.proofs.check_named.Statement.{statement}
@@ -23,8 +24,8 @@ returns c =
 check-room-requires : tie.Need-check-room-requires
 check-room-requires c κs =
     let a = c .before .before .before .before .before .before .args in
-    let lists = lists-passed (a .names .now) (a .nodes .now) (a .records .now) (sym (c .before .before .check-lists .ensures) ∙ c .enum-told .given .1) in
-    (table-few (a .nodes .now) (lists .table), records-few (a .nodes .now) (a .records .now) (lists .records))
+    let lists = lists-passed Whole (a .names .now) (a .nodes .now) (a .records .now) (sym (c .before .before .check-lists .ensures) ∙ c .enum-told .given .1) in
+    (table-few (a .nodes .now) (lists .table), records-few Whole (a .nodes .now) (a .records .now) (lists .records))
 
 returns-2 : tie.Need-returns-2
 returns-2 c =

@@ -5,6 +5,7 @@ use lib.ListN.{length}
 use lib.Seq.{length-take-le}
 use borrow.Author.Needs.{needs}
 use Rattle.calculus.specs.Term.{leaf}
+use Rattle.flow.specs.declared.Extent.the-variants.{Whole}
 use Rattle.flow.specs.Cues.{cue-of, itself}
 use Rattle.flow.specs.Drawn.{flow-by}
 use Rattle.judge.specs.JudgedLaws.{judge-refuses, judge-passed, records-few}
@@ -32,17 +33,17 @@ slice-aggregate-plain-cues c = search needs
 plain-cues-requires : tie.Need-plain-cues-requires
 plain-cues-requires c κs =
     let a = c .before .before .before .before .before .before .before .args in
-    records-few (a .nodes .now) (a .records .now) (judge-passed (a .nodes .now) (a .records .now) (length (a .work .now)) (sym (c .before .before .before .check-all .ensures) ∙ c .before .enum-told .given .1) .records)
+    records-few Whole (a .nodes .now) (a .records .now) (judge-passed (a .nodes .now) (a .records .now) (length (a .work .now)) (sym (c .before .before .before .check-all .ensures) ∙ c .before .enum-told .given .1) .records)
 
 array-share-prefix-cues : tie.Need-array-share-prefix-cues
 array-share-prefix-cues c =
     let a = c .before .before .before .before .before .before .before .before .before .args in
-    omega (arith, c .before .plain-cues .kept .1 .0, records-few (a .nodes .now) (a .records .now) (judge-passed (a .nodes .now) (a .records .now) (length (a .work .now)) (sym (c .before .before .before .before .before .check-all .ensures) ∙ c .before .before .before .enum-told .given .1) .records))
+    omega (arith, c .before .plain-cues .kept .1 .0, records-few Whole (a .nodes .now) (a .records .now) (judge-passed (a .nodes .now) (a .records .now) (length (a .work .now)) (sym (c .before .before .before .before .before .check-all .ensures) ∙ c .before .before .before .enum-told .given .1) .records))
 
 slice-aggregate-answer-by : tie.Need-slice-aggregate-answer-by
 slice-aggregate-answer-by c =
     let a = c .before .before .before .before .before .before .before .before .before .before .args in
-    sym (length-take-le (length (a .records .now)) (c .before .before .plain-cues .last .1 .0) (omega (arith, c .before .before .plain-cues .kept .1 .0, records-few (a .nodes .now) (a .records .now) (judge-passed (a .nodes .now) (a .records .now) (length (a .work .now)) (sym (c .before .before .before .before .before .before .check-all .ensures) ∙ c .before .before .before .before .enum-told .given .1) .records))))
+    sym (length-take-le (length (a .records .now)) (c .before .before .plain-cues .last .1 .0) (omega (arith, c .before .before .plain-cues .kept .1 .0, records-few Whole (a .nodes .now) (a .records .now) (judge-passed (a .nodes .now) (a .records .now) (length (a .work .now)) (sym (c .before .before .before .before .before .before .check-all .ensures) ∙ c .before .before .before .before .enum-told .given .1) .records))))
 
 answer-by-requires : tie.Need-answer-by-requires
 answer-by-requires c κs =

@@ -4,6 +4,7 @@ use native.Mathlib.Omega.{arith}
 use lib.ListN.{length}
 use lib.Seq.{length-take-le}
 use borrow.Author.Needs.{needs}
+use Rattle.flow.specs.declared.Extent.the-variants.{Whole}
 use Rattle.flow.specs.Cues.{cue-of}
 use Rattle.format.specs.ListChecks.{entries-in}
 use Rattle.matching.specs.Others.{other}
@@ -33,17 +34,17 @@ slice-aggregate-named-cues c = search needs
 named-cues-requires : tie.Need-named-cues-requires
 named-cues-requires c κs =
     let a = c .before .before .before .before .before .before .before .before .args in
-    (named-lists (a .nodes .now) (a .records .now) (length (a .work .now)) (a .names .now) (sym (c .before .before .before .check-named .ensures) ∙ c .before .enum-told .given .1) .section, records-few (a .nodes .now) (a .records .now) (named-passed (a .nodes .now) (a .records .now) (length (a .work .now)) (a .names .now) (sym (c .before .before .before .check-named .ensures) ∙ c .before .enum-told .given .1) .records))
+    (named-lists (a .nodes .now) (a .records .now) (length (a .work .now)) (a .names .now) (sym (c .before .before .before .check-named .ensures) ∙ c .before .enum-told .given .1) .section, records-few Whole (a .nodes .now) (a .records .now) (named-passed (a .nodes .now) (a .records .now) (length (a .work .now)) (a .names .now) (sym (c .before .before .before .check-named .ensures) ∙ c .before .enum-told .given .1) .records))
 
 array-share-prefix-cues : tie.Need-array-share-prefix-cues
 array-share-prefix-cues c =
     let a = c .before .before .before .before .before .before .before .before .before .before .args in
-    omega (arith, c .before .named-cues .kept .1 .1 .0, records-few (a .nodes .now) (a .records .now) (named-passed (a .nodes .now) (a .records .now) (length (a .work .now)) (a .names .now) (sym (c .before .before .before .before .before .check-named .ensures) ∙ c .before .before .before .enum-told .given .1) .records))
+    omega (arith, c .before .named-cues .kept .1 .1 .0, records-few Whole (a .nodes .now) (a .records .now) (named-passed (a .nodes .now) (a .records .now) (length (a .work .now)) (a .names .now) (sym (c .before .before .before .before .before .check-named .ensures) ∙ c .before .before .before .enum-told .given .1) .records))
 
 slice-aggregate-answer-by : tie.Need-slice-aggregate-answer-by
 slice-aggregate-answer-by c =
     let a = c .before .before .before .before .before .before .before .before .before .before .before .args in
-    sym (length-take-le (length (a .records .now)) (c .before .before .named-cues .last .1 .1 .0) (omega (arith, c .before .before .named-cues .kept .1 .1 .0, records-few (a .nodes .now) (a .records .now) (named-passed (a .nodes .now) (a .records .now) (length (a .work .now)) (a .names .now) (sym (c .before .before .before .before .before .before .check-named .ensures) ∙ c .before .before .before .before .enum-told .given .1) .records))))
+    sym (length-take-le (length (a .records .now)) (c .before .before .named-cues .last .1 .1 .0) (omega (arith, c .before .before .named-cues .kept .1 .1 .0, records-few Whole (a .nodes .now) (a .records .now) (named-passed (a .nodes .now) (a .records .now) (length (a .work .now)) (a .names .now) (sym (c .before .before .before .before .before .before .check-named .ensures) ∙ c .before .before .before .before .enum-told .given .1) .records))))
 
 answer-by-requires : tie.Need-answer-by-requires
 answer-by-requires c κs =

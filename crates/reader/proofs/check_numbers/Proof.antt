@@ -6,6 +6,7 @@ use mathlib.Core.Path.{ap₂, sym, _∙_}
 use native.Mathlib.Omega.{arith}
 use borrow.Author.Needs.{needs}
 use denote.Ref.{now}
+use Rattle.flow.specs.declared.Extent.the-variants.{Whole}
 use Rattle.flow.specs.Checks.{first}
 use Rattle.format.specs.ContentChecks.{grounds-of}
 use Rattle.format.specs.SectionLaws.{front-is, front-length}
@@ -55,7 +56,7 @@ returns : tie.Need-returns
 returns c = let s = now (c .before .before .before .before .before .before .before .before .before .before .before .before .before .args .file) in
     let a = front-is s (3 * c .before .before .before .before .before .before .before .before .before .before .before .before .before .args .o .counts .nodes) (c .before .before .before .before .before .before .before .before .before .before .before .before .before .args .o .nodes) _ (c .before .before .before .before .before .before .before .fill .ensures) in
     let b = front-is s (c .before .before .before .before .before .before .before .before .before .before .before .before .before .args .o .counts .records) (c .before .before .before .before .before .before .before .before .before .before .before .before .before .args .o .records) _ (c .before .before .before .before .fill2 .ensures) in
-    c .check-contents .ensures ∙ ap₂ (λ (ns rs : List ℕ). first (grounds-of (c .before .before .before .before .before .before .before .before .before .before .before .before .before .args .o .counts .names) ns rs)) a b
+    c .check-contents .ensures ∙ ap₂ (λ (ns rs : List ℕ). first (grounds-of Whole (c .before .before .before .before .before .before .before .before .before .before .before .before .before .args .o .counts .names) ns rs)) a b
 
 pub check-numbers-spec : {M : Type 1} → statement M
 check-numbers-spec =

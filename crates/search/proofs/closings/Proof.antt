@@ -22,7 +22,7 @@ returns c =
     let a = s .args in
     let i = c .before .before .before .root-of in
     let w = c .before .rank-of in
-    counted-closing (a .ns .now) (a .t .now) (a .cue) (i .result) (i .ensures) (s .pre .1 .1 .0) (s .pre .1 .1 .1) (w .result) (w .ensures .1) {d = c .before .before .weigh .last .1 .1 .1 .0} {v = c .before .before .weigh .result} {y = c .tally-by .result} (c .before .before .weigh .ensures .0) (c .before .before .weigh .ensures .1 .0) (c .tally-by .ensures)
+    counted-closing (a .ns .now) (a .t .now) (a .cue) (i .result) (i .ensures) (s .pre .1 .1 .0) (s .pre .1 .1 .1) (w .result) (w .ensures .1) {v = c .before .before .weigh .result} {y = c .tally-by .result} (c .before .before .weigh .ensures .0) (c .tally-by .ensures) {d = c .before .before .weigh .last .1 .1 .1 .0} (c .before .before .weigh .ensures .1 .0)
 
 pub closings-spec : {M : Type 1} → statement M
 closings-spec =

@@ -20,10 +20,16 @@ slice-aggregate-visit-2 : tie.Need-slice-aggregate-visit-2
 slice-aggregate-visit-2 c = search needs
 
 visit-requires : tie.Need-visit-requires
-visit-requires c κs = (c .before .before .before .before .before .before .pre, truthful-none (c .before .before .before .before .before .before .args .ns .now) (c .before .before .before .before .before .before .args .cues .now) (memory [] []) refl)
+visit-requires c κs =
+    let s = c .before .before .before .before .before .before .before .before in
+    let a = s .args in
+    (s .pre .0, truthful-none (a .ns .now) (a .cues .now) (a .asks .now) (s .pre .1) (memory [] []) refl)
 
 same-length : tie.Need-same-length
 same-length c = search needs
+
+same-length-2 : tie.Need-same-length-2
+same-length-2 c = search needs
 
 returns : tie.Need-returns
 returns c = search needs
@@ -38,4 +44,5 @@ first-search-spec =
     slice-aggregate-visit-2
     visit-requires
     same-length
+    same-length-2
     returns)

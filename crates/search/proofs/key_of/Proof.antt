@@ -1,4 +1,4 @@
--- `search::key_of` meets its contract: four times the records, and the role's number. Assumes nothing.
+-- `search::key_of` meets its contract: four times the records and one, and the role's number. Assumes nothing.
 use mathlib.Core.Path.{sym, ap, _∙_}
 use native.Mathlib.Omega.{arith}
 use borrow.Author.Needs.{needs}
@@ -9,6 +9,9 @@ use Rattle.search.proofs.key_of.Tie as tie
 
 cast-depth : tie.Need-cast-depth
 cast-depth c = search needs
+
+add-depth : tie.Need-add-depth
+add-depth c = search needs
 
 mul-depth : tie.Need-mul-depth
 mul-depth c = search needs
@@ -48,6 +51,7 @@ key-of-spec =
     tie.close
     (tie.spec
     cast-depth
+    add-depth
     mul-depth
     enum-known-role
     enum-told

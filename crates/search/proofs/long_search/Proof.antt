@@ -12,10 +12,16 @@ slice-aggregate-visit-2 : tie.Need-slice-aggregate-visit-2
 slice-aggregate-visit-2 c = search needs
 
 visit-requires : tie.Need-visit-requires
-visit-requires c κs = (c .before .before .before .before .before .before .pre, truthful-fresh (c .before .before .before .before .before .before .args .ns .now) (c .before .before .before .before .before .before .args .cues .now) 131072 6144 (omega arith))
+visit-requires c κs =
+    let s = c .before .before .before .before .before .before .before .before in
+    let a = s .args in
+    (s .pre .0, truthful-fresh (a .ns .now) (a .cues .now) (a .asks .now) (s .pre .1) 131072 6144 (omega arith))
 
 same-length : tie.Need-same-length
 same-length c = search needs
+
+same-length-2 : tie.Need-same-length-2
+same-length-2 c = search needs
 
 returns : tie.Need-returns
 returns c = search needs
@@ -23,4 +29,10 @@ returns c = search needs
 pub long-search-spec : {M : Type 1} → statement M
 long-search-spec =
     tie.close
-    (tie.spec slice-aggregate-visit slice-aggregate-visit-2 visit-requires same-length returns)
+    (tie.spec
+    slice-aggregate-visit
+    slice-aggregate-visit-2
+    visit-requires
+    same-length
+    same-length-2
+    returns)

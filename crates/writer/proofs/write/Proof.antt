@@ -53,8 +53,8 @@ put-lists-requires c κs =
     let few = fine-lists _ _ _ (sym (c .before .before .before .before .check-lists .ensures) ∙ c .before .before .enum-told .given .1) in
     (omega (arith, few .nodes-few), few .records-few, omega arith)
 
-cast-t19 : tie.Need-cast-t19
-cast-t19 c =
+cast-t20 : tie.Need-cast-t20
+cast-t20 c =
     let few = fine-lists _ _ _ (sym (c .before .before .before .before .before .before .before .check-lists .ensures) ∙ c .before .before .before .before .before .enum-told .given .1) in
     omega (arith, few .names-few, few .nodes-few, few .records-few)
 
@@ -84,6 +84,6 @@ write-spec =
     refusal-requires
     returns-2
     put-lists-requires
-    cast-t19
+    cast-t20
     same-length
     returns-3)

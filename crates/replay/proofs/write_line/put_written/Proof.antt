@@ -1,13 +1,11 @@
 -- `replay::write_line::put_written` meets its contract: its four texts, one after the other. Assumes nothing.
 use native.Mathlib.Omega.{arith}
 use mathlib.Core.Path.{sym}
-use lib.ListN.{take}
 use lib.Seq.{length-take-le}
 use denote.Ref.{now}
 use borrow.Author.Needs.{needs}
 use Rattle.line.specs.LineLaws.{put-then}
 use Rattle.replay.specs.WriteLine.{written-text}
-use Rattle.replay.specs.TextLaws.{hex-length}
 use Rattle.replay.proofs.write_line.put_written.Statement.{statement}
 use Rattle.replay.proofs.write_line.put_written.Tie as tie
 
@@ -35,7 +33,7 @@ slice-aggregate-put-hex c = sym (length-take-le _ _ (c .before .before .before .
 put-hex-requires : tie.Need-put-hex-requires
 put-hex-requires c κs =
     let p = c .before .before .before .before .before .before .before .before .before .before .before .before .before .before .before .before .before .before .before .pre in
-    omega (arith, c .before .before .before .before .before .before .before .before .before .before .before .before .before .put .ensures .end, c .before .before .before .before .put2 .ensures .end, length-take-le (c .before .before .before .before .before .before .before .before .before .before .before .before .before .before .before .before .before .before .before .args .extent .length) (now (c .before .before .before .before .before .before .before .before .before .before .before .before .before .before .before .before .before .before .before .args .file)) (p .1 .0))
+    omega (arith, c .before .before .before .before .before .before .before .before .before .before .before .before .before .put .ensures .end, c .before .before .before .before .put2 .ensures .end, length-take-le (c .before .before .before .before .before .before .before .before .before .before .before .before .before .before .before .before .before .before .before .args .size .length) (now (c .before .before .before .before .before .before .before .before .before .before .before .before .before .before .before .before .before .before .before .args .file)) (p .1 .0))
 
 same-length : tie.Need-same-length
 same-length c = search needs
@@ -51,9 +49,8 @@ returns c =
     let p = s .pre in
     let a = n0 .ensures .end in
     let b = n2 .ensures .end in
-    let bytes = take (s .args .extent .length) (now (s .args .file)) in
-    let l = length-take-le (s .args .extent .length) (now (s .args .file)) (p .1 .0) in
-    (put-then (n0 .ensures) (omega arith) (put-then (n1 .ensures .0) (omega arith) (put-then (n2 .ensures) (omega arith) (n3 .ensures))), omega (arith, n3 .ensures .end, hex-length bytes))
+    let l = length-take-le (s .args .size .length) (now (s .args .file)) (p .1 .0) in
+    (put-then (n0 .ensures) (omega arith) (put-then (n1 .ensures .0) (omega arith) (put-then (n2 .ensures) (omega arith) (n3 .ensures .0))), omega arith)
 
 pub put-written-spec : {M : Type 1} → statement M
 put-written-spec =

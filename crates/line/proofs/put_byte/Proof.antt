@@ -1,8 +1,9 @@
--- `replay::text::put_byte` meets its contract: the two digits. Assumes nothing.
+-- `line::put_byte` meets its contract: the two digits. Assumes nothing.
+use native.Mathlib.Omega.{arith}
 use borrow.Author.Needs.{needs}
-use Rattle.replay.specs.Text.{hex-byte}
-use Rattle.replay.proofs.text.put_byte.Statement.{statement}
-use Rattle.replay.proofs.text.put_byte.Tie as tie
+use Rattle.line.specs.Shown.{hex-byte}
+use Rattle.line.proofs.put_byte.Statement.{statement}
+use Rattle.line.proofs.put_byte.Tie as tie
 
 digit-requires : tie.Need-digit-requires
 digit-requires c κs = search needs
@@ -27,7 +28,9 @@ same-length c = search needs
 
 returns : tie.Need-returns
 unfolding hex-byte
-returns c = rw (c .before .before .before .before .before .before .digit .ensures, c .before .before .before .before .before .digit2 .ensures) at (c .before .before .put .ensures)
+returns c =
+    let p = c .before .before .put .ensures in
+    (rw (c .before .before .before .before .before .before .digit .ensures, c .before .before .before .before .before .digit2 .ensures) at p, omega (arith, p .end))
 
 pub put-byte-spec : {M : Type 1} → statement M
 put-byte-spec =

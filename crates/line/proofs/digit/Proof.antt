@@ -1,8 +1,8 @@
--- `replay::text::digit` meets its contract: a digit or a letter. Assumes nothing.
+-- `line::digit` meets its contract: a digit or a letter. Assumes nothing.
 use borrow.Author.Tests.{lt-ltb, le-ltb}
 use borrow.Author.Needs.{needs}
-use Rattle.replay.proofs.text.digit.Statement.{statement}
-use Rattle.replay.proofs.text.digit.Tie as tie
+use Rattle.line.proofs.digit.Statement.{statement}
+use Rattle.line.proofs.digit.Tie as tie
 
 add-result : tie.Need-add-result
 add-result c = search needs

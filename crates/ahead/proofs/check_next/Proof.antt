@@ -1,0 +1,63 @@
+-- `ahead::check_next` meets its contract: 1 to 9, 11 to 13 and 14 in their order. Assumes nothing.
+use mathlib.Core.Path.{sym, _∙_}
+use borrow.Author.Needs.{needs}
+use Rattle.flow.specs.declared.Extent.the-variants.{Beginning}
+use Rattle.judge.specs.JudgedLaws.{table-some, table-few, records-few}
+use Rattle.ahead.specs.CheckLaws.{next-table-refuses, next-records-refuse, next-room-last}
+use Rattle.ahead.proofs.check_next.Statement.{statement}
+use Rattle.ahead.proofs.check_next.Tie as tie
+
+check-table-requires : tie.Need-check-table-requires
+check-table-requires c κs = search needs
+
+enum-told : tie.Need-enum-told
+enum-told c = search needs
+
+enum-told-2 : tie.Need-enum-told-2
+enum-told-2 c = search needs
+
+returns : tie.Need-returns
+returns c =
+    let a = c .before .before .before .before .before .args in
+    next-table-refuses (a .nodes .now) (a .beginning .now) (a .numbers) (a .room) (c .before .before .check-table .ensures) (c .enum-told2 .given .1)
+
+check-records-requires : tie.Need-check-records-requires
+check-records-requires c κs = table-some (c .before .before .before .before .before .args .nodes .now) (sym (c .before .before .check-table .ensures) ∙ c .enum-told .given .1)
+
+enum-told-3 : tie.Need-enum-told-3
+enum-told-3 c = search needs
+
+enum-told-4 : tie.Need-enum-told-4
+enum-told-4 c = search needs
+
+returns-2 : tie.Need-returns-2
+returns-2 c =
+    let a = c .before .before .before .before .before .before .before .before .args in
+    let table = sym (c .before .before .before .before .before .check-table .ensures) ∙ c .before .before .before .enum-told .given .1 in
+    next-records-refuse (a .nodes .now) (a .beginning .now) (a .numbers) (a .room) table (c .before .before .check-records .ensures) (c .enum-told4 .given .1)
+
+check-next-room-requires : tie.Need-check-next-room-requires
+check-next-room-requires c κs =
+    let a = c .before .before .before .before .before .before .before .before .args in
+    let table = sym (c .before .before .before .before .before .check-table .ensures) ∙ c .before .before .before .enum-told .given .1 in
+    (table-few (a .nodes .now) table, records-few Beginning (a .nodes .now) (a .beginning .now) (sym (c .before .before .check-records .ensures) ∙ c .enum-told3 .given .1))
+
+returns-3 : tie.Need-returns-3
+returns-3 c =
+    let a = c .before .before .before .before .before .before .before .before .before .args in
+    let table = sym (c .before .before .before .before .before .before .check-table .ensures) ∙ c .before .before .before .before .enum-told .given .1 in
+    let list = sym (c .before .before .before .check-records .ensures) ∙ c .before .enum-told3 .given .1 in
+    next-room-last (a .nodes .now) (a .beginning .now) (a .numbers) (a .room) table list (c .check-next-room .ensures)
+
+pub check-next-spec : {M : Type 1} → statement M
+check-next-spec = tie.close (tie.spec
+    check-table-requires
+    enum-told
+    enum-told-2
+    returns
+    check-records-requires
+    enum-told-3
+    enum-told-4
+    returns-2
+    check-next-room-requires
+    returns-3)
