@@ -42,7 +42,7 @@ NOTE = f"""
 - independent: the implementation in `tests/`, plain Rust, going through equal states again, timed inside itself (`oracle bench FILE`).
 - Prolog: the transition rules as published, in SWI-Prolog (`rules.pl`), one run, timed inside itself.
 - other, where it is there: one more program that was named to `bench/run`, timed inside itself.
-- stored: all cases `J` of `crates/replay/stdin`, calls of the judge without names, and a call is all of them. small: those of them that enter {FEW} states or fewer.
+- stored: the cases `J` of `crates/replay/stdin`, calls of the judge without names, but those refused with 22, and a call is all of them. small: those of them that enter {FEW} states or fewer.
 - panel: what may come next, asked after each record of a batch of 256 on a flow of 64 nodes, from none to the last but one: 256 calls, and
   a call is all of them. `panel-route` is one step after the other, `panel-lines` three equal lines side by side, `panel-undone` three that
   fail and are undone, `panel-machines` the same with forty names, its steps drawn without a machine. No run of so many nodes has more than
@@ -245,7 +245,8 @@ def stored():
     folder = HOME / "crates" / "replay"
     cases, lines = split((folder / "stdin").read_bytes()), (folder / "stdout").read_text().splitlines()
     assert len(cases) + 1 == len(lines)  # the last is no case
-    both = [(c, l) for c, l in zip(cases, lines) if c[:1] == b"J"]
+    # 22 is left out: builds before request Four give 4 there.
+    both = [(c, l) for c, l in zip(cases, lines) if c[:1] == b"J" and not l.startswith("refused 22 ")]
     few = [(c, l) for c, l in both if not l.startswith("refused") and int(l.split()[3]) <= FEW]
     for name, some in [("stored", both), ("small", few)]:
         yield f"{name}: {len(some):,} cases", Input([c for c, _ in some], [l for _, l in some])

@@ -14,13 +14,15 @@ HERE = pathlib.Path(__file__).resolve().parent
 
 
 def crates(checkout):
-    """The libraries that build on nothing of the kit, lowest first: the judge, what it builds on, and the reader."""
-    taken = []
-    for line in (checkout / "crates.txt").read_text().splitlines():
-        name, colon, below = line.partition(":")
-        library = checkout / "crates" / name / "src" / "lib.rt"
-        if colon and library.is_file() and all(lower in taken for lower in below.split()):
+    """The judge and what it builds on."""
+    lines = (checkout / "crates.txt").read_text().splitlines()
+    below = {name: lower.split() for name, colon, lower in (line.partition(":") for line in lines) if colon}
+    taken, left = [], ["judge"]
+    while left:
+        name = left.pop()
+        if name not in taken:
             taken.append(name)
+            left += below[name]
     return taken
 
 
@@ -48,6 +50,16 @@ def module(text, names):
     return re.sub(r"^((?:pub )?(?:struct|enum) )", r"#[derive(Clone, Copy)]\n\1", text, flags=re.M)
 
 
+def call(checkout):
+    """`judge_lists` of `native.rs`: the judge without sets, which builds before request Four know nothing of."""
+    sets = "&[], " if "sets: &[u8]" in (checkout / "crates" / "judge" / "src" / "lib.rt").read_text() else ""
+    return f"""
+fn judge_lists(nodes: &[u16], records: &[u16], work: &mut [u8], allowance: u32) -> Answer {{
+    judge::judge(nodes, records, {sets}work, allowance)
+}}
+"""
+
+
 def build(checkout, program):
     names = crates(checkout)
     with tempfile.TemporaryDirectory() as folder:
@@ -55,7 +67,8 @@ def build(checkout, program):
         for name in names:
             text = (checkout / "crates" / name / "src" / "lib.rt").read_text()
             (folder / f"{name}.rs").write_text(module(text, names))
-        (folder / "main.rs").write_text((HERE / "native.rs").read_text() + "".join(f"mod {name};\n" for name in names))
+        modules = "".join(f"mod {name};\n" for name in names)
+        (folder / "main.rs").write_text((HERE / "native.rs").read_text() + call(checkout) + modules)
         subprocess.run(["rustc", "-C", "opt-level=3", "--edition", "2021", "-A", "warnings", folder / "main.rs", "-o", program], check=True)
 
 

@@ -65,7 +65,7 @@ impl<R: Read> Cases<R> {
                 let numbers: Vec<u16> = numbers.chunks(2).map(|b| u16::from_le_bytes([b[0], b[1]])).collect();
                 let (nodes, records) = numbers.split_at(n);
                 let mut work = vec![FILLER; room];
-                let judged = |_| judge::judge(black_box(nodes), black_box(records), &mut work, allowance);
+                let judged = |_| judge_lists(black_box(nodes), black_box(records), &mut work, allowance);
                 let answer = (0..self.times).map(judged).last()?;
                 let note = if clean(&answer, nodes, records, &work) { "clean" } else { "dirty" };
                 Some(format!("{} {note}", text(&answer)))

@@ -1,6 +1,7 @@
-//! The table "Judged by hand" of document 01, line by line, and what may come next in its flows.
+//! The table "Judged by hand" of document 01, line by line, and what may come next in its flows; then flows of two lines that meet.
 
 use crate::drawing::*;
+use crate::sets::EventSet;
 use crate::term::{DONE, FAILED, WITHDRAWN};
 
 pub const A: u16 = 1;
@@ -120,6 +121,90 @@ pub fn lists() -> Vec<HandCase> {
         (parallel(yieldd(), throww()), &[], MILLION, "listed 1 1 61443"),
         (choice(event(B), choice(event(A), yields())), &[], MILLION, "listed 4 1 1 2 61441 61442"),
         (choice(throw(), choice(yields(), event(A))), &[], MILLION, "listed 4 1 1 61441 61442 61443"),
+    ];
+    lines.map(hand_case).into()
+}
+
+/// The sets of the flows below, by their numbers.
+pub fn sets() -> Vec<EventSet> {
+    vec![EventSet::EMPTY, EventSet::of(&[A]), EventSet::of(&[B]), EventSet::of(&[A, B])]
+}
+pub const NONE: u16 = 0;
+pub const ONLY_A: u16 = 1;
+pub const ONLY_B: u16 = 2;
+pub const A_AND_B: u16 = 3;
+
+/// Two lines that meet, request Four of document 02, with the sets above; worked out from the rules.
+pub fn meetings() -> Vec<HandCase> {
+    let (a, b, c) = (|| event(A), || event(B), || event(C));
+    let undone = |pp: Drawing| block(seq(pp, throww()));
+    let strands = || joint(ONLY_B, seq(a(), b()), c());
+    let together = || joint(ONLY_A, a(), a());
+    let press = || joint(ONLY_B, seq(a(), b()), seq(c(), b()));
+    let two_ways = |p: Drawing, q: Drawing| choice(seq(a(), p), seq(a(), q));
+    let four_ways = || joint(ONLY_A, two_ways(b(), c()), two_ways(event(D), event(5)));
+    let undone_apart = || undone(joint(ONLY_A, pair(a(), b()), pair(a(), c())));
+    let undone_together = || undone(joint(A_AND_B, pair(a(), b()), pair(a(), b())));
+    let undone_never = || undone(joint(A_AND_B, pair(a(), b()), pair(a(), c())));
+    let root = || joint(A_AND_B, pair(a(), b()), pair(a(), b()));
+    let waits = || joint(ONLY_A, a(), skip());
+    let twice = || joint(ONLY_A, choice(a(), a()), choice(a(), a()));
+    let three = |first, second| joint(second, joint(first, a(), a()), a());
+    let lines: [(Drawing, &[u16], u32, &str); 46] = [
+        // "a strand: (a;b) synchronised on {b} with c"
+        (strands(), &[A, C, DONE], MILLION, "rejected 0 2 3"),
+        (strands(), &[C, A, DONE], MILLION, "rejected 0 2 3"),
+        (strands(), &[A, B, DONE], MILLION, "rejected 0 1 2"),
+        (strands(), &[A, C, B, DONE], MILLION, "rejected 0 2 3"),
+        // "an event in the set is one step of both sides"
+        (together(), &[A, DONE], MILLION, "accepted 0 2 3"),
+        (together(), &[A, A, DONE], MILLION, "rejected 0 1 2"),
+        (joint(NONE, a(), a()), &[A, DONE], MILLION, "rejected 0 1 3"),
+        (joint(NONE, a(), a()), &[A, A, FAILED], 5, "rejected 0 2 5"),
+        (joint(ONLY_B, a(), a()), &[A, A, FAILED], 4, "undecided 0 0 4"),
+        (joint(ONLY_A, a(), b()), &[A, DONE], MILLION, "rejected 0 0 1"),
+        (joint(ONLY_A, a(), b()), &[B, DONE], MILLION, "rejected 0 1 2"),
+        (joint(A_AND_B, a(), b()), &[B, DONE], MILLION, "rejected 0 0 1"),
+        (press(), &[A, C, B, DONE], MILLION, "accepted 0 4 5"),
+        (press(), &[C, A, B, DONE], MILLION, "accepted 0 4 5"),
+        (press(), &[A, B, C, DONE], MILLION, "rejected 0 1 2"),
+        (press(), &[A, C, B, B, DONE], MILLION, "rejected 0 3 4"),
+        // "by the left's order, then the right's"
+        (four_ways(), &[A, B, D, DONE], MILLION, "accepted 0 4 5"),
+        (four_ways(), &[A, B, 5, DONE], MILLION, "accepted 0 4 7"),
+        (four_ways(), &[A, C, D, DONE], MILLION, "accepted 0 4 7"),
+        (four_ways(), &[A, 5, C, DONE], MILLION, "accepted 0 4 9"),
+        (twice(), &[A, FAILED], 5, "rejected 0 1 5"),
+        (twice(), &[A, FAILED], 4, "undecided 0 0 4"),
+        (twice(), &[A, DONE], 3, "accepted 0 2 3"),
+        // "closings combine as now"
+        (joint(ONLY_A, seq(a(), throw()), seq(a(), yields())), &[A, FAILED], MILLION, "accepted 0 2 3"),
+        (joint(ONLY_A, seq(a(), throw()), seq(a(), yields())), &[A, WITHDRAWN], MILLION, "rejected 0 1 2"),
+        (joint(ONLY_A, seq(a(), yields()), a()), &[A, WITHDRAWN], MILLION, "accepted 0 2 3"),
+        // "for forward steps and for compensations"
+        (undone_apart(), &[A, B, C, DONE], MILLION, "accepted 0 4 5"),
+        (undone_apart(), &[A, C, B, DONE], MILLION, "accepted 0 4 5"),
+        (undone_together(), &[A, B, DONE], MILLION, "accepted 0 3 4"),
+        (undone_together(), &[A, B, B, DONE], MILLION, "rejected 0 2 3"),
+        (undone_never(), &[A, C, DONE], MILLION, "rejected 0 2 3"),
+        (undone_never(), &[A, B, DONE], MILLION, "rejected 0 1 2"),
+        (root(), &[A, DONE, B, DONE], MILLION, "accepted 0 4 5"),
+        (root(), &[A, DONE, B, B, DONE], MILLION, "rejected 0 3 4"),
+        (joint(A_AND_B, pair(a(), b()), pair(b(), a())), &[A, DONE, DONE], MILLION, "rejected 0 0 1"),
+        // what is not entered need not go on
+        (seq(throw(), waits()), &[FAILED], MILLION, "accepted 0 1 2"),
+        (block(pair(skip(), waits())), &[DONE], MILLION, "accepted 0 1 2"),
+        (undone(pair(skip(), waits())), &[DONE], MILLION, "rejected 0 0 1"),
+        (pair(a(), waits()), &[A, DONE, DONE], MILLION, "rejected 0 2 3"),
+        // "SKIP isn't its unit"
+        (waits(), &[A, DONE], MILLION, "rejected 0 0 1"),
+        (joint(ONLY_B, a(), skip()), &[A, DONE], MILLION, "accepted 0 2 3"),
+        // one set throughout, and two
+        (three(ONLY_A, ONLY_A), &[A, DONE], MILLION, "accepted 0 2 3"),
+        (three(ONLY_A, ONLY_B), &[A, A, DONE], MILLION, "accepted 0 3 4"),
+        (three(ONLY_B, ONLY_A), &[A, A, DONE], MILLION, "rejected 0 1 3"),
+        (parallel(together(), together()), &[A, A, DONE], MILLION, "accepted 0 3 4"),
+        (parallel(together(), together()), &[A, A, FAILED], 5, "rejected 0 2 5"),
     ];
     lines.map(hand_case).into()
 }

@@ -1,7 +1,7 @@
 //! Flows as trees that can be put together by hand, taken apart, shown, and written as node tables.
 
 use crate::rng::Rng;
-use crate::term::{kind, sort_of, Sort};
+use crate::term::{kind, set_number, sort_of, Sort};
 
 #[derive(Clone, PartialEq, Eq, Debug)]
 pub struct Drawing {
@@ -62,6 +62,11 @@ pub fn parallel(p: Drawing, q: Drawing) -> Drawing {
     of_sort(kind::PARALLEL, kind::COMP_PARALLEL, p, q)
 }
 
+/// Parallel with the set of this number.
+pub fn joint(set: u16, p: Drawing, q: Drawing) -> Drawing {
+    of_sort(kind::JOINT + set, kind::COMP_JOINT + set, p, q)
+}
+
 pub fn handler(p: Drawing, q: Drawing) -> Drawing {
     node(kind::HANDLER, vec![p, q])
 }
@@ -83,7 +88,7 @@ fn of_sort(standard: u16, compensable: u16, p: Drawing, q: Drawing) -> Drawing {
 }
 
 /// `copies` of a part joined by `join`, grouped to the left.
-pub fn tower(copies: usize, part: &Drawing, join: fn(Drawing, Drawing) -> Drawing) -> Drawing {
+pub fn tower(copies: usize, part: &Drawing, join: impl Fn(Drawing, Drawing) -> Drawing) -> Drawing {
     (1..copies).fold(part.clone(), |all, _| join(all, part.clone()))
 }
 
@@ -126,9 +131,12 @@ impl Drawing {
         whole
     }
 
-    /// As in document 01, with every part of two in brackets: `[((a÷b ; c÷d) ; THROWW)]`.
+    /// As in document 01, with every part of two in brackets: `[((a÷b ; c÷d) ; THROWW)]`; parallel with set 3 is `||3`.
     pub fn show(&self) -> String {
         let two = |sign: &str| format!("({}{sign}{})", self.parts[0].show(), self.parts[1].show());
+        if let Some(number) = set_number(self.kind) {
+            return two(&format!(" ||{number} "));
+        }
         match self.kind {
             kind::EVENT => show_event(self.event),
             kind::SKIP => "SKIP".into(),
@@ -200,7 +208,7 @@ impl Drawing {
 /// The children of node i of a table that is not refused.
 pub fn children(nodes: &[u16], i: usize) -> impl Iterator<Item = usize> + '_ {
     let count = match nodes[3 * i] {
-        5..=8 | 10..=13 => 2,
+        5..=8 | 10..=13 | 256..=271 | 512..=527 => 2,
         9 => 1,
         _ => 0,
     };

@@ -71,8 +71,9 @@ impl Outlook {
         o
     }
 
-    fn beside(self, other: Outlook) -> Outlook {
-        let mut o = Outlook { steps: self.steps || other.steps, ends: [false; 3] };
+    /// Two sides in parallel, by a record that they take together or not.
+    fn beside(self, joint: bool, other: Outlook) -> Outlook {
+        let mut o = Outlook { steps: either_or_both(joint, self.steps, other.steps), ends: [false; 3] };
         for x in CLOSINGS {
             for y in CLOSINGS {
                 o.ends[x.join(y) as usize] |= self.ends[x as usize] && other.ends[y as usize];
@@ -92,6 +93,15 @@ impl Outlook {
     fn of_index(i: u16) -> Outlook {
         let bit = |k: u16| i >> k & 1 == 1;
         Outlook { steps: bit(0), ends: [bit(1), bit(2), bit(3)] }
+    }
+}
+
+/// Whether two sides step, by a record that they take together or not.
+fn either_or_both(joint: bool, left: bool, right: bool) -> bool {
+    if joint {
+        left && right
+    } else {
+        left || right
     }
 }
 
@@ -149,7 +159,7 @@ fn outlook(p: &Std, asked: Asked) -> Outlook {
         Standard::Seq(p, q) => outlook(p, asked).then(Done, outlook(q, asked)),
         Standard::Handler(p, q) => outlook(p, asked).then(Failed, outlook(q, asked)),
         Standard::Choice(p, q) => outlook(p, asked).or(outlook(q, asked)),
-        Standard::Parallel(p, q) => outlook(p, asked).beside(outlook(q, asked)),
+        Standard::Parallel(set, p, q) => outlook(p, asked).beside(set.has(asked.record), outlook(q, asked)),
         Standard::Block(pp) => {
             let inside = prospect(pp, asked);
             let undone = inside.left_by(Failed).iter().fold(Outlook::NOTHING, Outlook::or);
@@ -220,12 +230,14 @@ fn prospect(pp: &Comp, asked: Asked) -> Prospect {
             (0..3).for_each(|by| both.left[by] = both.left[by].with(b.left[by]));
             both
         }
-        Compensable::Parallel(pp, qq) => {
+        Compensable::Parallel(set, pp, qq) => {
             let (a, b) = (prospect(pp, asked), prospect(qq, asked));
-            let mut both = Prospect { steps: a.steps || b.steps, left: [Outlooks::NONE; 3] };
+            let joint = set.has(asked.record);
+            let mut both =
+                Prospect { steps: either_or_both(joint, a.steps, b.steps), left: [Outlooks::NONE; 3] };
             for x in CLOSINGS {
                 for y in CLOSINGS {
-                    let more = a.left_by(x).product(b.left_by(y), Outlook::beside);
+                    let more = a.left_by(x).product(b.left_by(y), |p, q| p.beside(joint, q));
                     let by = x.join(y) as usize;
                     both.left[by] = both.left[by].with(more);
                 }
@@ -263,9 +275,16 @@ fn steps(p: &Std, asked: Asked, each: Each<Std>) -> Visit {
             steps(p, asked, each)?;
             steps(q, asked, each)
         }
-        Standard::Parallel(p, q) => {
-            steps(p, asked, &mut |p| each(parallel(p, q.clone())))?;
-            steps(q, asked, &mut |q| each(parallel(p.clone(), q)))
+        Standard::Parallel(set, p, q) if set.has(asked.record) => {
+            // None of the left's steps is one if the right has none.
+            if !outlook(q, asked).steps {
+                return Continue(());
+            }
+            steps(p, asked, &mut |p| steps(q, asked, &mut |q| each(parallel(*set, p.clone(), q))))
+        }
+        Standard::Parallel(set, p, q) => {
+            steps(p, asked, &mut |p| each(parallel(*set, p, q.clone())))?;
+            steps(q, asked, &mut |q| each(parallel(*set, p.clone(), q)))
         }
         Standard::Block(pp) => {
             comp_steps(pp, asked, &mut |pp| each(Rc::new(Standard::Block(pp))))?;
@@ -292,9 +311,17 @@ fn comp_steps(pp: &Comp, asked: Asked, each: Each<Comp>) -> Visit {
             comp_steps(pp, asked, each)?;
             comp_steps(qq, asked, each)
         }
-        Compensable::Parallel(pp, qq) => {
-            comp_steps(pp, asked, &mut |pp| each(Rc::new(Compensable::Parallel(pp, qq.clone()))))?;
-            comp_steps(qq, asked, &mut |qq| each(Rc::new(Compensable::Parallel(pp.clone(), qq))))
+        Compensable::Parallel(set, pp, qq) if set.has(asked.record) => {
+            if !prospect(qq, asked).steps {
+                return Continue(());
+            }
+            comp_steps(pp, asked, &mut |pp| {
+                comp_steps(qq, asked, &mut |qq| each(comp_parallel(*set, pp.clone(), qq)))
+            })
+        }
+        Compensable::Parallel(set, pp, qq) => {
+            comp_steps(pp, asked, &mut |pp| each(comp_parallel(*set, pp, qq.clone())))?;
+            comp_steps(qq, asked, &mut |qq| each(comp_parallel(*set, pp.clone(), qq)))
         }
         Compensable::Held(qq, r) => comp_steps(qq, asked, &mut |qq| each(held(qq, r.clone()))),
     }
@@ -350,10 +377,11 @@ fn compensations(
                 })
             })
         }
-        Compensable::Parallel(pp, qq) => {
+        Compensable::Parallel(set, pp, qq) => {
             let second = prospect(qq, asked);
+            let joint = set.has(asked.record);
             let completes =
-                |op: Outlook, y: Closing| second.left_by(y).filter(|oq| wanted.has(op.beside(oq)));
+                |op: Outlook, y: Closing| second.left_by(y).filter(|oq| wanted.has(op.beside(joint, oq)));
             for x in CLOSINGS {
                 let partners: Vec<Closing> = CLOSINGS.into_iter().filter(|&y| x.join(y) == by).collect();
                 let wanted_of_p =
@@ -361,7 +389,7 @@ fn compensations(
                 compensations(pp, x, asked, wanted_of_p, &mut |p, op| {
                     for &y in &partners {
                         compensations(qq, y, asked, completes(op, y), &mut |q, oq| {
-                            each(parallel(p.clone(), q), op.beside(oq))
+                            each(parallel(*set, p.clone(), q), op.beside(joint, oq))
                         })?;
                     }
                     Continue(())

@@ -32,37 +32,40 @@ impl fmt::Display for Answer {
     }
 }
 
-/// The judge of document 01. Deep flows want room on the stack: see `with_deep_stack`.
+/// The judge of document 01, lent no sets. Deep flows want room on the stack: see `with_deep_stack`.
 pub fn judge(nodes: &[u16], records: &[u16], work_len: usize, allowance: u32) -> Answer {
-    Lent { names: None, nodes, records, work_len, allowance }.judged()
+    Lent { names: None, nodes, records, sets: &[], work_len, allowance }.judged()
 }
 
 /// The same, lent a names section too: request Two of document 02.
 pub fn judge_named(names: &[u8], nodes: &[u16], records: &[u16], work_len: usize, allowance: u32) -> Answer {
-    Lent { names: Some(names), nodes, records, work_len, allowance }.judged()
+    Lent { names: Some(names), nodes, records, sets: &[], work_len, allowance }.judged()
 }
 
-/// What a judge is called with. Without names it is the judge of document 01, "unchanged".
+/// What a judge is called with. Without names and sets it is the judge of document 01.
 #[derive(Clone, Copy, Debug)]
 pub struct Lent<'a> {
     pub names: Option<&'a [u8]>,
     pub nodes: &'a [u16],
     pub records: &'a [u16],
+    /// Bytes, 32 to a set.
+    pub sets: &'a [u8],
     pub work_len: usize,
     pub allowance: u32,
 }
 
 impl<'a> Lent<'a> {
-    /// With just the work bytes that are wanted.
+    /// With just the work bytes that are wanted, and no sets.
     pub fn enough(names: Option<&'a [u8]>, nodes: &'a [u16], records: &'a [u16], allowance: u32) -> Lent<'a> {
-        Lent { names, nodes, records, work_len: work_wanted(nodes, records), allowance }
+        Lent { names, nodes, records, sets: &[], work_len: work_wanted(nodes, records), allowance }
     }
 
-    /// The refusal, 14 last, or who takes which record.
-    fn checked(&self) -> Result<Matching, Refusal> {
-        let matching = lent_matching(self.names, self.nodes, self.records, Records::Whole)?;
+    /// The refusal, 14 last, or who takes which record, and the flow.
+    fn checked(&self) -> Result<(Matching, State), Refusal> {
+        let (matching, sets) =
+            lent_matching(self.names, self.nodes, self.records, self.sets, Records::Whole)?;
         work_length(self.nodes, self.records, self.work_len)?;
-        Ok(matching)
+        Ok((matching, root(self.nodes, &sets)))
     }
 
     /// What the judge answers.
@@ -72,12 +75,12 @@ impl<'a> Lent<'a> {
 
     /// The same, but None where more states than `patience` would have to be entered to know.
     pub fn judged_within(&self, patience: u32) -> Option<Answer> {
-        let matching = match self.checked() {
-            Ok(matching) => matching,
+        let (matching, flow) = match self.checked() {
+            Ok(checked) => checked,
             Err(refusal) => return Some(Answer::Refused(refusal)),
         };
         let allowed = self.allowance.min(patience);
-        let found = Search::remembering(&matching, self.records, allowed).answer(&root(self.nodes));
+        let found = Search::remembering(&matching, self.records, allowed).answer(&flow);
         let undecided = Answer::Undecided { allowance: self.allowance };
         found.or(if self.allowance <= patience { Some(undecided) } else { None })
     }
@@ -103,18 +106,18 @@ impl<'a> Lent<'a> {
     fn judged_by(&self, successors: Successors) -> Answer {
         match self.checked() {
             Err(refusal) => Answer::Refused(refusal),
-            Ok(matching) => {
+            Ok((matching, flow)) => {
                 let mut search = Search::new(&matching, self.records, self.allowance, successors);
-                search.answer(&root(self.nodes)).unwrap_or(Answer::Undecided { allowance: self.allowance })
+                search.answer(&flow).unwrap_or(Answer::Undecided { allowance: self.allowance })
             }
         }
     }
 
     /// The effort of judging what is not refused, or of using up the allowance.
     pub fn effort(&self) -> Effort {
-        let matching = self.checked().expect("not refused");
+        let (matching, flow) = self.checked().expect("not refused");
         let mut search = Search::remembering(&matching, self.records, self.allowance);
-        match search.answer(&root(self.nodes)) {
+        match search.answer(&flow) {
             Some(_) => search.effort(),
             None => Effort { entered: self.allowance, ..search.effort() },
         }
@@ -122,10 +125,10 @@ impl<'a> Lent<'a> {
 
     /// The same, but None if the allowance is used up, or if more different states than these would be entered.
     pub fn effort_within(&self, most_different: usize) -> Option<Effort> {
-        let matching = self.checked().expect("not refused");
+        let (matching, flow) = self.checked().expect("not refused");
         let mut search = Search::remembering(&matching, self.records, self.allowance);
         search.most_different = most_different;
-        search.answer(&root(self.nodes)).map(|_| search.effort())
+        search.answer(&flow).map(|_| search.effort())
     }
 }
 

@@ -3,7 +3,7 @@
 use crate::drawing::{self, Drawing};
 use crate::random::{self, Taste};
 use crate::rng::Rng;
-use crate::term::{kind, Sort};
+use crate::term::{kind, set_number, sort_of, Sort};
 
 /// One side of a law. A letter that stands in both sides is the same part in both.
 #[derive(Clone, Debug)]
@@ -13,8 +13,14 @@ pub enum Pattern {
     /// The single event a.
     Event,
     Node(u16, Vec<Pattern>),
+    /// Parallel with the set X, which stands for any set, or with Y; both letters may stand for no set at all, kind 7 or 13.
+    Parallel(Sort, usize, Vec<Pattern>),
 }
-use Pattern::{Any, Event, Node};
+use Pattern::{Any, Event, Node, Parallel};
+
+/// The two letters for sets.
+const X: usize = 0;
+const Y: usize = 1;
 
 pub struct Law {
     pub name: String,
@@ -27,6 +33,24 @@ pub struct Law {
 struct Letters {
     parts: [[Option<Drawing>; 3]; 2],
     event: Option<u16>,
+    sets: [Option<SetLetter>; 2],
+}
+
+/// The number of a set, or that there is none.
+type SetLetter = Option<usize>;
+
+/// What a parallel of this sort has for its set; None if the kind is no such parallel.
+fn set_letter(kind: u16, sort: Sort) -> Option<SetLetter> {
+    let is_parallel = set_number(kind).is_some() || matches!(kind, kind::PARALLEL | kind::COMP_PARALLEL);
+    Some(set_number(kind)).filter(|_| is_parallel && sort_of(kind) == sort)
+}
+
+fn parallel_kind(set: SetLetter, sort: Sort) -> u16 {
+    let (plain, first_joint) = match sort {
+        Sort::Standard => (kind::PARALLEL, kind::JOINT),
+        Sort::Compensable => (kind::COMP_PARALLEL, kind::COMP_JOINT),
+    };
+    set.map_or(plain, |number| first_joint + number as u16)
 }
 
 impl Pattern {
@@ -34,7 +58,8 @@ impl Pattern {
         match self {
             Any(sort, _) => *sort,
             Event => Sort::Standard,
-            Node(kind, _) => crate::term::sort_of(*kind),
+            Node(kind, _) => sort_of(*kind),
+            Parallel(sort, _, _) => *sort,
         }
     }
 
@@ -45,8 +70,10 @@ impl Pattern {
                 part.sort() == *sort && letter.get_or_insert_with(|| part.clone()) == part
             }
             Event => part.kind == kind::EVENT && *letters.event.get_or_insert(part.event) == part.event,
-            Node(kind, inside) => {
-                part.kind == *kind && inside.iter().zip(&part.parts).all(|(p, part)| p.fits(part, letters))
+            Node(kind, inside) => part.kind == *kind && all_fit(inside, part, letters),
+            Parallel(sort, letter, inside) => {
+                let Some(set) = set_letter(part.kind, *sort) else { return false };
+                *letters.sets[*letter].get_or_insert(set) == set && all_fit(inside, part, letters)
             }
         }
     }
@@ -59,11 +86,21 @@ impl Pattern {
                 letter.get_or_insert_with(|| fresh.part(*sort)).clone()
             }
             Event => drawing::event(*letters.event.get_or_insert_with(|| fresh.event())),
-            Node(kind, inside) => {
-                drawing::node(*kind, inside.iter().map(|p| p.draw(letters, fresh)).collect())
+            Node(kind, inside) => drawing::node(*kind, draw_all(inside, letters, fresh)),
+            Parallel(sort, letter, inside) => {
+                let set = *letters.sets[*letter].get_or_insert_with(|| fresh.set());
+                drawing::node(parallel_kind(set, *sort), draw_all(inside, letters, fresh))
             }
         }
     }
+}
+
+fn all_fit(inside: &[Pattern], part: &Drawing, letters: &mut Letters) -> bool {
+    inside.iter().zip(&part.parts).all(|(p, part)| p.fits(part, letters))
+}
+
+fn draw_all(inside: &[Pattern], letters: &mut Letters, fresh: &mut Fresh) -> Vec<Drawing> {
+    inside.iter().map(|p| p.draw(letters, fresh)).collect()
 }
 
 /// Where new parts come from.
@@ -72,12 +109,18 @@ pub struct Fresh<'a> {
     pub taste: &'a Taste,
     pub room: usize,
     pub events: usize,
+    pub sets: usize,
 }
 
 impl Fresh<'_> {
     fn part(&mut self, sort: Sort) -> Drawing {
         let room = self.rng.between(1, self.room);
-        random::drawing(self.rng, self.taste, sort, room, self.events)
+        let part = random::drawing(self.rng, self.taste, sort, room, self.events);
+        random::joined(self.rng, &part, self.sets)
+    }
+
+    fn set(&mut self) -> SetLetter {
+        (0..self.sets).nth(self.rng.below(self.sets + 1))
     }
 
     fn event(&mut self) -> u16 {
@@ -168,7 +211,10 @@ fn both_sorts(sort: Sort, all: &mut Vec<Law>) {
     let [p, q, r] = [0, 1, 2].map(|i| Any(sort, i));
     let seq = |p: &Pattern, q: &Pattern| Node(kinds[0], vec![p.clone(), q.clone()]);
     let choice = |p: &Pattern, q: &Pattern| Node(kinds[1], vec![p.clone(), q.clone()]);
-    let parallel = |p: &Pattern, q: &Pattern| Node(kinds[2], vec![p.clone(), q.clone()]);
+    // "The new form's symmetry, and its associativity with one set throughout"; a choice at a side is taken before it steps
+    let parallel = |p: &Pattern, q: &Pattern| Parallel(sort, X, vec![p.clone(), q.clone()]);
+    // "SKIP isn't its unit"
+    let plain_parallel = |p: &Pattern, q: &Pattern| Node(kinds[2], vec![p.clone(), q.clone()]);
     let (skip, throw) = (Node(kinds[3], vec![]), Node(kinds[4], vec![]));
     let mut law = |name: &str, left: Pattern, right: Pattern| {
         all.push(Law { name: format!("{sort:?}: {name}"), left, right })
@@ -182,8 +228,8 @@ fn both_sorts(sort: Sort, all: &mut Vec<Law>) {
     law("P choice P = P", choice(&p, &p), p.clone());
     law("parallel commutative", parallel(&p, &q), parallel(&q, &p));
     law("parallel associative", parallel(&parallel(&p, &q), &r), parallel(&p, &parallel(&q, &r)));
-    law("SKIP parallel P = P", parallel(&skip, &p), p.clone());
-    law("P parallel SKIP = P", parallel(&p, &skip), p.clone());
+    law("SKIP parallel P = P", plain_parallel(&skip, &p), p.clone());
+    law("P parallel SKIP = P", plain_parallel(&p, &skip), p.clone());
     law("(P choice Q);R", seq(&choice(&p, &q), &r), choice(&seq(&p, &r), &seq(&q, &r)));
     law("P;(Q choice R)", seq(&p, &choice(&q, &r)), choice(&seq(&p, &q), &seq(&p, &r)));
     law(
@@ -231,6 +277,23 @@ pub fn errors_that_look_right() -> Vec<Law> {
         node(kind::COMP_PARALLEL, &[&pp, &throww]),
         node(kind::COMP_SEQ, &[&pp, &throww]),
     );
+    for (sort, skip) in [(Sort::Standard, kind::SKIP), (Sort::Compensable, kind::SKIPP)] {
+        let [p, q, r] = [0, 1, 2].map(|i| Any(sort, i));
+        let beside = |set: usize, p: &Pattern, q: &Pattern| Parallel(sort, set, vec![p.clone(), q.clone()]);
+        let skip = Node(skip, vec![]);
+        law(&format!("{sort:?}: SKIP parallel with X P = P"), beside(X, &skip, &p), p.clone());
+        law(&format!("{sort:?}: P parallel with X SKIP = P"), beside(X, &p, &skip), p.clone());
+        law(
+            &format!("{sort:?}: parallel with X and Y associative"),
+            beside(Y, &beside(X, &p, &q), &r),
+            beside(X, &p, &beside(Y, &q, &r)),
+        );
+        law(
+            &format!("{sort:?}: P parallel with X Q = P parallel with Y Q"),
+            beside(X, &p, &q),
+            beside(Y, &p, &q),
+        );
+    }
     law("YIELDD;PP = PP", node(kind::COMP_SEQ, &[&yieldd, &pp]), pp.clone());
     law("PP;QQ = PP parallel QQ", node(kind::COMP_SEQ, &[&pp, &qq]), node(kind::COMP_PARALLEL, &[&pp, &qq]));
     all

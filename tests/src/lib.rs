@@ -2,13 +2,15 @@
 //! what may come next against. It is written from the documents and the decisions on their open points, and shares no code with them.
 //!
 //! What is here, from the bottom up:
-//! - `term`: terms, closings, states; `refusals`: the checks 1 to 14; `matching`: which records a node takes.
+//! - `sets`: sets of joint events; `term`: terms, closings, states; `refusals`: the checks 1 to 14, 22 and 23; `matching`: which records
+//!   a node takes.
 //! - `rules`: the rules as plain lists, sentence by sentence; `guided`: the same successors one at a time.
 //! - `reader`: the flow file; `writer`: the flow file written; `judge`: the counted search and the answer, with names and without;
 //!   `next`: what may come next, by a search of its own; `program`: a flow file judged with its names.
-//! - `traces`: the published trace semantics as explicit sets; `laws`: the laws of demand 3.
-//! - `selfcheck`: `judge` and `next` against `traces` and against each other, `guided` against `rules`, with and without a memory, the
-//!   laws against `judge` and `next`.
+//! - `printed`: the published trace semantics as explicit sets; `traces`: the same for flows that may get stuck; `laws`: the laws of
+//!   demand 3.
+//! - `selfcheck`: `judge` and `next` against `traces` and against each other, `traces` against `printed`, `guided` against `rules`, with
+//!   and without a memory, the laws against `judge` and `next`.
 //! - `cases`: cases for `replay`; `compare`: its lines against ours; `samples`, `measured`: flow files to try and to measure.
 //! - `drawing`, `random`, `flowfile`, `rng`: flows, records and files, by hand and at random.
 
@@ -23,6 +25,7 @@ pub mod laws;
 pub mod matching;
 pub mod measured;
 pub mod next;
+pub mod printed;
 pub mod program;
 pub mod random;
 pub mod reader;
@@ -31,6 +34,7 @@ pub mod rng;
 pub mod rules;
 pub mod samples;
 pub mod selfcheck;
+pub mod sets;
 pub mod term;
 pub mod traces;
 pub mod writer;

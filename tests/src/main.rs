@@ -59,8 +59,8 @@ fn bench(file: &str, allowance: u32) -> Result<String, String> {
     const MOST_TIMED: u32 = 20_000_000;
     let bytes = std::fs::read(file).map_err(|e| format!("{file}: {e}\n"))?;
     let flow = oracle::reader::read(&bytes).map_err(|r| format!("{file}: refused {}\n", r.number))?;
-    let names = flow.names_section();
-    let lent = Lent::enough(Some(&names), &flow.nodes, &flow.records, allowance);
+    let (names, sets) = (flow.names_section(), flow.lent_sets());
+    let lent = Lent { sets: &sets, ..Lent::enough(Some(&names), &flow.nodes, &flow.records, allowance) };
     let effort = lent.effort();
     let (count, differ) = (effort.entered, effort.different);
     let said = format!("{file}: {count} states, {differ} differ");
@@ -104,6 +104,7 @@ fn selfcheck(flows: u64, seed: u64) -> Result<String, String> {
         show("with and without a memory", remembering_against_plain(flows, seed)?),
         show("leaves without a machine and choices", machineless_against_choices(flows, seed)?),
         show("names that change nothing", names_that_change_nothing(flows, seed)?),
+        show("sets that change nothing", sets_that_change_nothing(flows, seed)?),
         show("single exchanges by each law", single_exchanges(&laws, judged_alike, each, seed)?),
         show("chains of exchanges", chains_of_exchanges(&laws, judged_alike, flows, seed)?),
         show("lists after single exchanges", single_exchanges(&laws, listed_alike, each, seed)?),

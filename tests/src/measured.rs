@@ -103,14 +103,14 @@ fn on_machines(file: FlowFile) -> FlowFile {
     nodes.chunks_mut(3).filter(|node| node[0] == kind::EVENT).for_each(|node| node[1] = on(node[1], 0));
     let recorded = |(r, turn): (u16, u16)| if is_event(r) { on(r, 1 + turn % 3) } else { r };
     let records = file.records.into_iter().zip(0..).map(recorded).collect();
-    FlowFile { names: (1..=10).flat_map(named).collect(), nodes, records }
+    FlowFile::plain((1..=10).flat_map(named).collect(), nodes, records)
 }
 
 // ---- their files ----
 
 fn file(flow: &Drawing, records: &[u16]) -> FlowFile {
     let nodes = flow.table();
-    FlowFile { names: plain_names(&nodes, records), nodes, records: records.to_vec() }
+    FlowFile::plain(plain_names(&nodes, records), nodes, records.to_vec())
 }
 
 /// A name for every event, each a step of its own.

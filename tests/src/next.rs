@@ -43,9 +43,9 @@ impl fmt::Display for Next {
     }
 }
 
-/// The list after a beginning, lent a table of so many numbers and so many work bytes.
+/// The list after a beginning, lent no sets, a table of so many numbers and so many work bytes.
 pub fn next(nodes: &[u16], records: &[u16], list_room: usize, work_len: usize, allowance: u32) -> Next {
-    Beginning { names: None, nodes, records, list_room, work_len, allowance }.listed()
+    Beginning { names: None, nodes, records, sets: &[], list_room, work_len, allowance }.listed()
 }
 
 /// The same, lent a names section too: "as in Two".
@@ -57,7 +57,7 @@ pub fn next_named(
     work_len: usize,
     allowance: u32,
 ) -> Next {
-    Beginning { names: Some(names), nodes, records, list_room, work_len, allowance }.listed()
+    Beginning { names: Some(names), nodes, records, sets: &[], list_room, work_len, allowance }.listed()
 }
 
 /// A flow and a beginning of a record list, and what else is lent.
@@ -66,13 +66,15 @@ pub struct Beginning<'a> {
     pub names: Option<&'a [u8]>,
     pub nodes: &'a [u16],
     pub records: &'a [u16],
+    /// Bytes, 32 to a set.
+    pub sets: &'a [u8],
     pub list_room: usize,
     pub work_len: usize,
     pub allowance: u32,
 }
 
 impl<'a> Beginning<'a> {
-    /// With just the table and the work bytes that are wanted.
+    /// With just the table and the work bytes that are wanted, and no sets.
     pub fn enough(
         names: Option<&'a [u8]>,
         nodes: &'a [u16],
@@ -80,17 +82,18 @@ impl<'a> Beginning<'a> {
         allowance: u32,
     ) -> Beginning<'a> {
         let work_len = work_wanted(nodes, records);
-        Beginning { names, nodes, records, list_room: LIST_ROOM, work_len, allowance }
+        Beginning { names, nodes, records, sets: &[], list_room: LIST_ROOM, work_len, allowance }
     }
 
-    /// The refusal, or who takes which record. 14 comes last, for the table as for the work bytes.
-    fn checked(&self) -> Result<Matching, Refusal> {
-        let matching = lent_matching(self.names, self.nodes, self.records, Records::Beginning)?;
+    /// The refusal, or who takes which record, and the flow. 14 comes last, for the table as for the work bytes.
+    fn checked(&self) -> Result<(Matching, State), Refusal> {
+        let (matching, sets) =
+            lent_matching(self.names, self.nodes, self.records, self.sets, Records::Beginning)?;
         if self.list_room < LIST_ROOM {
             return refuse(14, 0);
         }
         work_length(self.nodes, self.records, self.work_len)?;
-        Ok(matching)
+        Ok((matching, root(self.nodes, &sets)))
     }
 
     pub fn listed(&self) -> Next {
@@ -99,11 +102,11 @@ impl<'a> Beginning<'a> {
 
     /// The same, but None where more states than `patience` would have to be entered to know.
     pub fn listed_within(&self, patience: u32) -> Option<Next> {
-        let matching = match self.checked() {
-            Ok(matching) => matching,
+        let (matching, flow) = match self.checked() {
+            Ok(checked) => checked,
             Err(refusal) => return Some(Next::Refused(refusal)),
         };
-        match reached(self.nodes, &matching, self.records, self.allowance.min(patience), usize::MAX) {
+        match reached(flow, &matching, self.records, self.allowance.min(patience), usize::MAX) {
             Some(reached) => Some(reached.listed(self.nodes, &matching)),
             None if self.allowance <= patience => Some(Next::Undecided { allowance: self.allowance }),
             None => None,
@@ -115,9 +118,9 @@ impl<'a> Beginning<'a> {
     pub fn listed_by_lists(&self) -> Next {
         match self.checked() {
             Err(refusal) => Next::Refused(refusal),
-            Ok(matching) => {
+            Ok((matching, flow)) => {
                 let mut walk = Walk { matching, allowed: self.allowance, count: 0, numbers: BTreeSet::new() };
-                match walk.enter(&root(self.nodes), self.records) {
+                match walk.enter(&flow, self.records) {
                     Break(()) => Next::Undecided { allowance: self.allowance },
                     Continue(()) => {
                         Next::Listed { numbers: walk.numbers.into_iter().collect(), count: walk.count }
@@ -130,8 +133,8 @@ impl<'a> Beginning<'a> {
     /// How many states the search of what is not refused enters, and how many of them differ. None if there are more than allowed, or
     /// more different ones than these.
     pub fn effort_within(&self, most_different: usize) -> Option<Effort> {
-        let matching = self.checked().expect("not refused");
-        let reached = reached(self.nodes, &matching, self.records, self.allowance, most_different)?;
+        let (matching, flow) = self.checked().expect("not refused");
+        let reached = reached(flow, &matching, self.records, self.allowance, most_different)?;
         Some(Effort { entered: reached.entered, different: reached.different })
     }
 }
@@ -146,14 +149,14 @@ struct Reached {
 
 /// "All runs of the beginning are searched, the count is of states entered in it, root included." None if that is above what is allowed.
 fn reached(
-    nodes: &[u16],
+    flow: State,
     matching: &Matching,
     records: &[u16],
     allowed: u32,
     most_different: usize,
 ) -> Option<Reached> {
     let allowed = allowed as u64;
-    let mut ways: HashMap<State, u64> = HashMap::from([(root(nodes), 1)]);
+    let mut ways: HashMap<State, u64> = HashMap::from([(flow, 1)]);
     let (mut entered, mut different) = (1, 1);
     if entered > allowed || different > most_different {
         return None;

@@ -1,9 +1,9 @@
-//! The program: a flow file is read, and judged with its names.
+//! The program: a flow file is read, and judged with its names and its sets.
 
 use crate::judge::{Answer, Lent};
 use crate::reader::read;
 
-pub const PROGRAM_READS: usize = 21_895;
+pub const PROGRAM_READS: usize = 22_409;
 pub const PROGRAM_ALLOWS: u32 = 1_000_000;
 
 /// The answer that the program prints for this input.
@@ -17,8 +17,9 @@ pub fn program_within(patience: u32, input: &[u8]) -> Option<Answer> {
     match read(bytes) {
         Err(refusal) => Some(Answer::Refused(refusal)),
         Ok(file) => {
-            let names = file.names_section();
-            Lent::enough(Some(&names), &file.nodes, &file.records, PROGRAM_ALLOWS).judged_within(patience)
+            let (names, sets) = (file.names_section(), file.lent_sets());
+            let lent = Lent::enough(Some(&names), &file.nodes, &file.records, PROGRAM_ALLOWS);
+            Lent { sets: &sets, ..lent }.judged_within(patience)
         }
     }
 }

@@ -4,7 +4,8 @@ use crate::drawing::{self, Drawing};
 use crate::guided;
 use crate::matching::Matching;
 use crate::rng::Rng;
-use crate::term::{is_event, kind, Sort, State, CLOSING_RECORDS};
+use crate::sets::EventSet;
+use crate::term::{is_event, kind, Sort, State, CLOSING_RECORDS, MOST_EVENT};
 use std::ops::ControlFlow::{Break, Continue};
 
 /// Which kinds a flow is made of; a kind that stands twice is taken twice as often.
@@ -113,6 +114,34 @@ pub fn undone_drawing(rng: &mut Rng, taste: &Taste, room: usize, events: usize) 
     })
 }
 
+/// The flow with most of its parallels joint, each with one of so many sets.
+pub fn joined(rng: &mut Rng, flow: &Drawing, sets: usize) -> Drawing {
+    let parts = flow.parts.iter().map(|part| joined(rng, part, sets)).collect();
+    let kind = match flow.kind {
+        kind::PARALLEL if !rng.once_in(4) => kind::JOINT + rng.below(sets) as u16,
+        kind::COMP_PARALLEL if !rng.once_in(4) => kind::COMP_JOINT + rng.below(sets) as u16,
+        other => other,
+    };
+    Drawing { kind, event: flow.event, parts }
+}
+
+/// So many sets of events 1 to `events`: none of them, one, some or all; and now and then others, which no flow has.
+pub fn sets(rng: &mut Rng, count: usize, events: usize) -> Vec<EventSet> {
+    let one = |_| {
+        let mut all: Vec<u16> = match rng.below(6) {
+            0 => vec![],
+            1 | 2 => vec![any_event(rng, events)],
+            3 => (1..=events as u16).collect(),
+            _ => (1..=events as u16).filter(|_| rng.once_in(2)).collect(),
+        };
+        if rng.once_in(4) {
+            all.push(rng.between(events, MOST_EVENT as usize) as u16);
+        }
+        EventSet::of(&all)
+    };
+    (0..count).map(one).collect()
+}
+
 pub fn sort(rng: &mut Rng) -> Sort {
     if rng.once_in(3) {
         Sort::Compensable
@@ -125,8 +154,26 @@ fn any_event(rng: &mut Rng, events: usize) -> u16 {
     rng.between(1, events) as u16
 }
 
-/// The records of a random complete run, by preference a long one, of events 1 to `events`, among which are all of the flow's.
+/// The records of a random complete run, by preference a long one, of events 1 to `events`, among which are all of the flow's. If a few
+/// tries get stuck, then of a run that does, and the closings that the root still needs.
 pub fn run(rng: &mut Rng, root: &State, matching: &Matching, events: usize) -> Vec<u16> {
+    const TRIES: usize = 4;
+    let mut stuck = vec![];
+    for _ in 0..TRIES {
+        let (mut records, state) = run_until_stuck(rng, root, matching, events);
+        let missing = match state {
+            State::NothingLeft => return records,
+            State::Standard(_) => 1,
+            State::Compensable(_) => 2,
+        };
+        records.extend((0..missing).map(|_| *rng.pick(&CLOSING_RECORDS)));
+        stuck = records;
+    }
+    stuck
+}
+
+/// As far as it gets: nothing is left, or it is stuck.
+fn run_until_stuck(rng: &mut Rng, root: &State, matching: &Matching, events: usize) -> (Vec<u16>, State) {
     let mut records = vec![];
     let mut state = root.clone();
     while state != State::NothingLeft {
@@ -137,11 +184,14 @@ pub fn run(rng: &mut Rng, root: &State, matching: &Matching, events: usize) -> V
         if next.is_empty() || rng.once_in(6) {
             next.extend(can(&mut CLOSING_RECORDS.into_iter()));
         }
+        if next.is_empty() {
+            break;
+        }
         let record = *rng.pick(&next);
         state = any_successor(rng, &state, matching, record);
         records.push(record);
     }
-    records
+    (records, state)
 }
 
 /// One of the first forty successors; there is one.

@@ -3,9 +3,10 @@
 use crate::flowfile::{Entry, FlowFile};
 use crate::matching::{same_entry, Matching};
 use crate::refusals::{
-    node_count, node_table, plain_lists, record_count, record_list, refuse, Check, Records, Refusal,
-    MOST_NODES, MOST_RECORDS,
+    lent_sets, node_count, node_table, plain_lists, record_count, record_list, refuse, Check, Records,
+    Refusal, MOST_NODES, MOST_RECORDS,
 };
+use crate::sets::{sets_of, EventSet, MOST_SETS, SET_BYTES};
 use crate::term::{is_event, kind};
 
 pub const MOST_NAMES: usize = 256;
@@ -28,11 +29,18 @@ pub fn read(bytes: &[u8]) -> Result<FlowFile, Refusal> {
     let names = read_names(&mut cursor)?;
     let nodes = read_numbers(&mut cursor, 3, MOST_NODES, [1, 3])?;
     let records = read_numbers(&mut cursor, 1, MOST_RECORDS, [10, 11])?;
+    let sets = read_sets(&mut cursor)?;
     cursor.is_at_the_end()?;
-    node_table(&nodes)?;
+    node_table(&nodes, sets.len())?;
     record_list(&nodes, &records, Records::Whole)?;
     events_have_names(&nodes, &records, names.len())?;
-    Ok(FlowFile { names, nodes, records })
+    Ok(FlowFile { names, nodes, records, sets })
+}
+
+/// Where the sets of a file that was read begin, as the reader's answer gives it; without sets it is the file's length. Nothing stands
+/// behind the last set.
+pub fn sets_offset(bytes: &[u8], read: &FlowFile) -> usize {
+    bytes.len() - SET_BYTES * read.sets.len()
 }
 
 struct Cursor<'a> {
@@ -76,33 +84,37 @@ impl<'a> Cursor<'a> {
     }
 }
 
-/// A names section, nodes and records that are lent one by one: "the reader's own numbers and in its order", but "2 stands between 1 and
-/// 3; 1, 2, 3, 10 and 11 have place 0" (request One). The entries, if all is well.
+/// A names section, nodes, records and sets that are lent one by one: "the reader's own numbers and in its order", but "2 stands between 1
+/// and 3; 1, 2, 3, 10 and 11 have place 0" (request One). The entries and the sets, if all is well.
 pub fn lent_lists(
     names: &[u8],
     nodes: &[u16],
     records: &[u16],
+    sets: &[u8],
     which: Records,
-) -> Result<Vec<Entry>, Refusal> {
+) -> Result<(Vec<Entry>, Vec<EventSet>), Refusal> {
     let entries = names_section(names)?;
     node_count(nodes)?;
     record_count(records, which)?;
-    node_table(nodes)?;
+    let sets = lent_sets(sets)?;
+    node_table(nodes, sets.len())?;
     record_list(nodes, records, which)?;
     events_have_names(nodes, records, entries.len())?;
-    Ok(entries)
+    Ok((entries, sets))
 }
 
-/// The same where names may be lent or not, as to a judge: the refusal, 14 left out, or who takes which record.
+/// The same where names may be lent or not, as to a judge: the refusal, 14 left out, or who takes which record, and the sets.
 pub fn lent_matching(
     names: Option<&[u8]>,
     nodes: &[u16],
     records: &[u16],
+    sets: &[u8],
     which: Records,
-) -> Result<Matching, Refusal> {
+) -> Result<(Matching, Vec<EventSet>), Refusal> {
     match names {
-        None => plain_lists(nodes, records, which).map(|()| Matching::ByNumber),
-        Some(names) => lent_lists(names, nodes, records, which).map(Matching::ByName),
+        None => plain_lists(nodes, records, sets, which).map(|sets| (Matching::ByNumber, sets)),
+        Some(names) => lent_lists(names, nodes, records, sets, which)
+            .map(|(entries, sets)| (Matching::ByName(entries), sets)),
     }
 }
 
@@ -150,6 +162,20 @@ fn read_numbers(
         return refuse(refusals[1], place);
     }
     (0..each * count).map(|_| cursor.number()).collect()
+}
+
+/// "A file may end after its records; then it has no sets." Else a count, and 23 at its place if it is "0 or above 16"; a set is one item.
+fn read_sets(cursor: &mut Cursor) -> Result<Vec<EventSet>, Refusal> {
+    if cursor.at == cursor.bytes.len() {
+        return Ok(vec![]);
+    }
+    let place = cursor.at;
+    let count = cursor.number()? as usize;
+    if count == 0 || count > MOST_SETS {
+        return refuse(23, place);
+    }
+    let sets: Result<Vec<&[u8]>, Refusal> = (0..count).map(|_| cursor.item(SET_BYTES)).collect();
+    Ok(sets_of(&sets?.concat()))
 }
 
 /// 19, then 20.

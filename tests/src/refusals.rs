@@ -1,7 +1,9 @@
-//! The refusals of the judge, 1 to 14, in the order of document 01, and what is else where a beginning of a record list is lent. Those of
-//! flow files, 15 to 21, are in reader.rs; the reader, the writer and all that is lent names call the checks from here in between.
+//! The refusals of the judge, 1 to 14, 22 and 23, in the order of document 01 and request Four, and what is else where a beginning of a
+//! record list is lent. Those of flow files, 15 to 21, are in reader.rs; the reader, the writer and all that is lent names call the checks
+//! from here in between.
 
-use crate::term::{is_event, kind, sort_of, Closing, Sort};
+use crate::sets::{sets_of, EventSet, MOST_SETS, SET_BYTES};
+use crate::term::{is_event, kind, set_number, sort_of, Closing, Sort};
 
 #[derive(Clone, Copy, PartialEq, Eq, Debug)]
 pub struct Refusal {
@@ -31,12 +33,20 @@ pub enum Records {
     Beginning,
 }
 
-/// "Judging checks 1 to 3; then nodes from 0 up, each in the order 4 to 8; then 9 to 14", here without 14.
-pub fn plain_lists(nodes: &[u16], records: &[u16], which: Records) -> Check {
+/// "Judging checks 1 to 3; then nodes from 0 up, each in the order 4 to 8; then 9 to 14", here without 14; 23 stands "just before the
+/// nodes". The sets, if all is well.
+pub fn plain_lists(
+    nodes: &[u16],
+    records: &[u16],
+    sets: &[u8],
+    which: Records,
+) -> Result<Vec<EventSet>, Refusal> {
     node_count(nodes)?;
-    node_table(nodes)?;
+    let sets = lent_sets(sets)?;
+    node_table(nodes, sets.len())?;
     record_count(records, which)?;
-    record_list(nodes, records, which)
+    record_list(nodes, records, which)?;
+    Ok(sets)
 }
 
 /// 14 for the work bytes.
@@ -60,12 +70,20 @@ pub fn node_count(nodes: &[u16]) -> Check {
     }
 }
 
-/// 4 to 8 for each node, then 9. The table has one node at least and a length that is a multiple of 3.
-pub fn node_table(nodes: &[u16]) -> Check {
+/// 23: "lent sets of a length no multiple of 32 or above 512, place 0". No bytes are no sets.
+pub fn lent_sets(bytes: &[u8]) -> Result<Vec<EventSet>, Refusal> {
+    if !bytes.len().is_multiple_of(SET_BYTES) || bytes.len() > MOST_SETS * SET_BYTES {
+        return refuse(23, 0);
+    }
+    Ok(sets_of(bytes))
+}
+
+/// 4, 22 and 5 to 8 for each node, then 9. The table has one node at least and a length that is a multiple of 3; so many sets are present.
+pub fn node_table(nodes: &[u16], sets: usize) -> Check {
     let count = nodes.len() / 3;
     let mut taken = vec![false; count];
     for i in 0..count {
-        one_node(nodes, i, &mut taken)?;
+        one_node(nodes, i, sets, &mut taken)?;
     }
     match taken[..count - 1].iter().position(|t| !t) {
         Some(i) => refuse(9, i),
@@ -73,12 +91,16 @@ pub fn node_table(nodes: &[u16]) -> Check {
     }
 }
 
-/// 4 to 8 for node i; `taken` says which nodes are children of lower ones, and gains node i's children.
-fn one_node(nodes: &[u16], i: usize, taken: &mut [bool]) -> Check {
+/// The same for node i; `taken` says which nodes are children of lower ones, and gains node i's children.
+fn one_node(nodes: &[u16], i: usize, sets: usize, taken: &mut [bool]) -> Check {
     let (kind, first, second) = (nodes[3 * i], nodes[3 * i + 1], nodes[3 * i + 2]);
     let Some((children, wanted)) = children_of(kind, first, second) else {
         return refuse(4, i);
     };
+    // "22, kind with a set number not present, right after 4"
+    if set_number(kind).is_some_and(|number| number >= sets) {
+        return refuse(22, i);
+    }
     let fields_fit = match kind {
         kind::EVENT => is_event(first) && second == 0,
         kind::BLOCK => second == 0,
@@ -108,9 +130,9 @@ fn children_of(kind: u16, first: u16, second: u16) -> Option<(Vec<usize>, Sort)>
     let (first, second) = (first as usize, second as usize);
     match kind {
         1..=4 | 14..=16 => Some((vec![], Sort::Standard)),
-        5..=8 | 10 => Some((vec![first, second], Sort::Standard)),
+        5..=8 | 10 | 256..=271 => Some((vec![first, second], Sort::Standard)),
         9 => Some((vec![first], Sort::Compensable)),
-        11..=13 => Some((vec![first, second], Sort::Compensable)),
+        11..=13 | 512..=527 => Some((vec![first, second], Sort::Compensable)),
         _ => None,
     }
 }

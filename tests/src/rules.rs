@@ -27,11 +27,9 @@ pub fn steps(p: &Std, asked: Asked) -> Vec<Std> {
             all.extend(steps(q, asked));
             all
         }
-        // "Parallel steps by either side"
-        Standard::Parallel(p, q) => {
-            let mut all: Vec<Std> = steps(p, asked).into_iter().map(|p| parallel(p, q.clone())).collect();
-            all.extend(steps(q, asked).into_iter().map(|q| parallel(p.clone(), q)));
-            all
+        Standard::Parallel(set, p, q) => {
+            let steps = [steps(p, asked), steps(q, asked)];
+            beside(set.has(asked.record), [p, q], steps, |p, q| parallel(*set, p, q))
         }
         // "P▷Q steps by P, or by Q where P can end !"
         Standard::Handler(p, q) => {
@@ -52,6 +50,19 @@ pub fn steps(p: &Std, asked: Asked) -> Vec<Std> {
     }
 }
 
+/// The steps of two parallel sides of either sort, made from those of each. "Parallel steps by either side", but "an event in the set is
+/// one step of both sides (by the left's order, then the right's)".
+fn beside<T: Clone>(joint: bool, sides: [&T; 2], steps: [Vec<T>; 2], parallel: impl Fn(T, T) -> T) -> Vec<T> {
+    let ([p, q], [ps, qs]) = (sides, steps);
+    if joint {
+        ps.iter().flat_map(|p| qs.iter().map(|q| parallel(p.clone(), q.clone()))).collect()
+    } else {
+        let left = ps.into_iter().map(|p| parallel(p, q.clone()));
+        let right = qs.into_iter().map(|q| parallel(p.clone(), q));
+        left.chain(right).collect()
+    }
+}
+
 /// Can a standard term end so?
 pub fn ends(p: &Std, by: Closing) -> bool {
     match &**p {
@@ -67,7 +78,7 @@ pub fn ends(p: &Std, by: Closing) -> bool {
         // "Choice ends as either side does"
         Standard::Choice(p, q) => ends(p, by) || ends(q, by),
         // "Two parallel sides end together"
-        Standard::Parallel(p, q) => {
+        Standard::Parallel(_, p, q) => {
             CLOSINGS.iter().any(|&x| ends(p, x) && CLOSINGS.iter().any(|&y| x.join(y) == by && ends(q, y)))
         }
         // "[PP] ends ✓ where PP can, and as the compensation does where PP ends !"
@@ -101,12 +112,9 @@ pub fn comp_steps(pp: &Comp, asked: Asked) -> Vec<Comp> {
             all.extend(comp_steps(qq, asked));
             all
         }
-        Compensable::Parallel(pp, qq) => {
-            let left = comp_steps(pp, asked).into_iter();
-            let mut all: Vec<Comp> = left.map(|pp| Rc::new(Compensable::Parallel(pp, qq.clone()))).collect();
-            let right = comp_steps(qq, asked).into_iter();
-            all.extend(right.map(|qq| Rc::new(Compensable::Parallel(pp.clone(), qq))));
-            all
+        Compensable::Parallel(set, pp, qq) => {
+            let steps = [comp_steps(pp, asked), comp_steps(qq, asked)];
+            beside(set.has(asked.record), [pp, qq], steps, |pp, qq| comp_parallel(*set, pp, qq))
         }
         Compensable::Held(qq, r) => comp_steps(qq, asked).into_iter().map(|qq| held(qq, r.clone())).collect(),
     }
@@ -136,9 +144,10 @@ pub fn compensations(pp: &Comp, by: Closing) -> Vec<Std> {
             all.extend(compensations(qq, by));
             all
         }
-        // "Parallel leaves both in parallel"; "a side's order is its endings ✓, ?, !, and within an ending
-        // its compensations"; "combined ones go by the first part's order, then by the second's"
-        Compensable::Parallel(pp, qq) => {
+        // "Parallel leaves both in parallel", "for forward steps and for compensations" with the same set; "a side's order is its
+        // endings ✓, ?, !, and within an ending its compensations"; "combined ones go by the first part's order, then by the
+        // second's"
+        Compensable::Parallel(set, pp, qq) => {
             let in_order = |side: &Comp| -> Vec<(Closing, Std)> {
                 CLOSINGS
                     .iter()
@@ -150,7 +159,7 @@ pub fn compensations(pp: &Comp, by: Closing) -> Vec<Std> {
             for (x, p) in &left {
                 for (y, q) in &right {
                     if x.join(*y) == by {
-                        all.push(parallel(p.clone(), q.clone()));
+                        all.push(parallel(*set, p.clone(), q.clone()));
                     }
                 }
             }

@@ -3,6 +3,7 @@
 
 use crate::drawing::*;
 use crate::flowfile::{entry, worked, Entry, FlowFile};
+use crate::sets::EventSet;
 use crate::term::{DONE, FAILED, WITHDRAWN};
 use std::fmt::Write;
 use std::io;
@@ -51,7 +52,7 @@ fn on_the_route(records: &[u16]) -> Vec<u8> {
 }
 
 fn file(names: Vec<Entry>, flow: &Drawing, records: &[u16]) -> Vec<u8> {
-    FlowFile { names, nodes: flow.table(), records: records.to_vec() }.bytes()
+    FlowFile::plain(names, flow.table(), records.to_vec()).bytes()
 }
 
 /// Two lines, each wash÷unload and then dry÷take out, and one van for both: events 1 to 4 and 5 to 8.
@@ -97,6 +98,26 @@ fn pressed(second: u16, records: &[u16]) -> Vec<u8> {
     ];
     let presses = parallel(event(2), event(second));
     file(names, &seq(seq(event(1), presses), event(5)), records)
+}
+
+/// A tandem plant: each line washes, and both meet at the press P1, which takes the linen of both at once, and at the folder F1. The van is
+/// booked by the office, whatever the lines do.
+fn tandem(second_folds_first: bool, records: &[u16]) -> Vec<u8> {
+    let names = vec![
+        entry("wash", "W1"),
+        entry("wash", "W2"),
+        entry("press", "P1"),
+        entry("fold", "F1"),
+        entry("book van", ""),
+    ];
+    let (press, fold) = (event(3), event(4));
+    let line =
+        |washer: u16, first: &Drawing, then: &Drawing| seq(seq(event(washer), first.clone()), then.clone());
+    let first = line(1, &press, &fold);
+    let second = if second_folds_first { line(2, &fold, &press) } else { line(2, &press, &fold) };
+    let flow = parallel(joint(0, first, second), event(5));
+    let plain = FlowFile::plain(names, flow.table(), records.to_vec());
+    FlowFile { sets: vec![EventSet::of(&[3, 4])], ..plain }.bytes()
 }
 
 pub fn all() -> Vec<Sample> {
@@ -164,6 +185,18 @@ pub fn all() -> Vec<Sample> {
             "rejected 0 2 3",
             "The second load is drawn on press P1, but its record names no press: such a record fits only a step drawn without a machine.",
             pressed(3, &[1, 4, 2, 5, DONE]),
+        ),
+        sample(
+            "meet-at-the-press.flow",
+            "accepted 0 6 7",
+            "A tandem plant: two lines wash on their own, then meet at press P1 and at folder F1, so one pressing and one folding count for both.",
+            tandem(false, &[2, 1, 3, 5, 4, DONE]),
+        ),
+        sample(
+            "stranded-at-the-press.flow",
+            "rejected 0 2 3",
+            "The second line is drawn to fold before it is pressed: after both washes each line waits for the other, only the van may still be booked, and the batch can never be closed.",
+            tandem(true, &[1, 2, 3, 4, 5, DONE]),
         ),
         sample(
             "handed-back.flow",

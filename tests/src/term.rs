@@ -1,6 +1,7 @@
 //! Terms, closings and states of the search, and the term that a node table means.
 //! The rules are in rules.rs; whether a table may be read at all is decided in refusals.rs.
 
+use crate::sets::EventSet;
 use std::rc::Rc;
 
 /// The three ways to end, in the order in which a parallel side's endings are gone through.
@@ -48,7 +49,7 @@ pub fn is_event(number: u16) -> bool {
     (1..=MOST_EVENT).contains(&number)
 }
 
-/// The sixteen kinds by their names.
+/// The kinds by their names.
 pub mod kind {
     pub const EVENT: u16 = 1;
     pub const SKIP: u16 = 2;
@@ -66,9 +67,24 @@ pub mod kind {
     pub const SKIPP: u16 = 14;
     pub const THROWW: u16 = 15;
     pub const YIELDD: u16 = 16;
+    /// Parallel with set 0, and with set 15: "kinds 256 to 271 are the standard form with set 0 to 15, kinds 512 to 527 the compensable
+    /// form" (request Four).
+    pub const JOINT: u16 = 256;
+    pub const LAST_JOINT: u16 = 271;
+    pub const COMP_JOINT: u16 = 512;
+    pub const LAST_COMP_JOINT: u16 = 527;
 }
 
-/// "Kinds 1 to 9 are standard", 10 to 16 compensable.
+/// The number of the set that a kind names; only a joint parallel names one.
+pub fn set_number(kind: u16) -> Option<usize> {
+    match kind {
+        kind::JOINT..=kind::LAST_JOINT => Some((kind - kind::JOINT) as usize),
+        kind::COMP_JOINT..=kind::LAST_COMP_JOINT => Some((kind - kind::COMP_JOINT) as usize),
+        _ => None,
+    }
+}
+
+/// "Kinds 1 to 9 are standard", 10 to 16 compensable, and joint parallels are of both sorts.
 #[derive(Clone, Copy, PartialEq, Eq, Debug)]
 pub enum Sort {
     Standard,
@@ -76,10 +92,9 @@ pub enum Sort {
 }
 
 pub fn sort_of(kind: u16) -> Sort {
-    if kind <= kind::BLOCK {
-        Sort::Standard
-    } else {
-        Sort::Compensable
+    match kind {
+        0..=kind::BLOCK | kind::JOINT..=kind::LAST_JOINT => Sort::Standard,
+        _ => Sort::Compensable,
     }
 }
 
@@ -91,7 +106,8 @@ pub enum Standard {
     Yield,
     Seq(Std, Std),
     Choice(Std, Std),
-    Parallel(Std, Std),
+    /// With the set of events that both sides do together, perhaps empty.
+    Parallel(EventSet, Std, Std),
     Handler(Std, Std),
     Block(Comp),
 }
@@ -102,7 +118,7 @@ pub enum Compensable {
     Pair(Std, Std),
     Seq(Comp, Comp),
     Choice(Comp, Comp),
-    Parallel(Comp, Comp),
+    Parallel(EventSet, Comp, Comp),
     Skipp,
     Throww,
     Yieldd,
@@ -120,8 +136,12 @@ pub fn seq(p: Std, q: Std) -> Std {
     Rc::new(Standard::Seq(p, q))
 }
 
-pub fn parallel(p: Std, q: Std) -> Std {
-    Rc::new(Standard::Parallel(p, q))
+pub fn parallel(set: EventSet, p: Std, q: Std) -> Std {
+    Rc::new(Standard::Parallel(set, p, q))
+}
+
+pub fn comp_parallel(set: EventSet, pp: Comp, qq: Comp) -> Comp {
+    Rc::new(Compensable::Parallel(set, pp, qq))
 }
 
 pub fn held(qq: Comp, r: Std) -> Comp {
@@ -136,43 +156,64 @@ pub enum State {
     NothingLeft,
 }
 
-/// The term of a table that is not refused: that of its last node.
-pub fn root(nodes: &[u16]) -> State {
+/// The term of a table that is not refused, with these sets: that of its last node.
+pub fn root(nodes: &[u16], sets: &[EventSet]) -> State {
+    let table = Table { nodes, sets };
     let last = nodes.len() / 3 - 1;
     match sort_of(nodes[3 * last]) {
-        Sort::Standard => State::Standard(standard(nodes, last)),
-        Sort::Compensable => State::Compensable(compensable(nodes, last)),
+        Sort::Standard => State::Standard(table.standard(last)),
+        Sort::Compensable => State::Compensable(table.compensable(last)),
     }
 }
 
-fn standard(nodes: &[u16], i: usize) -> Std {
-    let (first, second) = (nodes[3 * i + 1], nodes[3 * i + 2]);
-    let part = |child: u16| standard(nodes, child as usize);
-    Rc::new(match nodes[3 * i] {
-        kind::EVENT => Standard::Event(first),
-        kind::SKIP => Standard::Skip,
-        kind::THROW => Standard::Throw,
-        kind::YIELD => Standard::Yield,
-        kind::SEQ => Standard::Seq(part(first), part(second)),
-        kind::CHOICE => Standard::Choice(part(first), part(second)),
-        kind::PARALLEL => Standard::Parallel(part(first), part(second)),
-        kind::HANDLER => Standard::Handler(part(first), part(second)),
-        kind::BLOCK => Standard::Block(compensable(nodes, first as usize)),
-        other => unreachable!("kind {other} where a standard part stands"),
-    })
+struct Table<'a> {
+    nodes: &'a [u16],
+    sets: &'a [EventSet],
 }
 
-fn compensable(nodes: &[u16], i: usize) -> Comp {
-    let (first, second) = (nodes[3 * i + 1], nodes[3 * i + 2]);
-    let part = |child: u16| compensable(nodes, child as usize);
-    Rc::new(match nodes[3 * i] {
-        kind::PAIR => Compensable::Pair(standard(nodes, first as usize), standard(nodes, second as usize)),
-        kind::COMP_SEQ => Compensable::Seq(part(first), part(second)),
-        kind::COMP_CHOICE => Compensable::Choice(part(first), part(second)),
-        kind::COMP_PARALLEL => Compensable::Parallel(part(first), part(second)),
-        kind::SKIPP => Compensable::Skipp,
-        kind::THROWW => Compensable::Throww,
-        kind::YIELDD => Compensable::Yieldd,
-        other => unreachable!("kind {other} where a compensable part stands"),
-    })
+impl Table<'_> {
+    fn node(&self, i: usize) -> (u16, u16, u16) {
+        (self.nodes[3 * i], self.nodes[3 * i + 1], self.nodes[3 * i + 2])
+    }
+
+    /// Kinds 7 and 13 have the empty set.
+    fn set(&self, kind: u16) -> EventSet {
+        set_number(kind).map_or(EventSet::EMPTY, |number| self.sets[number])
+    }
+
+    fn standard(&self, i: usize) -> Std {
+        let (kind, first, second) = self.node(i);
+        let part = |child: u16| self.standard(child as usize);
+        Rc::new(match kind {
+            kind::EVENT => Standard::Event(first),
+            kind::SKIP => Standard::Skip,
+            kind::THROW => Standard::Throw,
+            kind::YIELD => Standard::Yield,
+            kind::SEQ => Standard::Seq(part(first), part(second)),
+            kind::CHOICE => Standard::Choice(part(first), part(second)),
+            kind::PARALLEL | kind::JOINT..=kind::LAST_JOINT => {
+                Standard::Parallel(self.set(kind), part(first), part(second))
+            }
+            kind::HANDLER => Standard::Handler(part(first), part(second)),
+            kind::BLOCK => Standard::Block(self.compensable(first as usize)),
+            other => unreachable!("kind {other} where a standard part stands"),
+        })
+    }
+
+    fn compensable(&self, i: usize) -> Comp {
+        let (kind, first, second) = self.node(i);
+        let part = |child: u16| self.compensable(child as usize);
+        Rc::new(match kind {
+            kind::PAIR => Compensable::Pair(self.standard(first as usize), self.standard(second as usize)),
+            kind::COMP_SEQ => Compensable::Seq(part(first), part(second)),
+            kind::COMP_CHOICE => Compensable::Choice(part(first), part(second)),
+            kind::COMP_PARALLEL | kind::COMP_JOINT..=kind::LAST_COMP_JOINT => {
+                Compensable::Parallel(self.set(kind), part(first), part(second))
+            }
+            kind::SKIPP => Compensable::Skipp,
+            kind::THROWW => Compensable::Throww,
+            kind::YIELDD => Compensable::Yieldd,
+            other => unreachable!("kind {other} where a compensable part stands"),
+        })
+    }
 }

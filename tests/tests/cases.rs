@@ -4,15 +4,17 @@ use oracle::by_hand;
 use oracle::cases::calling::{Call, JUDGE, NEXT, WRITE};
 use oracle::cases::malformed::malformed;
 use oracle::cases::{
-    Case, Made, Reply, Run, Stream, Totals, MOST_NUMBERS, MOST_ROOM, MOST_WORK, STORED_CASES, STORED_SEED,
+    Case, Made, Reply, Run, Stream, Totals, MOST_NUMBERS, MOST_ROOM, MOST_SET_BYTES, MOST_WORK, STORED_CASES,
+    STORED_SEED,
 };
+use oracle::drawing::children;
 use oracle::judge::{with_deep_stack, Answer, Lent};
 use oracle::next::{Beginning, Next, LIST_ROOM};
 use oracle::program::PROGRAM_ALLOWS;
 use oracle::reader::{read, NODE_ROOM, RECORD_ROOM};
 use oracle::refusals::{work_wanted, MOST_RECORDS};
-use oracle::term::{is_event, kind, sort_of, Sort, CLOSING_RECORDS, DONE};
-use oracle::writer::file_of;
+use oracle::sets::{sets_of, EventSet};
+use oracle::term::{is_event, kind, set_number, sort_of, Sort, CLOSING_RECORDS, DONE};
 use std::path::PathBuf;
 use std::sync::OnceLock;
 
@@ -45,7 +47,7 @@ fn totals(cases: &[Made]) -> Totals {
 #[test]
 fn every_answer_comes_often() {
     let totals = totals(cases());
-    for number in 1..=21 {
+    for number in 1..=23 {
         let judging = totals.of_refusal("program", number) + totals.of_refusal("judge", number);
         assert!(judging >= 25, "refusal {number} of judging\n{}", totals.show());
         for asked in ["writer", "judge with names"] {
@@ -66,14 +68,14 @@ fn every_answer_comes_often() {
 
 /// Whether what may come next is ever refused so: "10 isn't given here", and those about names only where there are some.
 fn is_refusal_of_next(asked: &str, number: u32) -> bool {
-    number != 10 && (number <= 14 || asked == "next with names")
+    number != 10 && (!(15..=21).contains(&number) || asked == "next with names")
 }
 
 #[test]
 fn every_answer_of_next_comes_often() {
     let totals = totals(cases());
     for asked in ["next", "next with names"] {
-        for number in 1..=21 {
+        for number in 1..=23 {
             let given = totals.of_refusal(asked, number);
             let enough = if is_refusal_of_next(asked, number) { given >= 10 } else { given == 0 };
             assert!(enough, "refusal {number} of {asked}\n{}", totals.show());
@@ -91,13 +93,25 @@ fn every_answer_of_next_comes_often() {
 fn no_refusal_with_names_is_left_to_chance() {
     let fixed = oracle::cases::fixed::cases().len();
     let totals = totals(&cases()[..fixed]);
-    for number in 1..=21 {
+    for number in 1..=23 {
         assert!(totals.of_refusal("writer", number) > 0, "{}", totals.show());
         assert!(totals.of_refusal("judge with names", number) > 0, "{}", totals.show());
         assert!(totals.of_refusal("reader", number) > 0 || number == 2, "{}", totals.show());
         for asked in ["next", "next with names"].into_iter().filter(|asked| is_refusal_of_next(asked, number))
         {
             assert!(totals.of_refusal(asked, number) > 0, "{number} of {asked}\n{}", totals.show());
+        }
+    }
+}
+
+/// 22 and 23, which every one of them gives, come often from each.
+#[test]
+fn refusals_of_sets_come_often() {
+    let totals = totals(cases());
+    for asked in ["program", "judge", "judge with names", "next", "next with names", "reader", "writer"] {
+        for number in [22, 23] {
+            let given = totals.of_refusal(asked, number);
+            assert!(given >= 20, "refusal {number} of {asked}\n{}", totals.show());
         }
     }
 }
@@ -118,7 +132,8 @@ fn names_decide_often() {
             _ => continue,
         };
         let Reply::Judged(answer) = made.reply else { continue };
-        if let Answer::Refused(_) = answer {
+        // Without its sets a flow of lines that meet is no flow.
+        if matches!(answer, Answer::Refused(_)) || nodes.chunks(3).any(|node| set_number(node[0]).is_some()) {
             continue;
         }
         let by_number =
@@ -139,7 +154,7 @@ fn rooms_of_the_writer_meet_the_one_wanted_from_both_sides() {
         if call.function != WRITE {
             continue;
         }
-        let wanted = file_of(&call.names, &call.nodes, &call.records).len() as u32;
+        let wanted = call.file().len() as u32;
         if made.reply.refusal().is_none_or(|refusal| refusal.number == 14) {
             (0..3).for_each(|i| seen[i] += (call.room + 1 == wanted + i as u32) as u32);
         }
@@ -204,7 +219,8 @@ fn equal_states_come_often() {
     let (mut equal, mut many) = ([0; 2], 0);
     for made in cases().iter().filter(|made| made.family.ends_with("equal parts")) {
         let Some(lent) = made.case.lent_to_judge() else { continue };
-        let effort = Lent::enough(lent.names, lent.nodes, lent.records, lent.allowance).effort();
+        let enough = Lent::enough(lent.names, lent.nodes, lent.records, lent.allowance);
+        let effort = Lent { sets: lent.sets, ..enough }.effort();
         equal[lent.names.is_some() as usize] += (effort.entered as usize > 10 * effort.different) as u32;
         many += (effort.different > 2_048) as u32;
     }
@@ -330,6 +346,159 @@ fn equal_states_come_often_in_next() {
     assert!(equal.iter().all(|n| *n >= 15), "{equal:?}");
 }
 
+// ---- lines that meet ----
+
+/// A flow with joint parallels that some case has, not refused, with the records that it is judged by.
+struct Met {
+    nodes: Vec<u16>,
+    sets: Vec<EventSet>,
+    records: Vec<u16>,
+}
+
+impl Met {
+    fn of(nodes: &[u16], sets: &[u8], records: &[u16]) -> Option<Met> {
+        let met = Met { nodes: nodes.to_vec(), sets: sets_of(sets), records: records.to_vec() };
+        Some(met).filter(|met| !met.joint().is_empty())
+    }
+
+    /// Of a call or a file that is judged.
+    fn judged(case: &Case) -> Option<Met> {
+        match case {
+            Case::File(file) => {
+                let file = read(file).ok()?;
+                Met::of(&file.nodes, &file.lent_sets(), &file.records)
+            }
+            _ => case.lent_to_judge().and_then(|lent| Met::of(lent.nodes, lent.sets, lent.records)),
+        }
+    }
+
+    /// The nodes that are joint parallels with an event in their set.
+    fn joint(&self) -> Vec<usize> {
+        let has_events = |number: usize| self.sets.get(number).is_some_and(|set| *set != EventSet::EMPTY);
+        let nodes = self.nodes.chunks(3).enumerate();
+        nodes.filter(|(_, node)| set_number(node[0]).is_some_and(has_events)).map(|(i, _)| i).collect()
+    }
+
+    /// Is one of them under another?
+    fn is_nested(&self) -> bool {
+        self.joint().iter().any(|i| under(&self.nodes, *i).iter().any(|below| self.joint().contains(below)))
+    }
+
+    /// Does one of them stand where something is undone: in a block or behind a pair's sign?
+    fn is_undone(&self) -> bool {
+        let undoing =
+            (0..self.nodes.len() / 3).filter(|i| [kind::BLOCK, kind::PAIR].contains(&self.nodes[3 * i]));
+        undoing.flat_map(|i| under(&self.nodes, i)).any(|below| self.joint().contains(&below))
+    }
+
+    /// Is some record an event that two sides do together?
+    fn is_met(&self) -> bool {
+        let sets = self.joint().into_iter().filter_map(|i| self.sets.get(set_number(self.nodes[3 * i])?));
+        sets.into_iter().any(|set| self.records.iter().any(|record| set.has(*record)))
+    }
+}
+
+/// All nodes below one.
+fn under(nodes: &[u16], i: usize) -> Vec<usize> {
+    children(nodes, i).flat_map(|child| [vec![child], under(nodes, child)].concat()).collect()
+}
+
+/// Judged with names, without and as files: accepted, rejected and undecided; among those accepted by a joint event both sorts of root,
+/// parallels under parallels, and compensations.
+#[test]
+fn lines_meet_often() {
+    let (mut seen, mut sorts, mut nested, mut undone) = ([[0; 3]; 3], [0; 2], 0, 0);
+    for made in &cases()[oracle::cases::fixed::cases().len()..] {
+        let Reply::Judged(answer) = made.reply else { continue };
+        let word = match answer {
+            Answer::Accepted { .. } => 0,
+            Answer::Rejected { .. } => 1,
+            Answer::Undecided { .. } => 2,
+            Answer::Refused(_) => continue,
+        };
+        let Some(met) = Met::judged(&made.case) else { continue };
+        let asked = ["judge", "judge with names", "program"].iter().position(|a| *a == made.case.asked());
+        seen[asked.expect("one of the three")][word] += 1;
+        if word == 0 && met.is_met() {
+            sorts[sort_of(met.nodes[met.nodes.len() - 3]) as usize] += 1;
+            nested += met.is_nested() as u32;
+            undone += met.is_undone() as u32;
+        }
+    }
+    assert!(seen[..2].iter().all(|of| of[0] >= 20 && of[1] >= 60 && of[2] >= 25), "{seen:?}");
+    assert!(seen[2][..2].iter().all(|n| *n >= 15), "{seen:?}");
+    assert!(sorts.iter().all(|n| *n >= 15) && nested >= 15 && undone >= 25, "{sorts:?} {nested} {undone}");
+}
+
+/// Calls and files, the fixed ones left out, that are judged otherwise than if nobody met anybody.
+#[test]
+fn meetings_decide_often() {
+    let (mut accepted, mut other) = (0, 0);
+    for made in &cases()[oracle::cases::fixed::cases().len()..] {
+        let Reply::Judged(answer) = made.reply else { continue };
+        if matches!(answer, Answer::Refused(_)) {
+            continue;
+        }
+        let Some(lent) = made.case.lent_to_judge().filter(|_| Met::judged(&made.case).is_some()) else {
+            continue;
+        };
+        let nobody = vec![0; lent.sets.len()];
+        let apart = with_deep_stack(move || Lent { sets: &nobody, ..lent }.judged_within(100_000));
+        other += (apart != Some(answer)) as u32;
+        accepted += (apart != Some(answer) && matches!(answer, Answer::Accepted { .. })) as u32;
+    }
+    assert!(accepted >= 60 && other >= 200, "{accepted} {other}");
+}
+
+/// What may come next where lines meet: something, nothing, and too many states, with names and without.
+#[test]
+fn lines_meet_often_in_next() {
+    let mut seen = [[0; 3]; 2];
+    for (beginning, next) in answers_of_next(false) {
+        if Met::of(beginning.nodes, beginning.sets, beginning.records).is_none() {
+            continue;
+        }
+        let word = match next {
+            Next::Listed { numbers, .. } => numbers.is_empty() as usize,
+            _ => 2,
+        };
+        seen[beginning.names.is_some() as usize][word] += 1;
+    }
+    assert!(seen.iter().all(|of| of[0] >= 30 && of[1] >= 15 && of[2] >= 15), "{seen:?}");
+}
+
+/// Read and written: no sets, one, some, fifteen, sixteen.
+#[test]
+fn files_have_sets_of_every_number() {
+    let (mut read_sets, mut written) = ([0; 17], [0; 17]);
+    for made in cases() {
+        match (&made.reply, &made.case) {
+            (Reply::Read { sets, .. }, _) => read_sets[*sets] += 1,
+            (Reply::Written(_), Case::Call(call)) => written[call.sets.len() / 32] += 1,
+            _ => {}
+        }
+    }
+    for seen in [read_sets, written] {
+        assert!([0, 1, 2, 15, 16].iter().all(|sets| seen[*sets] >= 3), "{seen:?}");
+        assert!(seen[0] >= 60 && seen[1..].iter().sum::<u32>() >= 60, "{seen:?}");
+    }
+}
+
+/// Lent sets of every length that matters, each by every function.
+#[test]
+fn lengths_of_sets_meet_the_limits_from_both_sides() {
+    for asked in ["judge", "judge with names", "next", "next with names", "writer"] {
+        for length in [0, 1, 31, 32, 33, 64, 511, 512, 513, 544, MOST_SET_BYTES] {
+            let of_length =
+                cases().iter().filter(|made| made.case.asked() == asked).filter(|made| match &made.case {
+                    Case::Call(call) => call.sets.len() == length,
+                    _ => false,
+                });
+            assert!(of_length.count() >= 3, "{length} bytes to {asked}");
+        }
+    }
+}
+
 // ---- what it looks like ----
 
 #[test]
@@ -344,7 +513,7 @@ fn every_case_is_one_for_replay() {
             Case::Read { file, .. } => assert!(file.len() <= u16::MAX as usize),
             Case::Call(call) => {
                 assert!(call.names_lent == 1 || call.names.is_empty());
-                assert!(call.names.len() <= u16::MAX as usize && call.sets.is_empty());
+                assert!(call.names.len() <= u16::MAX as usize && call.sets.len() <= MOST_SET_BYTES);
                 match call.function {
                     JUDGE => assert!(call.edition == 1 && call.work_len as usize <= MOST_WORK),
                     NEXT => {
@@ -403,7 +572,7 @@ fn readings_and_writings_look_as_agreed() {
     let file = vec![0, 0, 1, 0, 2, 0, 0, 0, 0, 0, 1, 0, 1, 240];
     let read = Case::Read { node_room: 192, record_room: 256, file: file.clone() };
     assert_eq!(read.bytes(), [&[b'R', 192, 0, 0, 1, 14, 0], &file[..]].concat());
-    assert_eq!(read.line(&read.reply(0).unwrap()), "read 0 1 1 clean");
+    assert_eq!(read.line(&read.reply(0).unwrap()), "read 0 1 1 14 0 clean");
     let short = Case::Read { node_room: 191, record_room: 65_535, file };
     assert_eq!(short.bytes()[..5], [b'R', 191, 0, 255, 255]);
     assert_eq!(short.line(&short.reply(0).unwrap()), "refused 14 0 clean");
@@ -417,8 +586,15 @@ fn readings_and_writings_look_as_agreed() {
     let (write, lists) = (Case::Call(call.clone()), [0, 0, 2, 0, 0, 0, 0, 0, 1, 240]);
     assert_eq!(write.bytes(), [&head[..], &lists].concat());
     assert_eq!(write.line(&write.reply(0).unwrap()), "written 14 00000100020000000000010001f0 clean");
-    let long = Case::Call(Call { names: vec![0, 0, 9], ..call });
+    let long = Case::Call(Call { names: vec![0, 0, 9], ..call.clone() });
     assert_eq!(long.line(&long.reply(0).unwrap()), "refused 21 2 clean");
+    let with_a_set = Case::Call(call.with_sets(vec![7; 32]));
+    assert_eq!(with_a_set.bytes()[12..16], [48, 0, 0, 0], "room for the sets and their count");
+    let hex = ["00000100020000000000010001f0", "0100", &"07".repeat(32)].concat();
+    assert_eq!(with_a_set.line(&with_a_set.reply(0).unwrap()), format!("written 48 {hex} clean"));
+    let file = [&[0, 0, 1, 0, 2, 0, 0, 0, 0, 0, 1, 0, 1, 240, 1, 0][..], &[7; 32]].concat();
+    let read = Case::Read { node_room: 192, record_room: 256, file };
+    assert_eq!(read.line(&read.reply(0).unwrap()), "read 0 1 1 16 1 clean");
 }
 
 /// The same for a judge, with names and without.
@@ -434,8 +610,13 @@ fn judgings_look_as_agreed() {
     let plain = Case::Call(Call { names_lent: 0, names: vec![], ..call.clone() });
     assert_eq!(plain.bytes()[..4], [b'C', 0, 1, 0]);
     assert_eq!(plain.line(&plain.reply(9).unwrap()), "rejected 0 0 1 clean");
-    let short = Case::Call(Call { work_len: 5, ..call });
+    let short = Case::Call(Call { work_len: 5, ..call.clone() });
     assert_eq!(short.line(&short.reply(9).unwrap()), "refused 14 0 0 clean");
+    let sets: Vec<u8> = (0..32).collect();
+    let with_a_set = Case::Call(call.with_sets(sets.clone()));
+    assert_eq!(with_a_set.bytes()[22..24], [32, 0]);
+    assert_eq!(with_a_set.bytes()[24..], [&names[..], &lists, &sets].concat());
+    assert_eq!(with_a_set.line(&with_a_set.reply(9).unwrap()), "accepted 0 2 3 clean");
 }
 
 /// The same for what may come next.

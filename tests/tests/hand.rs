@@ -15,7 +15,7 @@ fn judged_by_hand() {
         let shown = case.flow.show();
         assert_eq!(lent.judged().to_string(), case.line, "{shown}");
         assert_eq!(lent.judged_by_lists().to_string(), case.line, "{shown}");
-        let is_trace = meaning(&nodes, &Matching::ByNumber, u64::MAX).unwrap().has(records);
+        let is_trace = meaning(&nodes, &[], &Matching::ByNumber, u64::MAX).unwrap().has(records);
         assert_eq!(is_trace, case.line.starts_with("accepted"), "{shown}");
     }
 }

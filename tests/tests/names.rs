@@ -86,7 +86,7 @@ fn other_numbers_are_taken_by_nobody() {
 
 /// Judged with names, as a call and as a file.
 fn line(names: &[Entry], flow: &Drawing, records: &[u16]) -> String {
-    let file = FlowFile { names: names.to_vec(), nodes: flow.table(), records: records.to_vec() };
+    let file = FlowFile::plain(names.to_vec(), flow.table(), records.to_vec());
     let answer = judge_named(&file.names_section(), &file.nodes, &file.records, WORK, ALLOWANCE);
     assert_eq!(program(&file.bytes()), answer);
     answer.to_string()
@@ -202,7 +202,7 @@ fn faults_alone_and_in_pairs() {
     let planned = lending::planned();
     assert_eq!(planned.lent().judged().to_string(), "accepted 0 3 4");
     let all = writing::faults_alone_and_in_pairs(&planned, &FAULTS.each_ref());
-    assert_eq!(all.len(), 24 + 24 * 23 / 2);
+    assert_eq!(all.len(), 26 + 26 * 25 / 2);
     for (refusal, call) in all {
         assert_eq!(call.lent().judged(), Answer::Refused(refusal), "{call:?}");
     }
@@ -237,19 +237,20 @@ fn names_come_first_and_records_before_nodes() {
 fn refusals_are_those_of_the_writer() {
     with_deep_stack(|| {
         let mut rng = Rng::new(21);
-        let mut seen = [0; 22];
+        let mut seen = [0; 24];
         for _ in 0..8_000 {
-            let Case::Call(Call { names, nodes, records, .. }) = lending::damaged_case(&mut rng) else {
+            let Case::Call(Call { names, nodes, records, sets, .. }) = lending::damaged_case(&mut rng) else {
                 unreachable!()
             };
-            let refusal = match judge_named(&names, &nodes, &records, usize::MAX, 0) {
+            let lent = Lent { sets: &sets, ..Lent::enough(Some(&names), &nodes, &records, 0) };
+            let refusal = match (Lent { work_len: usize::MAX, ..lent }).judged() {
                 Answer::Refused(refusal) => Some(refusal),
                 _ => None,
             };
-            assert_eq!(write(&names, &nodes, &records, usize::MAX).err(), refusal);
+            assert_eq!(write(&names, &nodes, &records, &sets, usize::MAX).err(), refusal);
             seen[refusal.map_or(0, |r| r.number as usize)] += 1;
             if refusal.is_none() {
-                let short = Lent { work_len: 0, ..Lent::enough(Some(&names), &nodes, &records, 0) };
+                let short = Lent { work_len: 0, ..lent };
                 assert_eq!(short.judged(), Answer::Refused(Refusal { number: 14, place: 0 }));
             }
         }

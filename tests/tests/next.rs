@@ -205,9 +205,9 @@ fn faults_alone_and_in_pairs() {
     let (with_names, without) = (listing::faults(), listing::faults_without_names());
     assert_eq!(
         numbers(&with_names),
-        [15, 16, 17, 17, 15, 18, 15, 21, 1, 2, 3, 11, 4, 5, 6, 7, 8, 9, 12, 13, 19, 20, 14, 14]
+        [15, 16, 17, 17, 15, 18, 15, 21, 1, 2, 3, 11, 23, 4, 22, 5, 6, 7, 8, 9, 12, 13, 19, 20, 14, 14]
     );
-    assert_eq!(numbers(&without), [1, 2, 3, 4, 5, 6, 7, 8, 9, 11, 12, 13, 14, 14]);
+    assert_eq!(numbers(&without), [1, 2, 3, 23, 4, 22, 5, 6, 7, 8, 9, 11, 12, 13, 14, 14]);
     let planned = listing::planned();
     for (planned, faults) in [(planned.clone(), with_names), (planned.nameless(), without)] {
         assert_eq!(planned.beginning().listed().to_string(), "listed 1 3 61441");
@@ -223,12 +223,13 @@ fn faults_alone_and_in_pairs() {
 fn refusals_are_those_of_the_judge() {
     with_deep_stack(|| {
         let mut rng = Rng::new(14);
-        let mut seen = [[0; 22]; 2];
+        let mut seen = [[0; 24]; 2];
         for i in 0..12_000 {
             let at_limits = i % 8 == 0;
             let case = if at_limits { listing::case_at_limits } else { listing::damaged_case }(&mut rng);
             let lent = Beginning { allowance: 0, ..case.beginning().unwrap() };
             let enough = Beginning::enough(lent.names, lent.nodes, lent.records, 0);
+            let enough = Beginning { sets: lent.sets, ..enough };
             let number = refusal(lent.listed()).map_or(0, |refusal| refusal.number);
             seen[lent.names.is_some() as usize][number as usize] += 1;
             let short = lent.list_room < LIST_ROOM || lent.work_len < enough.work_len;
@@ -247,14 +248,15 @@ fn refusals_are_those_of_the_judge() {
             let closed =
                 if whole_nodes { closed_as_needed(lent.nodes, lent.records) } else { lent.records.to_vec() };
             if closed.len() <= MOST_RECORDS || lent.records.len() > MOST_RECORDS {
-                let judged = match Lent::enough(lent.names, lent.nodes, &closed, 0).judged() {
+                let closed = Lent::enough(lent.names, lent.nodes, &closed, 0);
+                let judged = match (Lent { sets: lent.sets, ..closed }).judged() {
                     Answer::Refused(refusal) => Some(refusal),
                     _ => None,
                 };
                 assert_eq!(refusal(enough.listed()), judged);
             }
         }
-        (seen[0][10], seen[1][10]) = (50, 50);
+        seen.iter_mut().for_each(|seen| seen[10] = 50);
         (15..=21).for_each(|number| seen[0][number] = 50);
         assert!(seen.iter().flatten().all(|n| *n >= 50), "{seen:?}");
     });

@@ -3,19 +3,20 @@
 use oracle::cases::calling::Call;
 use oracle::cases::{filing, fixed, writing, Case};
 use oracle::drawing::Drawing;
-use oracle::flowfile::{self, Entry, FlowFile};
+use oracle::flowfile::{self, section_of, Entry, FlowFile};
 use oracle::judge::with_deep_stack;
 use oracle::reader::read;
 use oracle::refusals::Refusal;
 use oracle::rng::Rng;
+use oracle::sets::SET_BYTES;
 use oracle::term::DONE;
-use oracle::writer::{file_of, write};
+use oracle::writer::write;
 
 const ROOM: usize = 70_000;
 
 /// What the writer answers: the length, or number and place.
 fn answer(names: &[u8], nodes: &[u16], records: &[u16], room: usize) -> String {
-    match write(names, nodes, records, room) {
+    match write(names, nodes, records, &[], room) {
         Ok(file) => format!("written {}", file.len()),
         Err(r) => format!("refused {} {}", r.number, r.place),
     }
@@ -28,16 +29,12 @@ fn of_names(names: &[u8]) -> String {
 
 /// The same for nodes and records alone, with four names.
 fn of_lists(nodes: &[u16], records: &[u16]) -> String {
-    let names = FlowFile { names: fixed::four_names(), nodes: vec![], records: vec![] }.names_section();
+    let names = section_of(&fixed::four_names());
     answer(&names, nodes, records, ROOM)
 }
 
-fn write_call(call: &Call) -> Result<Vec<u8>, Refusal> {
-    write(&call.names, &call.nodes, &call.records, call.room as usize)
-}
-
 fn write_file(file: &FlowFile) -> Result<Vec<u8>, Refusal> {
-    write(&file.names_section(), &file.nodes, &file.records, ROOM)
+    write(&file.names_section(), &file.nodes, &file.records, &file.lent_sets(), ROOM)
 }
 
 #[test]
@@ -51,18 +48,21 @@ fn worked_file() {
     assert_eq!(with_room(0), "refused 14 0");
 }
 
-/// Each of the 24 faults by its number and place, and of each two the one that comes first.
+/// Each of the 26 faults by its number and place, and of each two the one that comes first.
 #[test]
 fn faults_alone_and_in_pairs() {
     let whole = writing::planned();
-    assert_eq!((whole.names.len(), write_call(&whole).map(|file| file.len())), (26, Ok(72)));
+    assert_eq!((whole.names.len(), whole.written().map(|file| file.len())), (26, Ok(72)));
     let mut numbers: Vec<u32> = writing::FAULTS.iter().map(|fault| fault.refusal.number).collect();
     numbers.dedup();
-    assert_eq!(numbers, [15, 16, 17, 15, 18, 15, 21, 1, 2, 3, 10, 11, 4, 5, 6, 7, 8, 9, 12, 13, 19, 20, 14]);
+    assert_eq!(
+        numbers,
+        [15, 16, 17, 15, 18, 15, 21, 1, 2, 3, 10, 11, 23, 4, 22, 5, 6, 7, 8, 9, 12, 13, 19, 20, 14]
+    );
     let all = writing::faults_alone_and_in_pairs(&whole, &writing::FAULTS.each_ref());
-    assert_eq!(all.len(), 24 + 24 * 23 / 2);
+    assert_eq!(all.len(), 26 + 26 * 25 / 2);
     for (refusal, call) in all {
-        assert_eq!(write_call(&call), Err(refusal), "{call:?}");
+        assert_eq!(call.written(), Err(refusal), "{call:?}");
     }
 }
 
@@ -151,9 +151,7 @@ fn limits_of_nodes_and_records() {
 
 #[test]
 fn limits_of_names() {
-    let of = |names: &[Entry]| {
-        of_names(&FlowFile { names: names.to_vec(), nodes: vec![], records: vec![] }.names_section())
-    };
+    let of = |names: &[Entry]| of_names(&section_of(names));
     let different =
         |count: usize| -> Vec<Entry> { (0..count).map(|i| (vec![i as u8], vec![b'x'; i / 256])).collect() };
     assert_eq!(of(&different(255)), format!("written {}", 14 + 3 * 255));
@@ -210,7 +208,8 @@ fn what_was_read_is_written_as_it_was() {
         let mut seen = 0;
         for bytes in random_files(4_000, 11) {
             let Ok(file) = read(&bytes) else { continue };
-            let written = write(&file.names_section(), &file.nodes, &file.records, bytes.len());
+            let (names, sets) = (file.names_section(), file.lent_sets());
+            let written = write(&names, &file.nodes, &file.records, &sets, bytes.len());
             assert_eq!(written, Ok(bytes));
             seen += 1;
         }
@@ -218,17 +217,17 @@ fn what_was_read_is_written_as_it_was() {
     });
 }
 
-/// "What it writes the reader reads back as the same three lists", and it is the file that flowfile.rs puts together.
+/// "What it writes the reader reads back as the same three lists", and the same sets, and it is the file that flowfile.rs puts together.
 #[test]
 fn what_is_written_is_read_back() {
     with_deep_stack(|| {
         let mut seen = 0;
         for call in random_calls(4_000, 12) {
-            let Ok(file) = write_call(&call) else { continue };
+            let Ok(file) = call.written() else { continue };
             let back = read(&file).unwrap();
             assert_eq!(
-                (&back.names_section(), &back.nodes, &back.records),
-                (&call.names, &call.nodes, &call.records)
+                (&back.names_section(), &back.nodes, &back.records, &back.lent_sets()),
+                (&call.names, &call.nodes, &call.records, &call.sets)
             );
             assert_eq!(back.bytes(), file);
             assert!(file.len() <= call.room as usize);
@@ -239,22 +238,24 @@ fn what_is_written_is_read_back() {
 }
 
 /// "Refused by the reader's own numbers and in its order": the reader refuses the file that would be written by the same number, at
-/// the same place but for 1, 3, 10 and 11, which it has at the count. It does not know 2 and 14 of a writer, and 15 and 21 are about
-/// the section's end, which in a file is elsewhere.
+/// the same place but for 1, 3, 10, 11 and 23, which it has at the count. It does not know 2 and 14 of a writer, nor sets that are no
+/// whole ones, and 15 and 21 are about the section's end, which in a file is elsewhere.
 #[test]
 fn refusals_are_those_of_the_reader() {
     with_deep_stack(|| {
-        let mut seen = [0; 22];
+        let mut seen = [0; 24];
         for call in random_calls(12_000, 13) {
-            let Err(refusal) = write_call(&call) else { continue };
+            let Err(refusal) = call.written() else { continue };
             seen[refusal.number as usize] += 1;
             let place = match refusal.number {
                 2 | 14 | 15 | 21 => continue,
                 1 | 3 => call.names.len(),
                 10 | 11 => call.names.len() + 2 + 2 * call.nodes.len(),
+                23 if !call.sets.len().is_multiple_of(SET_BYTES) => continue,
+                23 => call.file().len() - call.sets.len() - 2,
                 _ => refusal.place,
             };
-            let of_reader = read(&file_of(&call.names, &call.nodes, &call.records)).unwrap_err();
+            let of_reader = read(&call.file()).unwrap_err();
             assert_eq!(of_reader, Refusal { place, ..refusal }, "{call:?}");
         }
         assert!(seen[1..].iter().all(|n| *n >= 50), "{seen:?}");

@@ -12,7 +12,6 @@ use native.Mathlib.Decide.{decLe}
 use lib.Dec.{T, eqb, leb}
 use lib.ListN.{length, getD, replicate, length-map, List·getD-map, List·getD-eq-default}
 use borrow.Author.Tests.{le-leb, lt-leb, leb-true, leb-false, ne-eqb}
-use Rattle.calculus.specs.Term.{Leaf, leaf}
 use Rattle.calculus.specs.Records.{Record, State}
 use Rattle.calculus.specs.Search.{visit}
 use Rattle.calculus.specs.Spending.{Out as Found, spent, back, visitB, left-of}
@@ -27,12 +26,13 @@ use Rattle.flow.specs.declared.Check.the-variants as check
 use Rattle.flow.specs.Records.{done-number, withdrawn-number, failed-number, most-events, is-event-number, is-closing-number, record-of, records, all-numbers}
 use Rattle.flow.specs.Refusals.{count, no-record}
 use Rattle.flow.specs.Drawn.{flow-by}
-use Rattle.flow.specs.Cues.{cued, cue-of, cue-record, cue-records, itself, failed-cue}
+use Rattle.flow.specs.Legends.{Legend, in-set, plain}
+use Rattle.flow.specs.Cues.{cued, cue-of, masked, cue-record, cue-records, itself, failed-cue}
 use Rattle.flow.specs.CuedFlows.{cued-passes, cued-entered, cued-begins}
 use Rattle.flow.specs.RecordsFit.{fine-records, records-begin}
 use Rattle.format.specs.Format.{Entry}
 use Rattle.format.specs.Told.{at-front}
-use Rattle.format.specs.Matching.{named}
+use Rattle.format.specs.Matching.{with-names}
 use Rattle.format.specs.ListChecks.{entries-in}
 use Rattle.format.specs.ListLaws.{ListsPassed}
 use Rattle.search.specs.declared.Out.{Out}
@@ -123,7 +123,7 @@ module _ {ns xs qs list work : List ℕ} (ready : NextReady ns xs qs list work) 
             leaves = asked .search .leaves;
           }
 
----- Any leaves ----
+---- Any legend ----
 
 -- what holds of each and of one more holds of all
 with-last : (P : ℕ → Type 0) (rs : List ℕ) (r : ℕ) → ((i : ℕ) → i < length rs → P (getD rs i 0)) → P r → (i : ℕ) → i < length (rs ++ (r ∷ [])) → P (getD (rs ++ (r ∷ [])) i 0)
@@ -147,15 +147,18 @@ number-known =
     ])
 
 -- the asks of all numbers
-record AllAsked (leaves : ℕ → Leaf) (other : ℕ → ℕ) (ns : List ℕ) : Type 0 where
-  cueing : Cueing leaves other ns
+record AllAsked (legend : Legend) (other : ℕ → ℕ) (ns : List ℕ) : Type 0 where
+  cueing : Cueing legend other ns
   few : (a : ℕ) → a ≤ most-events → other a ≤ most-events
   some : (a : ℕ) → 1 ≤ a → 1 ≤ other a
 
-module _ {leaves : ℕ → Leaf} {other : ℕ → ℕ} {ns rs : List ℕ} (work : List ℕ) (passed : Passed Beginning ns rs (length work)) (a : AllAsked leaves other ns)
-    {xs : List ℕ} (is : xs ≡ map (cue-of other) rs) {qs : List ℕ} (asked : qs ≡ asks other ns) where
-  abbrev c : Cueing leaves other ns
+module _ {legend : Legend} {other : ℕ → ℕ} {ns rs : List ℕ} (work : List ℕ) (passed : Passed Beginning ns rs (length work)) (a : AllAsked legend other ns)
+    {xs : List ℕ} (is : xs ≡ map (cue-of (masked (legend .sets)) other) rs) {qs : List ℕ} (asked : qs ≡ asks (masked (legend .sets)) other ns) where
+  abbrev c : Cueing legend other ns
   c = a .cueing
+
+  abbrev mask : ℕ → ℕ
+  mask = masked (legend .sets)
 
   each-known : (i : ℕ) → i < length rs → no-record (getD rs i 0) ≡ false
   each-known = known work passed c is
@@ -164,32 +167,32 @@ module _ {leaves : ℕ → Leaf} {other : ℕ → ℕ} {ns rs : List ℕ} (work 
   asks-ready {list} enough = record {
     search = cueing-ready work passed c is;
     begins = subst (λ (l : List ℕ). Begins (flow-by cued ns) (cue-records l)) (sym is)
-        (cued-begins leaves other ns rs (passed .table) each-known Heard (events-heard rs each-known) (c .small) (c .right) (records-begin ns rs leaves (passed .table) (passed .records)));
+        (cued-begins legend other ns rs (passed .table) each-known Heard (events-heard rs each-known) (c .small) (c .right) (records-begin ns rs legend (passed .table) (passed .records)));
     asking = λ j. elim (decLe 259 j) [
-      | yes h ↦ subst (λ (x : ℕ). x ≤ failed-cue) (sym (List·getD-eq-default qs 0 {n = j} (omega (arith, ap length asked, asks-length other ns)))) (omega arith)
-      | no h ↦ subst (λ (l : List ℕ). getD l j 0 ≤ failed-cue) (sym asked) (asks-low other ns (a .few) j (omega (arith, h)))
+      | yes h ↦ subst (λ (x : ℕ). x ≤ failed-cue) (sym (List·getD-eq-default qs 0 {n = j} (omega (arith, ap length asked, asks-length mask other ns)))) (omega arith)
+      | no h ↦ subst (λ (l : List ℕ). getD l j 0 ≤ failed-cue) (sym asked) (asks-low (legend .sets) other ns (a .few) j (omega (arith, h)))
     ];
-    all = ap length asked ∙ asks-length other ns;
+    all = ap length asked ∙ asks-length mask other ns;
     room = enough;
   }
 
   -- a number follows by its cue exactly if it follows
-  follows-is : (r : ℕ) → no-record r ≡ false → may-follow (cue-records xs) (flow-by cued ns) (cue-record (cue-of other r)) ≡ may-follow (records rs) (flow-by leaves ns) (record-of r)
+  follows-is : (r : ℕ) → no-record r ≡ false → may-follow (cue-records xs) (flow-by cued ns) (cue-record (cue-of mask other r)) ≡ may-follow (records rs) (flow-by legend ns) (record-of r)
   follows-is r k =
-      ap (λ (z : List ℕ). may-follow (cue-records z) (flow-by cued ns) (cue-record (cue-of other r))) is
-      ∙ ap (λ (z : List Record). passes z (flow-by cued ns)) (sym (map-append cue-record (map (cue-of other) rs) (cue-of other r ∷ [])) ∙ ap cue-records (sym (map-append (cue-of other) rs (r ∷ []))))
-      ∙ cued-passes leaves other ns (rs ++ (r ∷ [])) (passed .table) all-known Heard (events-heard (rs ++ (r ∷ [])) all-known) (c .small) (c .right)
-      ∙ ap (λ (z : List Record). passes z (flow-by leaves ns)) (map-append record-of rs (r ∷ []))
+      ap (λ (z : List ℕ). may-follow (cue-records z) (flow-by cued ns) (cue-record (cue-of mask other r))) is
+      ∙ ap (λ (z : List Record). passes z (flow-by cued ns)) (sym (map-append cue-record (map (cue-of mask other) rs) (cue-of mask other r ∷ [])) ∙ ap cue-records (sym (map-append (cue-of mask other) rs (r ∷ []))))
+      ∙ cued-passes legend other ns (rs ++ (r ∷ [])) (passed .table) all-known Heard (events-heard (rs ++ (r ∷ [])) all-known) (c .small) (c .right)
+      ∙ ap (λ (z : List Record). passes z (flow-by legend ns)) (map-append record-of rs (r ∷ []))
     where
       all-known : (i : ℕ) → i < length (rs ++ (r ∷ [])) → no-record (getD (rs ++ (r ∷ [])) i 0) ≡ false
       all-known = with-last (λ x. no-record x ≡ false) rs r each-known k
 
   -- it is picked exactly if it follows
-  picks : (i : ℕ) → i < 259 → eqb (getD (map (answered (flow-by cued ns) (cue-records xs)) qs) i 0) follows-mark ≡ may-follow (records rs) (flow-by leaves ns) (record-of (getD all-numbers i 0))
+  picks : (i : ℕ) → i < 259 → eqb (getD (map (answered (flow-by cued ns) (cue-records xs)) qs) i 0) follows-mark ≡ may-follow (records rs) (flow-by legend ns) (record-of (getD all-numbers i 0))
   unfolding answered
   picks i h =
       ap (λ (q : ℕ). eqb q follows-mark) (List·getD-map (answered (flow-by cued ns) (cue-records xs)) qs i 0 ∙ ap (λ (l : List ℕ). answered (flow-by cued ns) (cue-records xs) (getD l i 0)) asked)
-      ∙ by (asks-apart other ns (a .few) (a .some) i h) (ask-cue other ns (getD all-numbers i 0))
+      ∙ by (asks-apart (legend .sets) other ns (a .few) (a .some) i h) (ask-cue mask other ns (getD all-numbers i 0))
       ∙ follows-is (getD all-numbers i 0) (number-known i h)
     where
       r : ℕ
@@ -199,33 +202,33 @@ module _ {leaves : ℕ → Leaf} {other : ℕ → ℕ} {ns rs : List ℕ} (work 
       asks-it x l true e = rw (lt-leb x follows-mark (omega arith), e)
       asks-it x l false e = rw (lt-leb x follows-mark (omega arith), e) (ne-eqb x follows-mark (λ d. omega arith))
 
-      by : (getD (asks other ns) i 0 ≡ 0) ⊎ (65537 ≤ getD (asks other ns) i 0) → (ask other ns r ≡ 0) ⊎ (ask other ns r ≡ cue-of other r)
-          → eqb (answered (flow-by cued ns) (cue-records xs) (getD (asks other ns) i 0)) follows-mark ≡ may-follow (cue-records xs) (flow-by cued ns) (cue-record (cue-of other r))
+      by : (getD (asks mask other ns) i 0 ≡ 0) ⊎ (65537 ≤ getD (asks mask other ns) i 0) → (ask mask other ns r ≡ 0) ⊎ (ask mask other ns r ≡ cue-of mask other r)
+          → eqb (answered (flow-by cued ns) (cue-records xs) (getD (asks mask other ns) i 0)) follows-mark ≡ may-follow (cue-records xs) (flow-by cued ns) (cue-record (cue-of mask other r))
       by (inl z) d =
           ap (λ (q : ℕ). eqb (answered (flow-by cued ns) (cue-records xs) q) follows-mark) z
-          ∙ sym (unasked-at other ns (a .few) (passed .table) i h z (cue-records xs))
-      by (inr l) (inl z) = absurd (omega (arith, asks-at other ns i h))
+          ∙ sym (unasked-at (legend .sets) other ns (a .few) (passed .table) i h z (cue-records xs))
+      by (inr l) (inl z) = absurd (omega (arith, asks-at mask other ns i h))
       by (inr l) (inr e) =
-          let q : getD (asks other ns) i 0 ≡ cue-of other r = asks-at other ns i h ∙ e in
-          asks-it (getD (asks other ns) i 0) l (may-follow (cue-records xs) (flow-by cued ns) (cue-record (getD (asks other ns) i 0))) refl
+          let q : getD (asks mask other ns) i 0 ≡ cue-of mask other r = asks-at mask other ns i h ∙ e in
+          asks-it (getD (asks mask other ns) i 0) l (may-follow (cue-records xs) (flow-by cued ns) (cue-record (getD (asks mask other ns) i 0))) refl
           ∙ ap (λ (x : ℕ). may-follow (cue-records xs) (flow-by cued ns) (cue-record x)) q
 
-  found-is : (allowance : ℕ) → found ns xs qs allowance ≡ following (flow-by leaves ns) rs
+  found-is : (allowance : ℕ) → found ns xs qs allowance ≡ following (flow-by legend ns) rs
   unfolding following
   found-is allowance =
-      picked-those (λ r. may-follow (records rs) (flow-by leaves ns) (record-of r)) all-numbers (map (answered (flow-by cued ns) (cue-records xs)) qs)
-      (length-map qs (answered (flow-by cued ns) (cue-records xs)) ∙ ap length asked ∙ asks-length other ns ∙ sym numbers-length)
+      picked-those (λ r. may-follow (records rs) (flow-by legend ns) (record-of r)) all-numbers (map (answered (flow-by cued ns) (cue-records xs)) qs)
+      (length-map qs (answered (flow-by cued ns) (cue-records xs)) ∙ ap length asked ∙ asks-length mask other ns ∙ sym numbers-length)
       (λ i h. picks i (subst (λ (n : ℕ). i < n) numbers-length h))
 
-  cost-is : (allowance : ℕ) → cost ns xs qs allowance ≡ entered (records rs) (flow-by leaves ns)
+  cost-is : (allowance : ℕ) → cost ns xs qs allowance ≡ entered (records rs) (flow-by legend ns)
   cost-is allowance =
       ap (λ (l : List ℕ). entered (cue-records l) (flow-by cued ns)) is
-      ∙ cued-entered leaves other ns rs (passed .table) each-known Heard (events-heard rs each-known) (c .small) (c .right)
+      ∙ cued-entered legend other ns rs (passed .table) each-known Heard (events-heard rs each-known) (c .small) (c .right)
 
   asks-next : {check : Check} → check ≡ Fine → {allowance : ℕ} {list : List ℕ} {r : Next} {list′ after : List ℕ} → NextAnswered ns xs qs allowance list work r list′ after
-      → NextBy check (flow-by leaves ns) ns rs allowance list work r list′ after
+      → NextBy check (flow-by legend ns) ns rs allowance list work r list′ after
   unfolding next-by list-by unless-refused allowed
-  asks-next {check} e {allowance} {list} {r} {list′} {after} n = subst (λ (k : Check). NextBy k (flow-by leaves ns) ns rs allowance list work r list′ after) (sym e) (record {
+  asks-next {check} e {allowance} {list} {r} {list′} {after} n = subst (λ (k : Check). NextBy k (flow-by legend ns) ns rs allowance list work r list′ after) (sym e) (record {
     answers = n .answers ∙ (λ i. cond (leb (cost-is allowance i) allowance) (Listed (record { length = length (found-is allowance i); count = cost-is allowance i })) (Undecided (record { length = 0; count = allowance })));
     lists = n .lists ∙ (λ i. cond (leb (cost-is allowance i) allowance) (at-front (found-is allowance i) list) list);
     leaves = n .leaves ∙ ap (λ (m : ℕ). cleared (room-of (count ns) m) work) (ap length is ∙ as-long work passed c is) ∙ sym (fine-bytes (room-wanted ns rs) work refl);
@@ -242,30 +245,30 @@ next-refuses flow ns rs allowance list work r e = record {
   leaves = sym (refused-bytes (room-wanted ns rs) work r e);
 }
 
-plain-all : (ns : List ℕ) → AllAsked leaf itself ns
-plain-all ns = record { cueing = plain-cueing ns; few = λ a h. h; some = λ a h. h }
+plain-all : (sets ns : List ℕ) → AllAsked (plain sets) itself ns
+plain-all sets ns = record { cueing = plain-cueing sets ns; few = λ a h. h; some = λ a h. h }
 
-named-all : (s ns rs : List ℕ) → ListsPassed Beginning s ns rs → AllAsked (named (entries-in s)) (other (entries-in s)) ns
-named-all s ns rs lists = record {
-  cueing = named-cueing Beginning s ns rs lists;
+named-all : (s sets ns rs : List ℕ) → ListsPassed Beginning s sets ns rs → AllAsked (with-names (entries-in s) sets) (other (entries-in s)) ns
+named-all s sets ns rs lists = record {
+  cueing = named-cueing Beginning s sets ns rs lists;
   few = section-other-small s (lists .section .is);
   some = other-some (entries-in s);
 }
 
-module _ (ns rs list work : List ℕ) {xs qs : List ℕ} where
-  module _ (e : next-check ns rs (length list) (length work) ≡ Fine) (is : xs ≡ map (cue-of itself) rs) (asked : qs ≡ asks itself ns) where
+module _ (sets ns rs list work : List ℕ) {xs qs : List ℕ} where
+  module _ (e : next-check sets ns rs (length list) (length work) ≡ Fine) (is : xs ≡ map (cue-of (masked (in-set sets)) itself) rs) (asked : qs ≡ asks (masked (in-set sets)) itself ns) where
     pub plain-next-ready : NextReady ns xs qs list work
-    plain-next-ready = let p = next-passed ns rs (length list) (length work) e in asks-ready work (p .0) (plain-all ns) is asked (p .1)
+    plain-next-ready = let p = next-passed sets ns rs (length list) (length work) e in asks-ready work (p .0) (plain-all sets ns) is asked (p .1)
 
-    pub plain-next : {allowance : ℕ} {r : Next} {list′ after : List ℕ} → NextAnswered ns xs qs allowance list work r list′ after → NextOf ns rs allowance list work r list′ after
-    plain-next n = let p = next-passed ns rs (length list) (length work) e in asks-next work (p .0) (plain-all ns) is asked e n
+    pub plain-next : {allowance : ℕ} {r : Next} {list′ after : List ℕ} → NextAnswered ns xs qs allowance list work r list′ after → NextOf sets ns rs allowance list work r list′ after
+    plain-next n = let p = next-passed sets ns rs (length list) (length work) e in asks-next work (p .0) (plain-all sets ns) is asked e n
 
-  module _ (s : List ℕ) (e : named-next-check s ns rs (length list) (length work) ≡ Fine) (is : xs ≡ map (cue-of (other (entries-in s))) rs) (asked : qs ≡ asks (other (entries-in s)) ns) where
-    lists : ListsPassed Beginning s ns rs
-    lists = named-next-lists s ns rs (length list) (length work) e
+  module _ (s : List ℕ) (e : named-next-check s sets ns rs (length list) (length work) ≡ Fine) (is : xs ≡ map (cue-of (masked (in-set sets)) (other (entries-in s))) rs) (asked : qs ≡ asks (masked (in-set sets)) (other (entries-in s)) ns) where
+    lists : ListsPassed Beginning s sets ns rs
+    lists = named-next-lists s sets ns rs (length list) (length work) e
 
     pub named-next-ready : NextReady ns xs qs list work
-    named-next-ready = let p = named-next-passed s ns rs (length list) (length work) e in asks-ready work (p .0) (named-all s ns rs lists) is asked (p .1)
+    named-next-ready = let p = named-next-passed s sets ns rs (length list) (length work) e in asks-ready work (p .0) (named-all s sets ns rs lists) is asked (p .1)
 
-    pub named-next : {allowance : ℕ} {r : Next} {list′ after : List ℕ} → NextAnswered ns xs qs allowance list work r list′ after → NamedNextOf s ns rs allowance list work r list′ after
-    named-next n = let p = named-next-passed s ns rs (length list) (length work) e in asks-next work (p .0) (named-all s ns rs lists) is asked e n
+    pub named-next : {allowance : ℕ} {r : Next} {list′ after : List ℕ} → NextAnswered ns xs qs allowance list work r list′ after → NamedNextOf s sets ns rs allowance list work r list′ after
+    named-next n = let p = named-next-passed s sets ns rs (length list) (length work) e in asks-next work (p .0) (named-all s sets ns rs lists) is asked e n

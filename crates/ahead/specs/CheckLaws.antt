@@ -17,6 +17,7 @@ use Rattle.flow.specs.FirstRefusal.{None, more, fine-exactly, both-fine, or-els
 use Rattle.format.specs.ListChecks.{lists-check}
 use Rattle.format.specs.ListLaws.{ListsPassed, lists-passed, lists-then}
 use Rattle.judge.specs.Told.{room-wanted, too-short}
+use Rattle.flow.specs.FineTable.{fine-table}
 use Rattle.judge.specs.JudgedLaws.{plain-then, Passed}
 use Rattle.ahead.specs.Told.{numbers-wanted, no-room, next-room-order}
 use Rattle.ahead.specs.Outcome.{next-check, named-next-check}
@@ -47,52 +48,53 @@ module _ (ns rs : List ℕ) (numbers room : ℕ) where
           let neither = is-false (no-room ns rs numbers room) t in
           (ltb-false room (room-wanted ns rs) (neither-two few short neither), ltb-false numbers numbers-wanted (neither-one few short neither))
 
-  ---- The checks, as the code comes to them ----
+---- The checks, as the code comes to them ----
 
-  next-parts : next-check ns rs numbers room ≡ or-else-check (table-check ns) (or-else-check (records-check Beginning ns rs) (next-room-check ns rs numbers room))
+module _ (sets ns rs : List ℕ) (numbers room : ℕ) where
+  next-parts : next-check sets ns rs numbers room ≡ or-else-check (table-check sets ns) (or-else-check (records-check Beginning ns rs) (next-room-check ns rs numbers room))
   unfolding next-check
-  next-parts = plain-then Beginning ns rs (next-room-order ns rs numbers room)
+  next-parts = plain-then Beginning sets ns rs (next-room-order ns rs numbers room)
 
-  pub next-table-refuses : {c : Check} {r : Refusal} → c ≡ table-check ns → c ≡ Refused r → c ≡ next-check ns rs numbers room
+  pub next-table-refuses : {c : Check} {r : Refusal} → c ≡ table-check sets ns → c ≡ Refused r → c ≡ next-check sets ns rs numbers room
   next-table-refuses q h = q ∙ or-else-refused _ (sym q ∙ h) ∙ sym next-parts
 
-  module _ (table : table-check ns ≡ Fine) where
-    pub next-records-refuse : {c : Check} {r : Refusal} → c ≡ records-check Beginning ns rs → c ≡ Refused r → c ≡ next-check ns rs numbers room
+  module _ (table : table-check sets ns ≡ Fine) where
+    pub next-records-refuse : {c : Check} {r : Refusal} → c ≡ records-check Beginning ns rs → c ≡ Refused r → c ≡ next-check sets ns rs numbers room
     next-records-refuse q h = q ∙ or-else-refused _ (sym q ∙ h) ∙ or-else-fine _ table ∙ sym next-parts
 
-    pub next-room-last : {c : Check} → records-check Beginning ns rs ≡ Fine → c ≡ next-room-check ns rs numbers room → c ≡ next-check ns rs numbers room
+    pub next-room-last : {c : Check} → records-check Beginning ns rs ≡ Fine → c ≡ next-room-check ns rs numbers room → c ≡ next-check sets ns rs numbers room
     next-room-last list q = q ∙ or-else-fine _ list ∙ or-else-fine _ table ∙ sym next-parts
 
   -- with names
   module _ (s : List ℕ) where
-    named-next-parts : named-next-check s ns rs numbers room ≡ or-else-check (lists-check Beginning s ns rs) (next-room-check ns rs numbers room)
+    named-next-parts : named-next-check s sets ns rs numbers room ≡ or-else-check (lists-check Beginning s sets ns rs) (next-room-check ns rs numbers room)
     unfolding named-next-check
-    named-next-parts = lists-then Beginning s ns rs (next-room-order ns rs numbers room)
+    named-next-parts = lists-then Beginning s sets ns rs (next-room-order ns rs numbers room)
 
-    pub next-lists-refuse : {c : Check} {r : Refusal} → c ≡ lists-check Beginning s ns rs → c ≡ Refused r → c ≡ named-next-check s ns rs numbers room
+    pub next-lists-refuse : {c : Check} {r : Refusal} → c ≡ lists-check Beginning s sets ns rs → c ≡ Refused r → c ≡ named-next-check s sets ns rs numbers room
     next-lists-refuse q h = q ∙ or-else-refused _ (sym q ∙ h) ∙ sym named-next-parts
 
-    pub named-next-room-last : {c : Check} → lists-check Beginning s ns rs ≡ Fine → c ≡ next-room-check ns rs numbers room → c ≡ named-next-check s ns rs numbers room
+    pub named-next-room-last : {c : Check} → lists-check Beginning s sets ns rs ≡ Fine → c ≡ next-room-check ns rs numbers room → c ≡ named-next-check s sets ns rs numbers room
     named-next-room-last lists q = q ∙ or-else-fine _ lists ∙ sym named-next-parts
 
 ---- Nothing is refused ----
 
-pub next-passed : (ns rs : List ℕ) (numbers room : ℕ) → next-check ns rs numbers room ≡ Fine → Passed Beginning ns rs room × (259 ≤ numbers)
-next-passed ns rs numbers room e =
+pub next-passed : (sets ns rs : List ℕ) (numbers room : ℕ) → next-check sets ns rs numbers room ≡ Fine → Passed Beginning ns rs room × (259 ≤ numbers)
+next-passed sets ns rs numbers room e =
     let last = next-room-check ns rs numbers room in
-    let a = both-fine (table-check ns) (or-else-check (records-check Beginning ns rs) last) (sym (next-parts ns rs numbers room) ∙ e) in
+    let a = both-fine (table-check sets ns) (or-else-check (records-check Beginning ns rs) last) (sym (next-parts sets ns rs numbers room) ∙ e) in
     let b = both-fine (records-check Beginning ns rs) last (a .1) in
     let enough = next-room-enough ns rs numbers room (b .1) in
-    (record { table = a .0; records = b .0; enough = enough .0 }, enough .1)
+    (record { table = fine-table ns sets (a .0); records = b .0; enough = enough .0 }, enough .1)
 
-module _ (s ns rs : List ℕ) (numbers room : ℕ) (e : named-next-check s ns rs numbers room ≡ Fine) where
-  parts : (lists-check Beginning s ns rs ≡ Fine) × (next-room-check ns rs numbers room ≡ Fine)
-  parts = both-fine (lists-check Beginning s ns rs) (next-room-check ns rs numbers room) (sym (named-next-parts ns rs numbers room s) ∙ e)
+module _ (s sets ns rs : List ℕ) (numbers room : ℕ) (e : named-next-check s sets ns rs numbers room ≡ Fine) where
+  parts : (lists-check Beginning s sets ns rs ≡ Fine) × (next-room-check ns rs numbers room ≡ Fine)
+  parts = both-fine (lists-check Beginning s sets ns rs) (next-room-check ns rs numbers room) (sym (named-next-parts sets ns rs numbers room s) ∙ e)
 
-  pub named-next-lists : ListsPassed Beginning s ns rs
-  named-next-lists = lists-passed Beginning s ns rs (parts .0)
+  pub named-next-lists : ListsPassed Beginning s sets ns rs
+  named-next-lists = lists-passed Beginning s sets ns rs (parts .0)
 
   pub named-next-passed : Passed Beginning ns rs room × (259 ≤ numbers)
   named-next-passed =
       let enough = next-room-enough ns rs numbers room (parts .1) in
-      (record { table = named-next-lists .table; records = named-next-lists .records; enough = enough .0 }, enough .1)
+      (record { table = fine-table ns sets (named-next-lists .table); records = named-next-lists .records; enough = enough .0 }, enough .1)

@@ -24,13 +24,13 @@ unfoldable pub use Rattle.ahead.specs.Told.{following}
 
 ---- The checks ----
 
-unfoldable pub next-check : List ℕ → List ℕ → ℕ → ℕ → Check
-next-check ns rs numbers room = first (grounds (next-order ns rs numbers room))
+unfoldable pub next-check : List ℕ → List ℕ → List ℕ → ℕ → ℕ → Check
+next-check sets ns rs numbers room = first (grounds (next-order sets ns rs numbers room))
 
 -- by the names section first
-unfoldable pub named-next-check : List ℕ → List ℕ → List ℕ → ℕ → ℕ → Check
+unfoldable pub named-next-check : List ℕ → List ℕ → List ℕ → List ℕ → ℕ → ℕ → Check
 unfolding named-check
-named-next-check s ns rs numbers room = named-check s (named-next-order ns rs numbers room)
+named-next-check s sets ns rs numbers room = named-check s (named-next-order sets ns rs numbers room)
 
 ---- By what is refused, the flow, the beginning and the allowance ----
 
@@ -62,10 +62,10 @@ pub record NextBy (c : Check) (flow : State) (ns rs : List ℕ) (allowance : ℕ
   pub leaves : after ≡ bytes-by c (room-wanted ns rs) work
 
 -- of `next`
-abbrev pub NextOf : List ℕ → List ℕ → ℕ → List ℕ → List ℕ → Next → List ℕ → List ℕ → Type 0
-NextOf ns rs allowance list work r list′ after = NextBy (next-check ns rs (length list) (length work)) (flow-of ns) ns rs allowance list work r list′ after
+abbrev pub NextOf : List ℕ → List ℕ → List ℕ → ℕ → List ℕ → List ℕ → Next → List ℕ → List ℕ → Type 0
+NextOf sets ns rs allowance list work r list′ after = NextBy (next-check sets ns rs (length list) (length work)) (flow-of sets ns) ns rs allowance list work r list′ after
 
 -- of `next_named`
-abbrev pub NamedNextOf : List ℕ → List ℕ → List ℕ → ℕ → List ℕ → List ℕ → Next → List ℕ → List ℕ → Type 0
-NamedNextOf s ns rs allowance list work r list′ after =
-    NextBy (named-next-check s ns rs (length list) (length work)) (named-flow s ns) ns rs allowance list work r list′ after
+abbrev pub NamedNextOf : List ℕ → List ℕ → List ℕ → List ℕ → ℕ → List ℕ → List ℕ → Next → List ℕ → List ℕ → Type 0
+NamedNextOf s sets ns rs allowance list work r list′ after =
+    NextBy (named-next-check s sets ns rs (length list) (length work)) (named-flow s sets ns) ns rs allowance list work r list′ after

@@ -1,5 +1,6 @@
 -- What may come next (02, Three): what is listed, what an answer of `next` or `next_named` tells, its word and its numbers for each case
--- (`told`), and what is refused, in which order. `ns` are the numbers of the nodes, `rs` those of the beginning.
+-- (`told`), and what is refused, in which order. `ns` are the numbers of the nodes, `rs` those of the beginning, `sets`
+-- the bytes of the lent sets.
 -- Definitions only: the promises about them are in the crate above (Following). Assumes nothing.
 use Prim.Native.Nat.{ℕ}
 use mathlib.Core.Bool.{Bool, _||_, cond}
@@ -70,9 +71,9 @@ abbrev pub next-room-order : List ℕ → List ℕ → ℕ → ℕ → List Roun
 next-room-order ns rs numbers room = lone (ground 14 0 (no-room ns rs numbers room)) ∷ []
 
 -- "10 isn't given here; a beginning with a closing too many .. is 13, at that closing": else as the judge's
-abbrev pub next-order : List ℕ → List ℕ → ℕ → ℕ → List Round
-next-order ns rs numbers room = table-order ns ++ (records-order Beginning ns rs ++ next-room-order ns rs numbers room)
+abbrev pub next-order : List ℕ → List ℕ → List ℕ → ℕ → ℕ → List Round
+next-order sets ns rs numbers room = table-order sets ns ++ (records-order Beginning ns rs ++ next-room-order ns rs numbers room)
 
 -- "Names may be lent as in Two"
-abbrev pub named-next-order : List ℕ → List ℕ → ℕ → ℕ → List Entry → List Round
-named-next-order ns rs numbers room es = lists-order Beginning (length es) ns rs ++ next-room-order ns rs numbers room
+abbrev pub named-next-order : List ℕ → List ℕ → List ℕ → ℕ → ℕ → List Entry → List Round
+named-next-order sets ns rs numbers room es = lists-order Beginning (length es) sets ns rs ++ next-room-order ns rs numbers room

@@ -32,11 +32,11 @@ fn check_next_room(nodes: &[u16], beginning: &[u16], numbers: usize, room: usize
     Check::Fine
 }
 
-// 1 to 9, 11 to 14.
-fn check_next(nodes: &[u16], beginning: &[u16], numbers: usize, room: usize) -> Check
-    ensures { λ r. ⌜ r ≡ next-check (now (nodes .entry)) (now (beginning .entry)) numbers room ⌝ }
+// 1 to 9, 11 to 14, with 22 and 23.
+fn check_next(nodes: &[u16], beginning: &[u16], sets: &[u8], numbers: usize, room: usize) -> Check
+    ensures { λ r. ⌜ r ≡ next-check (now (sets .entry)) (now (nodes .entry)) (now (beginning .entry)) numbers room ⌝ }
 {
-    let table = flow::check_table(nodes);
+    let table = flow::check_table(nodes, sets);
     let Check::Fine = table else {
         return table;
     };
@@ -52,12 +52,13 @@ fn check_next_named(
     names: &[u8],
     nodes: &[u16],
     beginning: &[u16],
+    sets: &[u8],
     numbers: usize,
     room: usize,
 ) -> Check
-    ensures { λ r. ⌜ r ≡ named-next-check (now (names .entry)) (now (nodes .entry)) (now (beginning .entry)) numbers room ⌝ }
+    ensures { λ r. ⌜ r ≡ named-next-check (now (names .entry)) (now (sets .entry)) (now (nodes .entry)) (now (beginning .entry)) numbers room ⌝ }
 {
-    let lists = format::check_lists(names, nodes, beginning, Extent::Beginning);
+    let lists = format::check_lists(names, nodes, beginning, sets, Extent::Beginning);
     let Check::Fine = lists else {
         return lists;
     };
@@ -65,7 +66,7 @@ fn check_next_named(
 }
 
 // The numbers whose asks are answered, to the front of the table; how many.
-fn write_listed(asks: &[u32], list: &mut [u16]) -> u32
+fn write_listed(asks: &[u64], list: &mut [u16]) -> u32
     requires { ⌜ (length (now asks) ≡ 259) × (259 ≤ length (now list)) ⌝ }
     ensures { λ r. ⌜ r ≡ length (picked all-numbers (now (asks .entry))) ⌝ }
     ensures written { λ r. ⌜ now (list .exit) ≡ at-front (picked all-numbers (now (asks .entry))) (now (list .entry)) ⌝ }
@@ -85,8 +86,8 @@ fn write_listed(asks: &[u32], list: &mut [u16]) -> u32
 // The search by these cues and asks, and its answer. Nothing is written before the search is over.
 fn next_by(
     nodes: &[u16],
-    cues: &[u32],
-    asks: &mut [u32],
+    cues: &[u64],
+    asks: &mut [u64],
     list: &mut [u16],
     work: &mut [u8],
     allowance: u32,
@@ -114,20 +115,21 @@ fn next_by(
 pub fn next(
     nodes: &[u16],
     beginning: &[u16],
+    sets: &[u8],
     list: &mut [u16],
     work: &mut [u8],
     allowance: u32,
 ) -> Next
-    ensures { λ r. ⌜ NextOf (now (nodes .entry)) (now (beginning .entry)) allowance (now (list .entry)) (now (work .entry)) r (now (list .exit)) (now (work .exit)) ⌝ }
+    ensures { λ r. ⌜ NextOf (now (sets .entry)) (now (nodes .entry)) (now (beginning .entry)) allowance (now (list .entry)) (now (work .entry)) r (now (list .exit)) (now (work .exit)) ⌝ }
 {
-    let found = check_next(nodes, beginning, list.len(), work.len());
+    let found = check_next(nodes, beginning, sets, list.len(), work.len());
     if let Check::Refused(refusal) = found {
         return Next::Refused(refusal);
     }
-    let mut cues = [0u32; 256];
-    matching::plain_cues(beginning, &mut cues);
-    let mut asks = [0u32; 259];
-    matching::plain_asks(nodes, &mut asks);
+    let mut cues = [0u64; 256];
+    matching::plain_cues(beginning, sets, &mut cues);
+    let mut asks = [0u64; 259];
+    matching::plain_asks(nodes, sets, &mut asks);
     let n = beginning.len();
     next_by(nodes, &cues[..n], &mut asks, list, work, allowance)
 }
@@ -138,20 +140,21 @@ pub fn next_named(
     names: &[u8],
     nodes: &[u16],
     beginning: &[u16],
+    sets: &[u8],
     list: &mut [u16],
     work: &mut [u8],
     allowance: u32,
 ) -> Next
-    ensures { λ r. ⌜ NamedNextOf (now (names .entry)) (now (nodes .entry)) (now (beginning .entry)) allowance (now (list .entry)) (now (work .entry)) r (now (list .exit)) (now (work .exit)) ⌝ }
+    ensures { λ r. ⌜ NamedNextOf (now (names .entry)) (now (sets .entry)) (now (nodes .entry)) (now (beginning .entry)) allowance (now (list .entry)) (now (work .entry)) r (now (list .exit)) (now (work .exit)) ⌝ }
 {
-    let found = check_next_named(names, nodes, beginning, list.len(), work.len());
+    let found = check_next_named(names, nodes, beginning, sets, list.len(), work.len());
     if let Check::Refused(refusal) = found {
         return Next::Refused(refusal);
     }
-    let mut cues = [0u32; 256];
-    matching::named_cues(names, beginning, &mut cues);
-    let mut asks = [0u32; 259];
-    matching::named_asks(names, nodes, &mut asks);
+    let mut cues = [0u64; 256];
+    matching::named_cues(names, beginning, sets, &mut cues);
+    let mut asks = [0u64; 259];
+    matching::named_asks(names, nodes, sets, &mut asks);
     let n = beginning.len();
     next_by(nodes, &cues[..n], &mut asks, list, work, allowance)
 }

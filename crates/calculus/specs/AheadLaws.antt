@@ -1,6 +1,6 @@
 -- What may come next, over the rules, the traces and the judge's search (02, Three). `passes` is that some run follows all the records
--- (`passes-follows`; for one record more `may-follow-follows`). So they begin a complete run (`passes-complete`) and a trace
--- (`passes-traces`), since no flow gets stuck (`closes-somehow` in Redrawn). Nothing else here rests on that.
+-- (`passes-follows`; for one record more `may-follow-follows`). Where no joint events are, so that no flow gets stuck, they begin a complete
+-- run and a trace (AheadRuns).
 -- The judge's search of a beginning finds no end and stops nowhere early: it enters all that is counted (`begins-found`, `begins-entered`).
 -- A search that finds no end has gone as far as some run follows, and no further (`place-passes`, `place-stops`, `place-not-followed`), and
 -- has entered what the search of the records before that place enters (`place-entered`); where the closings are as the root needs, that
@@ -23,13 +23,12 @@ use Rattle.calculus.specs.Ahead.{passes, may-follow, total, entered, Ope
 use Rattle.calculus.specs.Members.{is-true, is-false, not-so, in-some, of-some}
 use Rattle.calculus.specs.Found.{next-moves, moves-next, Ends, at-end, found-only, found-all, ends-complete, complete-ends, place-follows, place-longest, fits-over, fits-moves, closed-event, closed-close, twice-event, twice-close}
 use Rattle.calculus.specs.Found
-use Rattle.calculus.specs.Redrawn.{complete-traces, closes-somehow}
 use Rattle.calculus.specs.WithinLaws.{begins-moves}
 
 -- Some run follows --------------------------------------------------------------------------------------------------------------
 
 -- the first k records, and any after them
-first-follows : (rs : List Record) (s : State) (k : ℕ) → k ≤ length rs → T (passes (take k rs) s) → Follows s rs k
+pub first-follows : (rs : List Record) (s : State) (k : ℕ) → k ≤ length rs → T (passes (take k rs) s) → Follows s rs k
 unfolding passes
 first-follows rs s zero l h = stays
 first-follows [] s (suc k) l h = absurd (omega arith)
@@ -37,7 +36,7 @@ first-follows (r ∷ rs) s (suc k) l h =
     let f = of-some (λ t. passes (take k rs) t) (next s r) h in
     Follows.moves (next-moves s r (f .0) (f .1)) (first-follows rs (f .0) k (omega arith) (f .2))
 
-follows-first : {rs : List Record} {s : State} {k : ℕ} → Follows s rs k → T (passes (take k rs) s)
+pub follows-first : {rs : List Record} {s : State} {k : ℕ} → Follows s rs k → T (passes (take k rs) s)
 unfolding passes
 follows-first stays = tt
 follows-first (Follows.moves {rs} {n} m f) = in-some (λ t. passes (take n rs) t) (moves-next m) (follows-first f)
@@ -66,36 +65,9 @@ module _ (xs : List Record) (s : State) (r : Record) {rs : List Record} (rest : 
     λ f. subst (λ l. T (passes l s)) split-first (follows-first f),
   )
 
-follows-length : {rs : List Record} {s : State} {k : ℕ} → Follows s rs k → k ≤ length rs
+pub follows-length : {rs : List Record} {s : State} {k : ℕ} → Follows s rs k → k ≤ length rs
 follows-length stays = omega arith
 follows-length (Follows.moves m f) = let l = follows-length f in omega arith
-
--- A beginning of a complete run -------------------------------------------------------------------------------------------------
-
-passes-ends : (rs : List Record) (s : State) → T (passes rs s) → (rest : List Record) × Ends s (rs ++ rest)
-unfolding passes
-passes-ends [] s h = let c = closes-somehow s in (c .0, complete-ends s (c .0) (c .1))
-passes-ends (r ∷ rs) s h =
-    let f = of-some (λ t. passes rs t) (next s r) h in
-    let e = passes-ends rs (f .0) (f .2) in
-    (e .0, Ends.moves (next-moves s r (f .0) (f .1)) (e .1))
-
-ends-passes : (rs rest : List Record) {s : State} → Ends s (rs ++ rest) → T (passes rs s)
-unfolding passes
-ends-passes [] rest e = tt
-ends-passes (r ∷ rs) rest (Ends.moves m e) = in-some (λ t. passes rs t) (moves-next m) (ends-passes rs rest e)
-
-pub passes-complete : (rs : List Record) (s : State) → T (passes rs s) ↔ ((rest : List Record) × Complete s (rs ++ rest))
-passes-complete rs s = (
-  λ h. let e = passes-ends rs s h in (e .0, ends-complete s (rs ++ e .0) (e .1)),
-  λ c. ends-passes rs (c .0) (complete-ends s (rs ++ c .0) (c .1)),
-)
-
-pub passes-traces : (rs : List Record) (s : State) → T (passes rs s) ↔ ((rest : List Record) × InTraces s (rs ++ rest))
-passes-traces rs s = (
-  λ h. let c = passes-complete rs s .0 h in (c .0, complete-traces s (rs ++ c .0) .0 (c .1)),
-  λ t. passes-complete rs s .1 (t .0, complete-traces s (rs ++ t .0) .1 (t .1)),
-)
 
 -- What a search enters that finds no end ------------------------------------------------------------------------------------------
 

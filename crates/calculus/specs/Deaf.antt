@@ -5,7 +5,7 @@ use mathlib.Core.Path.{_≡_}
 use mathlib.Core.Bool.{false}
 use Rattle.calculus.specs.Term.{Leaf}
 use Rattle.calculus.specs.Records.{State}
-use Rattle.calculus.specs.Leaves.{EachLeafState}
+use Rattle.calculus.specs.Leaves.{EachState, AnySet}
 
 -- the leaf does not take the event a
 abbrev pub DeafLeaf : ℕ → Leaf → Type 0
@@ -13,4 +13,4 @@ DeafLeaf a l = l .takes a ≡ false
 
 -- nor does any leaf of what is left
 abbrev pub Deaf : ℕ → State → Type 0
-Deaf a s = EachLeafState (DeafLeaf a) s
+Deaf a s = EachState (DeafLeaf a) AnySet s

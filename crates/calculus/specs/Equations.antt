@@ -5,8 +5,8 @@ use Prim.Native.Nat.{ℕ}
 use mathlib.Core.Path.{_≡_, refl, sym, _∙_, ap, ap₂}
 use mathlib.Core.Bool.{Bool, true, false, not, _&&_, _||_}
 use mathlib.Core.List.{List, [], _∷_, _++_, map}
-use Rattle.calculus.specs.Term.{Closing, done, withdrawn, failed, Leaf, Std, Cmp, skip, throw, yield, ev, seq, alt, par, hnd, blk, pair, cseq, calt, cpar, held, join}
-use Rattle.calculus.specs.Successors.{Beh, eqc, closings, only, some-of, each, any-at-all, does, skipB, seqB, parB, ends, left-by, steps, csteps, comps}
+use Rattle.calculus.specs.Term.{Closing, done, withdrawn, failed, Leaf, Joint, Std, Cmp, skip, throw, yield, ev, seq, alt, par, hnd, blk, pair, cseq, calt, cpar, held, join}
+use Rattle.calculus.specs.Successors.{Beh, eqc, closings, only, some-of, each, any-at-all, beside, does, skipB, seqB, parB, ends, left-by, steps, csteps, comps}
 
 -- a standard term with what it does
 abbrev pub beh : Std → Beh
@@ -50,9 +50,9 @@ seq-real : (l k : Beh) → Real l → Real k → Real (seqB l k)
 unfolding ends
 seq-real l k h j = ap₂ seqB h j
 
-par-real : (l k : Beh) → Real l → Real k → Real (parB l k)
+par-real : (j : Joint) (l k : Beh) → Real l → Real k → Real (parB j l k)
 unfolding ends
-par-real l k h j = ap₂ parB h j
+par-real x l k h j = ap₂ (parB x) h j
 
 pub comps-real : (pp : Cmp) (w : Closing) → All Real (left-by pp w)
 unfolding ends
@@ -63,8 +63,8 @@ comps-real (cseq pp qq) w =
     all-append _ (all-only (not (eqc w done)) (comps-real pp w))
     (all-each _ (λ k h. all-map Real (λ l. seqB l k) (λ l j. seq-real l k j h) (comps-real qq w)) (comps-real pp done))
 comps-real (calt pp qq) w = all-append _ (comps-real pp w) (comps-real qq w)
-comps-real (cpar pp qq) u =
-    all-each′ _ (λ w. all-each _ (λ k h. all-each′ _ (λ v. all-only (eqc u (join w v)) (all-map Real (λ l. parB k l) (λ l j. par-real k l h j) (comps-real qq v))) closings) (comps-real pp w)) closings
+comps-real (cpar x pp qq) u =
+    all-each′ _ (λ w. all-each _ (λ k h. all-each′ _ (λ v. all-only (eqc u (join w v)) (all-map Real (λ l. parB x k l) (λ l j. par-real x k l h j) (comps-real qq v))) closings) (comps-real pp w)) closings
 comps-real (held qq r) w = all-map Real (λ l. seqB l (beh r)) (λ l j. seq-real l (beh r) j refl) (comps-real qq w)
 
 -- Lists of behaviours and lists of terms -----------------------------------------------------------------------------------
@@ -146,9 +146,9 @@ pub ends-alt : (p q : Std) (w : Closing) → ends (alt p q) w ≡ (ends p w || e
 unfolding ends
 ends-alt p q w = refl
 
-pub ends-par : (p q : Std) (u : Closing) → ends (par p q) u ≡ some-of (λ w. some-of (λ v. eqc u (join w v) && (ends p w && ends q v)) closings) closings
+pub ends-par : (j : Joint) (p q : Std) (u : Closing) → ends (par j p q) u ≡ some-of (λ w. some-of (λ v. eqc u (join w v) && (ends p w && ends q v)) closings) closings
 unfolding ends
-ends-par p q u = refl
+ends-par j p q u = refl
 
 pub ends-blk : (pp : Cmp) (w : Closing) → ends (blk pp) w ≡ ((eqc w done && any-at-all (comps pp done)) || some-of (λ k. ends k w) (comps pp failed))
 unfolding ends comps
@@ -181,15 +181,15 @@ pub comps-calt : (pp qq : Cmp) (w : Closing) → comps (calt pp qq) w ≡ comps 
 unfolding comps
 comps-calt pp qq w = map-append (λ (k : Beh). k .term) (left-by pp w) (left-by qq w)
 
-pub comps-cpar : (pp qq : Cmp) (u : Closing) → comps (cpar pp qq) u ≡ each closings (λ w. each (comps pp w) (λ k. each closings (λ v. only (eqc u (join w v)) (map (λ l. par k l) (comps qq v)))))
+pub comps-cpar : (j : Joint) (pp qq : Cmp) (u : Closing) → comps (cpar j pp qq) u ≡ each closings (λ w. each (comps pp w) (λ k. each closings (λ v. only (eqc u (join w v)) (map (λ l. par j k l) (comps qq v)))))
 unfolding comps
-comps-cpar pp qq u = map-each-by t l₁ r₁ closings e₁
+comps-cpar j pp qq u = map-each-by t l₁ r₁ closings e₁
   where
     t : Beh → Std
     t k = k .term
 
     l₃ : Closing → Beh → Closing → List Beh
-    l₃ w k v = only (eqc u (join w v)) (map (λ l. parB k l) (left-by qq v))
+    l₃ w k v = only (eqc u (join w v)) (map (λ l. parB j k l) (left-by qq v))
 
     l₂ : Closing → Beh → List Beh
     l₂ w k = each closings (l₃ w k)
@@ -198,7 +198,7 @@ comps-cpar pp qq u = map-each-by t l₁ r₁ closings e₁
     l₁ w = each (left-by pp w) (l₂ w)
 
     r₃ : Closing → Std → Closing → List Std
-    r₃ w k v = only (eqc u (join w v)) (map (λ l. par k l) (comps qq v))
+    r₃ w k v = only (eqc u (join w v)) (map (λ l. par j k l) (comps qq v))
 
     r₂ : Closing → Std → List Std
     r₂ w k = each closings (r₃ w k)
@@ -207,7 +207,7 @@ comps-cpar pp qq u = map-each-by t l₁ r₁ closings e₁
     r₁ w = each (comps pp w) (r₂ w)
 
     e₃ : (w : Closing) (k : Beh) (v : Closing) → map t (l₃ w k v) ≡ r₃ w (k .term) v
-    e₃ w k v = map-only t (eqc u (join w v)) (map (λ l. parB k l) (left-by qq v)) ∙ ap (only (eqc u (join w v))) (map-map t (λ l. parB k l) (left-by qq v) ∙ sym (map-map (λ l. par (k .term) l) t (left-by qq v)))
+    e₃ w k v = map-only t (eqc u (join w v)) (map (λ l. parB j k l) (left-by qq v)) ∙ ap (only (eqc u (join w v))) (map-map t (λ l. parB j k l) (left-by qq v) ∙ sym (map-map (λ l. par j (k .term) l) t (left-by qq v)))
 
     e₂ : (w : Closing) (k : Beh) → map t (l₂ w k) ≡ r₂ w (k .term)
     e₂ w k = map-each-by t (l₃ w k) (r₃ w (k .term)) closings (e₃ w k)
@@ -252,9 +252,9 @@ pub steps-alt : (p q : Std) (a : ℕ) → steps (alt p q) a ≡ steps p a ++ ste
 unfolding steps
 steps-alt p q a = refl
 
-pub steps-par : (p q : Std) (a : ℕ) → steps (par p q) a ≡ map (λ r. par r q) (steps p a) ++ map (λ r. par p r) (steps q a)
+pub steps-par : (j : Joint) (p q : Std) (a : ℕ) → steps (par j p q) a ≡ beside (j a) (par j) p q (steps p a) (steps q a)
 unfolding steps
-steps-par p q a = refl
+steps-par j p q a = refl
 
 pub steps-blk : (pp : Cmp) (a : ℕ) → steps (blk pp) a ≡ map blk (csteps pp a) ++ each (comps pp failed) (λ k. steps k a)
 unfolding steps csteps comps
@@ -274,9 +274,9 @@ pub csteps-calt : (pp qq : Cmp) (a : ℕ) → csteps (calt pp qq) a ≡ csteps p
 unfolding csteps
 csteps-calt pp qq a = refl
 
-pub csteps-cpar : (pp qq : Cmp) (a : ℕ) → csteps (cpar pp qq) a ≡ map (λ r. cpar r qq) (csteps pp a) ++ map (λ r. cpar pp r) (csteps qq a)
+pub csteps-cpar : (j : Joint) (pp qq : Cmp) (a : ℕ) → csteps (cpar j pp qq) a ≡ beside (j a) (cpar j) pp qq (csteps pp a) (csteps qq a)
 unfolding csteps
-csteps-cpar pp qq a = refl
+csteps-cpar j pp qq a = refl
 
 pub csteps-held : (qq : Cmp) (r : Std) (a : ℕ) → csteps (held qq r) a ≡ map (λ q. held q r) (csteps qq a)
 unfolding csteps

@@ -6,11 +6,11 @@ use mathlib.Core.Logic.{_≢_, _⊎_, inl, inr, _↔_}
 use mathlib.Core.Bool.{Bool, cond, not, _&&_, _||_}
 use mathlib.Core.List.{List, [], _∷_, _++_, map, List·Memᴰ, List·Memᴰ·head, List·Memᴰ·not-nil, List·Memᴰ·eq-of-singleton, Memᴰ·append-left, Memᴰ·append-right, Memᴰ·map}
 use lib.Dec.{T}
-use Rattle.calculus.specs.Term.{Closing, done, withdrawn, failed, eqc, Leaf, Std, Cmp, skip, throw, yield, ev, seq, alt, par, hnd, blk, pair, cseq, calt, cpar, held, join}
-use Rattle.calculus.specs.Rules.{End, CEnd, Step, CStep, skip-ends, throw-ends, yield-ends, yield-yields, alt-left, alt-right, par-joins, blk-ends, blk-undoes, pair-ends, pair-stops, cseq-stops, cseq-on, held-ends, calt-left, calt-right, cpar-joins, ev-step, alt-first, alt-second, par-first, par-second, blk-first, blk-second, pair-step, cseq-first, cseq-second, held-step, calt-first, calt-second, cpar-first, cpar-second}
-use Rattle.calculus.specs.Successors.{Beh, closings, only, some-of, each, any-at-all, ends-on, ends-both, does, skipB, seqB, parB, ends, left-by, steps, csteps, comps}
+use Rattle.calculus.specs.Term.{Closing, done, withdrawn, failed, eqc, Leaf, Joint, Std, Cmp, skip, throw, yield, ev, seq, alt, par, hnd, blk, pair, cseq, calt, cpar, held, join}
+use Rattle.calculus.specs.Rules.{End, CEnd, Step, CStep, skip-ends, throw-ends, yield-ends, yield-yields, alt-left, alt-right, par-joins, blk-ends, blk-undoes, pair-ends, pair-stops, cseq-stops, cseq-on, held-ends, calt-left, calt-right, cpar-joins, ev-step, alt-first, alt-second, par-first, par-second, par-both, blk-first, blk-second, pair-step, cseq-first, cseq-second, held-step, calt-first, calt-second, cpar-first, cpar-second, cpar-both}
+use Rattle.calculus.specs.Successors.{Beh, closings, only, some-of, each, any-at-all, beside, ends-on, ends-both, does, skipB, seqB, parB, ends, left-by, steps, csteps, comps}
 use Rattle.calculus.specs.Equations.{beh}
-use Rattle.calculus.specs.Members.{or-in-left, or-in-right, or-cases, and-in, and-left, and-right, same, same-in, other, other-in, in-closings, in-only, of-only, in-some, of-some, in-any, of-any, in-each, of-each, map-by, append-by}
+use Rattle.calculus.specs.Members.{or-in-left, or-in-right, or-cases, and-in, and-left, and-right, same, same-in, other, other-in, in-closings, in-only, of-only, in-some, of-some, in-any, of-any, in-each, of-each, map-by, append-by, beside-by, in-beside-first, in-beside-second, in-beside-both}
 use Rattle.calculus.specs.Onward.{Onward, seq-onward, hnd-onward}
 
 -- k lists what the rules allow its term
@@ -97,10 +97,10 @@ module _ (x y : Beh) (gx : Good x) (gy : Good y) where
       sa a r (inl h) = subst (λ r. List·Memᴰ r (map (λ p. op p y.term) (x.steps a) ++ only (x.ends u) (y.steps a))) (h .2) (Memᴰ·append-left _ (Memᴰ·map (λ p. op p y.term) (gx .steps-all a (h .0) (h .1))))
       sa a r (inr h) = Memᴰ·append-right (map (λ p. op p y.term) (x.steps a)) (in-only (x.ends u) (gx .ends-all u (h .0)) (gy .steps-all a r (h .1)))
 
-  par-good : Good (parB x y)
-  par-good = record { ends-only = eo; ends-all = ea; steps-only = so; steps-all = sa }
+  par-good : (j : Joint) → Good (parB j x y)
+  par-good j = record { ends-only = eo; ends-all = ea; steps-only = so; steps-all = sa }
     where
-      eo : (u : Closing) → T (ends-both x.ends y.ends u) → End (par x.term y.term) u
+      eo : (u : Closing) → T (ends-both x.ends y.ends u) → End (par j x.term y.term) u
       eo u h =
           let f = of-some (λ w. some-of (λ v. eqc u (join w v) && (x.ends w && y.ends v)) closings) closings h in
           let w : Closing = f .0 in
@@ -109,21 +109,23 @@ module _ (x y : Beh) (gx : Good x) (gy : Good y) where
           let e = and-right (eqc u (join w v)) (x.ends w && y.ends v) (g .2) in
           par-joins (gx .ends-only w (and-left (x.ends w) (y.ends v) e)) (gy .ends-only v (and-right (x.ends w) (y.ends v) e)) (same u (join w v) (and-left (eqc u (join w v)) (x.ends w && y.ends v) (g .2)))
 
-      ea : (u : Closing) → End (par x.term y.term) u → T (ends-both x.ends y.ends u)
+      ea : (u : Closing) → End (par j x.term y.term) u → T (ends-both x.ends y.ends u)
       ea u (par-joins {w} {v} e f q) =
           in-some (λ w. some-of (λ v. eqc u (join w v) && (x.ends w && y.ends v)) closings) (in-closings w)
           (in-some (λ v. eqc u (join w v) && (x.ends w && y.ends v)) (in-closings v)
           (and-in (eqc u (join w v)) (x.ends w && y.ends v) (same-in u (join w v) q) (and-in (x.ends w) (y.ends v) (gx .ends-all w e) (gy .ends-all v f))))
 
-      so : (a : ℕ) (r : Std) → List·Memᴰ r (map (λ p. par p y.term) (x.steps a) ++ map (λ q. par x.term q) (y.steps a)) → Step (par x.term y.term) a r
-      so a r =
-          append-by (map (λ p. par p y.term) (x.steps a))
-          (map-by (λ p. par p y.term) (Step (par x.term y.term) a) (x.steps a) (λ p m. par-first (gx .steps-only a p m)) r)
-          (map-by (λ q. par x.term q) (Step (par x.term y.term) a) (y.steps a) (λ q m. par-second (gy .steps-only a q m)) r)
+      so : (a : ℕ) (r : Std) → List·Memᴰ r (beside (j a) (par j) x.term y.term (x.steps a) (y.steps a)) → Step (par j x.term y.term) a r
+      so a =
+          beside-by (par j) x.term y.term (x.steps a) (y.steps a) (Step (par j x.term y.term) a) (j a)
+          (λ e p m. par-first e (gx .steps-only a p m))
+          (λ e q m. par-second e (gy .steps-only a q m))
+          (λ e p q m n. par-both e (gx .steps-only a p m) (gy .steps-only a q n))
 
-      sa : (a : ℕ) (r : Std) → Step (par x.term y.term) a r → List·Memᴰ r (map (λ p. par p y.term) (x.steps a) ++ map (λ q. par x.term q) (y.steps a))
-      sa a r (par-first h) = Memᴰ·append-left (map (λ q. par x.term q) (y.steps a)) (Memᴰ·map (λ p. par p y.term) (gx .steps-all a _ h))
-      sa a r (par-second h) = Memᴰ·append-right (map (λ p. par p y.term) (x.steps a)) (Memᴰ·map (λ q. par x.term q) (gy .steps-all a _ h))
+      sa : (a : ℕ) (r : Std) → Step (par j x.term y.term) a r → List·Memᴰ r (beside (j a) (par j) x.term y.term (x.steps a) (y.steps a))
+      sa a r (par-first e h) = in-beside-first (par j) x.term y.term (x.steps a) (y.steps a) e (gx .steps-all a _ h)
+      sa a r (par-second e h) = in-beside-second (par j) x.term y.term (x.steps a) (y.steps a) e (gy .steps-all a _ h)
+      sa a r (par-both e h k) = in-beside-both (par j) x.term y.term (x.steps a) (y.steps a) e (gx .steps-all a _ h) (gy .steps-all a _ k)
 
 module _ (p q : Std) (gp : Good (beh p)) (gq : Good (beh q)) where
   alt-good : Good (beh (alt p q))
@@ -300,12 +302,12 @@ module _ (pp qq : Cmp) (gp : CGood pp) (gq : CGood qq) where
           (in-each (holding a) (k .1)
           (subst (λ z. List·Memᴰ (held qq′ z) (map (λ r. held r ((k .0) .term)) (csteps qq a))) (k .2) (Memᴰ·map (λ r. held r ((k .0) .term)) (gq .csteps-all a qq′ h))))
 
-  cpar-good : CGood (cpar pp qq)
+  cpar-good : (j : Joint) → CGood (cpar j pp qq)
   unfolding ends
-  cpar-good = record { left-only = lo; left-all = la; csteps-only = so; csteps-all = sa }
+  cpar-good j = record { left-only = lo; left-all = la; csteps-only = so; csteps-all = sa }
     where
       in₃ : Closing → Closing → Beh → Closing → List Beh
-      in₃ u w k v = only (eqc u (join w v)) (map (λ l. parB k l) (left-by qq v))
+      in₃ u w k v = only (eqc u (join w v)) (map (λ l. parB j k l) (left-by qq v))
 
       in₂ : Closing → Closing → Beh → List Beh
       in₂ u w k = each closings (in₃ u w k)
@@ -313,34 +315,36 @@ module _ (pp qq : Cmp) (gp : CGood pp) (gq : CGood qq) where
       in₁ : Closing → Closing → List Beh
       in₁ u w = each (left-by pp w) (in₂ u w)
 
-      lo : (u : Closing) (k : Beh) → List·Memᴰ k (each closings (in₁ u)) → Good k × CEnd (cpar pp qq) u (k .term)
+      lo : (u : Closing) (k : Beh) → List·Memᴰ k (each closings (in₁ u)) → Good k × CEnd (cpar j pp qq) u (k .term)
       lo u k m =
           let f = of-each closings (in₁ u) m in
           let g = of-each (left-by pp (f .0)) (in₂ u (f .0)) (f .2) in
           let h = of-each closings (in₃ u (f .0) (g .0)) (g .2) in
           let i = of-only (eqc u (join (f .0) (h .0))) (h .2) in
           let x = gp .left-only (f .0) (g .0) (g .1) in
-          map-by (λ l. parB (g .0) l) (λ k. Good k × CEnd (cpar pp qq) u (k .term)) (left-by qq (h .0))
-          (λ l n. let y = gq .left-only (h .0) l n in (par-good (g .0) l (x .0) (y .0), cpar-joins (x .1) (y .1) (same u (join (f .0) (h .0)) (i .0)))) k (i .1)
+          map-by (λ l. parB j (g .0) l) (λ k. Good k × CEnd (cpar j pp qq) u (k .term)) (left-by qq (h .0))
+          (λ l n. let y = gq .left-only (h .0) l n in (par-good (g .0) l (x .0) (y .0) j, cpar-joins (x .1) (y .1) (same u (join (f .0) (h .0)) (i .0)))) k (i .1)
 
-      la : (u : Closing) (p : Std) → CEnd (cpar pp qq) u p → (k : Beh) × List·Memᴰ k (each closings (in₁ u)) × (k .term ≡ p)
+      la : (u : Closing) (p : Std) → CEnd (cpar j pp qq) u p → (k : Beh) × List·Memᴰ k (each closings (in₁ u)) × (k .term ≡ p)
       la u p (cpar-joins {w} {v} e f q) =
           let k = gp .left-all w _ e in
           let l = gq .left-all v _ f in (
-            parB (k .0) (l .0),
-            in-each (in₁ u) (in-closings w) (in-each (in₂ u w) (k .1) (in-each (in₃ u w (k .0)) (in-closings v) (in-only (eqc u (join w v)) (same-in u (join w v) q) (Memᴰ·map (λ z. parB (k .0) z) (l .1))))),
-            λ i. par (k .2 i) (l .2 i),
+            parB j (k .0) (l .0),
+            in-each (in₁ u) (in-closings w) (in-each (in₂ u w) (k .1) (in-each (in₃ u w (k .0)) (in-closings v) (in-only (eqc u (join w v)) (same-in u (join w v) q) (Memᴰ·map (λ z. parB j (k .0) z) (l .1))))),
+            λ i. par j (k .2 i) (l .2 i),
           )
 
-      so : (a : ℕ) (r : Cmp) → List·Memᴰ r (map (λ r. cpar r qq) (csteps pp a) ++ map (λ r. cpar pp r) (csteps qq a)) → CStep (cpar pp qq) a r
-      so a r =
-          append-by (map (λ r. cpar r qq) (csteps pp a))
-          (map-by (λ r. cpar r qq) (CStep (cpar pp qq) a) (csteps pp a) (λ r m. cpar-first (gp .csteps-only a r m)) r)
-          (map-by (λ r. cpar pp r) (CStep (cpar pp qq) a) (csteps qq a) (λ r m. cpar-second (gq .csteps-only a r m)) r)
+      so : (a : ℕ) (r : Cmp) → List·Memᴰ r (beside (j a) (cpar j) pp qq (csteps pp a) (csteps qq a)) → CStep (cpar j pp qq) a r
+      so a =
+          beside-by (cpar j) pp qq (csteps pp a) (csteps qq a) (CStep (cpar j pp qq) a) (j a)
+          (λ e r m. cpar-first e (gp .csteps-only a r m))
+          (λ e r m. cpar-second e (gq .csteps-only a r m))
+          (λ e r s m n. cpar-both e (gp .csteps-only a r m) (gq .csteps-only a s n))
 
-      sa : (a : ℕ) (r : Cmp) → CStep (cpar pp qq) a r → List·Memᴰ r (map (λ r. cpar r qq) (csteps pp a) ++ map (λ r. cpar pp r) (csteps qq a))
-      sa a r (cpar-first h) = Memᴰ·append-left (map (λ r. cpar pp r) (csteps qq a)) (Memᴰ·map (λ r. cpar r qq) (gp .csteps-all a _ h))
-      sa a r (cpar-second h) = Memᴰ·append-right (map (λ r. cpar r qq) (csteps pp a)) (Memᴰ·map (λ r. cpar pp r) (gq .csteps-all a _ h))
+      sa : (a : ℕ) (r : Cmp) → CStep (cpar j pp qq) a r → List·Memᴰ r (beside (j a) (cpar j) pp qq (csteps pp a) (csteps qq a))
+      sa a r (cpar-first e h) = in-beside-first (cpar j) pp qq (csteps pp a) (csteps qq a) e (gp .csteps-all a _ h)
+      sa a r (cpar-second e h) = in-beside-second (cpar j) pp qq (csteps pp a) (csteps qq a) e (gq .csteps-all a _ h)
+      sa a r (cpar-both e h k) = in-beside-both (cpar j) pp qq (csteps pp a) (csteps qq a) e (gp .csteps-all a _ h) (gq .csteps-all a _ k)
 
 mutual
   unfolding ends
@@ -352,7 +356,7 @@ mutual
   beh-good (ev l) = ev-good l
   beh-good (seq p q) = on-good (beh p) (beh q) (beh-good p) (beh-good q) seq-onward
   beh-good (alt p q) = alt-good p q (beh-good p) (beh-good q)
-  beh-good (par p q) = par-good (beh p) (beh q) (beh-good p) (beh-good q)
+  beh-good (par j p q) = par-good (beh p) (beh q) (beh-good p) (beh-good q) j
   beh-good (hnd p q) = on-good (beh p) (beh q) (beh-good p) (beh-good q) hnd-onward
   beh-good (blk pp) = blk-good pp (cmp-good pp)
 
@@ -360,7 +364,7 @@ mutual
   cmp-good (pair p q) = pair-good p q (beh-good p) (beh-good q)
   cmp-good (cseq pp qq) = cseq-good pp qq (cmp-good pp) (cmp-good qq)
   cmp-good (calt pp qq) = calt-good pp qq (cmp-good pp) (cmp-good qq)
-  cmp-good (cpar pp qq) = cpar-good pp qq (cmp-good pp) (cmp-good qq)
+  cmp-good (cpar j pp qq) = cpar-good pp qq (cmp-good pp) (cmp-good qq) j
   cmp-good (held qq r) = held-good qq (cmp-good qq) r (beh-good r)
 
 -- What is listed is what the rules allow --------------------------------------------------------------------------------------

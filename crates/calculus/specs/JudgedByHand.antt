@@ -3,7 +3,7 @@
 use Prim.Native.Nat.{ℕ}
 use mathlib.Core.Path.{_≡_, refl}
 use mathlib.Core.List.{List, [], _∷_, map}
-use Rattle.calculus.specs.Term.{done, withdrawn, failed, leaf, Std, skip, throw, yield, ev, seq, alt, par, blk, pair, cseq, cpar, throww, yieldd}
+use Rattle.calculus.specs.Term.{none, done, withdrawn, failed, leaf, Std, skip, throw, yield, ev, seq, alt, par, blk, pair, cseq, cpar, throww, yieldd}
 use Rattle.calculus.specs.Records.{Record, event, close, State, std, cmp}
 use Rattle.calculus.specs.Search.{Verdict, accepted, rejected, undecided, judge}
 
@@ -60,13 +60,13 @@ table =
     ∷ row (std (blk (cseq (pair a b) throww))) (A ∷ B ∷ ✓ ∷ []) big (accepted 3 4)
     ∷ row (std (blk (cseq (pair a b) throww))) (A ∷ ✓ ∷ []) big (rejected 1 2)
     ∷ row (std (blk yieldd)) (⁇ ∷ []) big (rejected 0 1)
-    ∷ row (std (par throw (seq yield a))) (⁇ ∷ []) big (rejected 0 1)
+    ∷ row (std (par none throw (seq yield a))) (⁇ ∷ []) big (rejected 0 1)
     ∷ row (std (seq (seq yield a) throw)) (⁇ ∷ []) big (accepted 1 2)
     ∷ row (std (blk (cseq (cseq (pair a b) (pair c d)) throww))) (A ∷ C ∷ D ∷ B ∷ ✓ ∷ []) big (accepted 5 6)
     ∷ row (std (blk (cseq (cseq (pair a b) (pair c d)) throww))) (A ∷ C ∷ B ∷ D ∷ ✓ ∷ []) big (rejected 2 3)
-    ∷ row (std (blk (cseq (cpar (pair a b) (pair c d)) throww))) (A ∷ C ∷ D ∷ B ∷ ✓ ∷ []) big (accepted 5 6)
-    ∷ row (std (par a a)) (A ∷ A ∷ ‼ ∷ []) 5 (rejected 2 5)
-    ∷ row (std (par a a)) (A ∷ A ∷ ‼ ∷ []) 4 (undecided 0 4)
+    ∷ row (std (blk (cseq (cpar none (pair a b) (pair c d)) throww))) (A ∷ C ∷ D ∷ B ∷ ✓ ∷ []) big (accepted 5 6)
+    ∷ row (std (par none a a)) (A ∷ A ∷ ‼ ∷ []) 5 (rejected 2 5)
+    ∷ row (std (par none a a)) (A ∷ A ∷ ‼ ∷ []) 4 (undecided 0 4)
     ∷ row (cmp (pair a b)) (A ∷ ✓ ∷ B ∷ ✓ ∷ []) big (accepted 4 5)
     ∷ []
 
@@ -81,7 +81,7 @@ judged-by-hand = refl
 pub rest : List Row
 rest =
     row (std (blk yieldd)) (✓ ∷ []) big (accepted 1 2)
-    ∷ row (std (par throw (seq yield a))) (A ∷ ‼ ∷ []) big (accepted 2 3)
+    ∷ row (std (par none throw (seq yield a))) (A ∷ ‼ ∷ []) big (accepted 2 3)
     ∷ row (cmp throww) (‼ ∷ ✓ ∷ []) big (accepted 2 3)
     ∷ []
 

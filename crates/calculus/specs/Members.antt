@@ -1,11 +1,11 @@
 -- Membership in the lists that the successor functions build, and truth of their tests. Assumes nothing.
-use mathlib.Core.Path.{_≡_, refl, subst}
+use mathlib.Core.Path.{_≡_, refl, sym, subst}
 use mathlib.Core.Logic.{_≢_, _⊎_, inl, inr}
 use mathlib.Core.Bool.{Bool, true, false, cond, not, _&&_, _||_}
 use lib.Dec.{T}
-use mathlib.Core.List.{List, [], _∷_, _++_, map, List·Memᴰ, List·Memᴰ·head, List·Memᴰ·tail, List·Memᴰ·not-nil, List·Memᴰ·append-cases, Memᴰ·append-left, Memᴰ·append-right, Memᴰ·of-map}
+use mathlib.Core.List.{List, [], _∷_, _++_, map, List·Memᴰ, List·Memᴰ·head, List·Memᴰ·tail, List·Memᴰ·not-nil, List·Memᴰ·append-cases, Memᴰ·append-left, Memᴰ·append-right, Memᴰ·map, Memᴰ·of-map}
 use Rattle.calculus.specs.Term.{Closing, done, withdrawn, failed, eqc}
-use Rattle.calculus.specs.Successors.{closings, only, some-of, each, any-at-all}
+use Rattle.calculus.specs.Successors.{beside, closings, only, some-of, each, any-at-all}
 
 pub is-true : (b : Bool) → T b → b ≡ true
 is-true true h = refl
@@ -154,3 +154,26 @@ module _ {A B : Type 0} where
 -- what holds of each of two lists holds of both together
 pub append-by : {A P : Type 0} {x : A} (xs : List A) {ys : List A} → (List·Memᴰ x xs → P) → (List·Memᴰ x ys → P) → List·Memᴰ x (xs ++ ys) → P
 append-by xs f g m = elim (List·Memᴰ·append-cases xs m) [ inl h ↦ f h | inr h ↦ g h ]
+
+-- Two sides (`beside`) ----------------------------------------------------------------------------------------------------------
+
+module _ {A : Type 0} (f : A → A → A) (p q : A) (ps qs : List A) where
+  -- what holds of each step of one side alone, where nothing is joint, and of each joint step holds of what is listed
+  pub beside-by : (P : A → Type 0) (b : Bool)
+      → (b ≡ false → (x : A) → List·Memᴰ x ps → P (f x q)) → (b ≡ false → (y : A) → List·Memᴰ y qs → P (f p y))
+      → (b ≡ true → (x y : A) → List·Memᴰ x ps → List·Memᴰ y qs → P (f x y)) → (r : A) → List·Memᴰ r (beside b f p q ps qs) → P r
+  unfolding beside
+  beside-by P true first second both r m = let g = of-each ps (λ x. map (f x) qs) m in map-by (f (g .0)) P qs (λ y n. both refl (g .0) y (g .1) n) r (g .2)
+  beside-by P false first second both r m = append-by (map (λ x. f x q) ps) (map-by (λ x. f x q) P ps (first refl) r) (map-by (f p) P qs (second refl) r) m
+
+  pub in-beside-first : {b : Bool} {x : A} → b ≡ false → List·Memᴰ x ps → List·Memᴰ (f x q) (beside b f p q ps qs)
+  unfolding beside
+  in-beside-first {x} e m = subst (λ b. List·Memᴰ (f x q) (beside b f p q ps qs)) (sym e) (Memᴰ·append-left (map (f p) qs) (Memᴰ·map (λ x. f x q) m))
+
+  pub in-beside-second : {b : Bool} {y : A} → b ≡ false → List·Memᴰ y qs → List·Memᴰ (f p y) (beside b f p q ps qs)
+  unfolding beside
+  in-beside-second {y} e m = subst (λ b. List·Memᴰ (f p y) (beside b f p q ps qs)) (sym e) (Memᴰ·append-right (map (λ x. f x q) ps) (Memᴰ·map (f p) m))
+
+  pub in-beside-both : {b : Bool} {x y : A} → b ≡ true → List·Memᴰ x ps → List·Memᴰ y qs → List·Memᴰ (f x y) (beside b f p q ps qs)
+  unfolding beside
+  in-beside-both {x} {y} e m n = subst (λ b. List·Memᴰ (f x y) (beside b f p q ps qs)) (sym e) (in-each (λ x. map (f x) qs) m (Memᴰ·map (f x) n))

@@ -5,7 +5,7 @@ use mathlib.Core.Path.{_≡_}
 use mathlib.Core.List.{List, [], _∷_, _++_, map}
 use Rattle.calculus.specs.Term.{Closing, done, failed, Std, Cmp}
 use Rattle.calculus.specs.Rules.{End, CEnd, Step, CStep, Run, CRun}
-use Rattle.calculus.specs.Traces.{tr, ct, Tr, CTr}
+use Rattle.calculus.specs.Traces.{tr, Tr, CTr}
 
 -- 01: "A record is an event 1 to 256 or a closing"
 pub data Record : Type 0 where
@@ -36,7 +36,7 @@ Complete (cmp pp) rs = (s : List ℕ) × (w : Closing) × (t : List ℕ) × (v :
 abbrev pub InTraces : State → List Record → Type 0
 InTraces over rs = rs ≡ []
 InTraces (std p) rs = (s : List ℕ) × (w : Closing) × (rs ≡ standard s w) × Tr p (tr s w)
-InTraces (cmp pp) rs = (s : List ℕ) × (w : Closing) × (t : List ℕ) × (v : Closing) × (rs ≡ compensable s w t v) × CTr pp (ct (tr s w) (tr t v))
+InTraces (cmp pp) rs = (s : List ℕ) × (w : Closing) × (t : List ℕ) × (v : Closing) × (rs ≡ compensable s w t v) × (h : CTr pp .way (tr s w)) × CTr pp .undo (tr s w) h (tr t v)
 
 -- one record, by the rules
 pub data Moves : State → Record → State → Type 0 where

@@ -8,8 +8,8 @@ use mathlib.Core.Bool.{Bool, true, false, cond, not, _&&_, _||_}
 use mathlib.Core.List.{List, [], _∷_, _++_, map, Forall₂, Forall₂·nil, Forall₂·cons}
 use lib.Dec.{leb}
 use lib.ListN.{length-map}
-use Rattle.calculus.specs.Term.{Closing, done, withdrawn, failed, Leaf, Std, Cmp, ev, seq, alt, hnd, blk, pair, cseq, calt, cpar, held, join}
-use Rattle.calculus.specs.Successors.{Beh, eqc, closings, only, some-of, each, any-at-all, ends-on, ends-both, does, skipB, seqB, parB, ends, left-by, steps, csteps}
+use Rattle.calculus.specs.Term.{Closing, done, withdrawn, failed, Leaf, Joint, Std, Cmp, ev, seq, alt, hnd, blk, pair, cseq, calt, cpar, held, join}
+use Rattle.calculus.specs.Successors.{Beh, eqc, closings, only, some-of, each, any-at-all, beside, ends-on, ends-both, does, skipB, seqB, parB, ends, left-by, steps, csteps}
 use Rattle.calculus.specs.Records.{Record, event, close, State, std, cmp, Closed, last, ClosedTwice, turn, Fits}
 use Rattle.calculus.specs.Search.{next, Seen, is-over, or-else, tries, visit, settle, judge}
 use Rattle.calculus.specs.Ahead.{passes, total, entered, Open, OpenTwice, Begins}
@@ -58,6 +58,16 @@ unfolding each
 same-each f g k [] = Forall₂·nil
 same-each f g k (x ∷ xs) = both-append (k x) (same-each f g k xs)
 
+-- the steps of two sides
+module _ {A B : Type 0} {R : A → B → Type 0} (f : A → A → A) (g : B → B → B) (k : (x x′ : A) (y y′ : B) → R x y → R x′ y′ → R (f x x′) (g y y′)) where
+  same-beside : {p q : A} {p′ q′ : B} {ps qs : List A} {ps′ qs′ : List B} (b : Bool) → R p p′ → R q q′ → Forall₂ R ps ps′ → Forall₂ R qs qs′ → Forall₂ R (beside b f p q ps qs) (beside b g p′ q′ ps′ qs′)
+  unfolding beside
+  same-beside true r t h j = both-each _ _ (λ x y i. both-map _ _ (λ x′ y′ l. k _ _ _ _ i l) j) h
+  same-beside false r t h j = both-append (both-map _ _ (λ x y i. k _ _ _ _ i t) h) (both-map _ _ (λ x y i. k _ _ _ _ r i) j)
+
+  both-beside : {b c : Bool} {p q : A} {p′ q′ : B} {ps qs : List A} {ps′ qs′ : List B} → c ≡ b → R p p′ → R q q′ → Forall₂ R ps ps′ → Forall₂ R qs qs′ → Forall₂ R (beside b f p q ps qs) (beside c g p′ q′ ps′ qs′)
+  both-beside {b} {c} {p} {q} {p′} {q′} {ps} {qs} {ps′} {qs′} e r t h j = subst (λ x. Forall₂ R (beside x f p q ps qs) (beside c g p′ q′ ps′ qs′)) e (same-beside c r t h j)
+
 -- Parts, a kind at a time ---------------------------------------------------------------------------------------------------
 
 -- ; and ▷ with what they do
@@ -93,11 +103,11 @@ module _ (f : ℕ → ℕ) (Heard : ℕ → Type 0) where
       steps = λ a h. both-append (both-map _ _ (λ p p′ k. r _ _ _ _ k (as-y .term)) (as-x .steps a h)) (both-only (ap (λ g. g u) (as-x .ends)) (as-y .steps a h));
     }
 
-    par-as : As (parB x y) (parB x′ y′)
-    par-as = record {
-      term = of-par (as-x .term) (as-y .term);
+    par-as : (j k : Joint) → ((a : ℕ) → Heard a → k a ≡ j (f a)) → As (parB j x y) (parB k x′ y′)
+    par-as j k e = record {
+      term = of-par e (as-x .term) (as-y .term);
       ends = ap₂ ends-both (as-x .ends) (as-y .ends);
-      steps = λ a h. both-append (both-map _ _ (λ p p′ k. of-par k (as-y .term)) (as-x .steps a h)) (both-map _ _ (λ q q′ k. of-par (as-x .term) k) (as-y .steps a h));
+      steps = λ a h. both-beside _ _ (λ p p′ q q′. of-par e) (e a h) (as-x .term) (as-y .term) (as-x .steps a h) (as-y .steps a h);
     }
 
     seq-as : As (seqB x y) (seqB x′ y′)
@@ -158,12 +168,12 @@ module _ (f : ℕ → ℕ) (Heard : ℕ → Type 0) where
       steps = λ a h. both-append (as-p .steps a h) (as-q .steps a h);
     }
 
-    cpar-as : CAs (cpar pp qq) (cpar pp′ qq′)
+    cpar-as : {j k : Joint} → ((a : ℕ) → Heard a → k a ≡ j (f a)) → CAs (cpar j pp qq) (cpar k pp′ qq′)
     unfolding ends
-    cpar-as = record {
-      term = of-cpar (as-p .term) (as-q .term);
-      left = λ u. same-each _ _ (λ w. both-each _ _ (λ k k′ h. same-each _ _ (λ v. same-only (eqc u (join w v)) (both-map _ _ (λ l l′ j. par-as h j) (as-q .left v))) closings) (as-p .left w)) closings;
-      steps = λ a h. both-append (both-map _ _ (λ r r′ k. of-cpar k (as-q .term)) (as-p .steps a h)) (both-map _ _ (λ r r′ k. of-cpar (as-p .term) k) (as-q .steps a h));
+    cpar-as {j} {k = j′} e = record {
+      term = of-cpar e (as-p .term) (as-q .term);
+      left = λ u. same-each _ _ (λ w. both-each _ _ (λ k k′ h. same-each _ _ (λ v. same-only (eqc u (join w v)) (both-map _ _ (λ l l′ i. par-as h i j j′ e) (as-q .left v))) closings) (as-p .left w)) closings;
+      steps = λ a h. both-beside _ _ (λ p p′ q q′. of-cpar e) (e a h) (as-p .term) (as-q .term) (as-p .steps a h) (as-q .steps a h);
     }
 
   mutual
@@ -176,7 +186,7 @@ module _ (f : ℕ → ℕ) (Heard : ℕ → Type 0) where
     beh-as (of-leaf h) = leaf-as h
     beh-as (of-seq h k) = seq-as (beh-as h) (beh-as k)
     beh-as (of-alt h k) = alt-as (beh-as h) (beh-as k)
-    beh-as (of-par h k) = par-as (beh-as h) (beh-as k)
+    beh-as (of-par e h k) = par-as (beh-as h) (beh-as k) _ _ e
     beh-as (of-hnd h k) = on-as (beh-as h) (beh-as k) hnd failed (λ p q p′ q′. of-hnd)
     beh-as (of-blk h) = blk-as (cmp-as h)
 
@@ -184,7 +194,7 @@ module _ (f : ℕ → ℕ) (Heard : ℕ → Type 0) where
     cmp-as (of-pair h k) = pair-as (beh-as h) (beh-as k)
     cmp-as (of-cseq h k) = cseq-as (cmp-as h) (cmp-as k)
     cmp-as (of-calt h k) = calt-as (cmp-as h) (cmp-as k)
-    cmp-as (of-cpar h k) = cpar-as (cmp-as h) (cmp-as k)
+    cmp-as (of-cpar e h k) = cpar-as (cmp-as h) (cmp-as k) e
     cmp-as (of-held h k) = held-as (cmp-as h) (beh-as k)
 
 -- The search ----------------------------------------------------------------------------------------------------------------

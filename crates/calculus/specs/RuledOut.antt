@@ -7,7 +7,7 @@ use mathlib.Core.Path.{_≡_, refl}
 use mathlib.Core.Logic.{_≢_, _⊎_, inl, inr, _↔_}
 use mathlib.Core.List.{List, [], _∷_}
 use native.Mathlib.Omega.{arith}
-use Rattle.calculus.specs.Term.{Closing, done, withdrawn, failed, leaf, Std, Cmp, skip, throw, yield, ev, seq, alt, par, blk, pair, cseq, throww, join}
+use Rattle.calculus.specs.Term.{Closing, done, withdrawn, failed, leaf, Joint, Std, Cmp, skip, throw, yield, ev, seq, alt, par, blk, pair, cseq, throww, join}
 use Rattle.calculus.specs.Rules.{End, CEnd, Run, closes, yield-ends, yield-yields, seq-stops, par-joins, throw-ends, blk-undoes, pair-ends, pair-stops}
 use Rattle.calculus.specs.Traces.{tr, Tr}
 use Rattle.calculus.specs.Records.{Record, event, close, State, std, Complete}
@@ -19,18 +19,18 @@ use Rattle.calculus.specs.LawsHold.{same-traces}
 use Rattle.calculus.specs.Found.{found-complete}
 
 -- "THROW parallel P equals P;THROW." False where P can yield: the one cannot end ?, the other can
-pub throw-beside : {p : Std} → End (par throw p) withdrawn → ⊥
+pub throw-beside : {j : Joint} {p : Std} → End (par j throw p) withdrawn → ⊥
 throw-beside (par-joins throw-ends f e) = other withdrawn failed tt e
 
 pub throw-after : {p : Std} → End p withdrawn → End (seq p throw) withdrawn
 throw-after e = seq-stops e (other withdrawn done tt)
 
-pub not-throw-after : (p : Std) → End p withdrawn → Same (par throw p) (seq p throw) → ⊥
-not-throw-after p e h =
+pub not-throw-after : (j : Joint) (p : Std) → End p withdrawn → Same (par j throw p) (seq p throw) → ⊥
+not-throw-after j p e h =
     let after : Tr (seq p throw) (tr [] withdrawn) = runs-are-traces (seq p throw) [] withdrawn .0 (closes (throw-after e)) in
-    no-run (runs-are-traces (par throw p) [] withdrawn .1 (same-traces h (tr [] withdrawn) .1 after))
+    no-run (runs-are-traces (par j throw p) [] withdrawn .1 (same-traces h (tr [] withdrawn) .1 after))
   where
-    no-run : Run (par throw p) [] withdrawn → ⊥
+    no-run : Run (par j throw p) [] withdrawn → ⊥
     no-run (closes f) = throw-beside f
 
 -- "Resolving a choice before a step is seen, and keeping one side only": a choice has the runs of both sides

@@ -3,10 +3,11 @@
 -- Assumes nothing.
 use Prim.Native.Nat.{ℕ}
 use mathlib.Core.Path.{_≡_}
+use mathlib.Core.Bool.{true, false}
 use mathlib.Core.Logic.{_≢_}
 use mathlib.Core.List.{List, [], _∷_}
 use lib.Dec.{T}
-use Rattle.calculus.specs.Term.{Closing, done, withdrawn, failed, Leaf, Std, Cmp, skip, throw, yield, ev, seq, alt, par, hnd, blk, pair, cseq, calt, cpar, held, join}
+use Rattle.calculus.specs.Term.{Closing, done, withdrawn, failed, Leaf, Joint, Std, Cmp, skip, throw, yield, ev, seq, alt, par, hnd, blk, pair, cseq, calt, cpar, held, join}
 
 -- Endings and compensations ---------------------------------------------------------------------------------------------
 
@@ -23,7 +24,7 @@ mutual
     hnd-stops : {p q : Std} {w : Closing} → End p w → w ≢ failed → End (hnd p q) w
     alt-left : {p q : Std} {w : Closing} → End p w → End (alt p q) w
     alt-right : {p q : Std} {w : Closing} → End q w → End (alt p q) w
-    par-joins : {p q : Std} {w v x : Closing} → End p w → End q v → x ≡ join w v → End (par p q) x
+    par-joins : {j : Joint} {p q : Std} {w v x : Closing} → End p w → End q v → x ≡ join w v → End (par j p q) x
     -- 01: "A block whose inside ends ? has no ending by it."
     blk-ends : {pp : Cmp} {k : Std} → CEnd pp done k → End (blk pp) done
     blk-undoes : {pp : Cmp} {k : Std} {w : Closing} → CEnd pp failed k → End k w → End (blk pp) w
@@ -37,7 +38,8 @@ mutual
     held-ends : {qq : Cmp} {w : Closing} {k l : Std} → CEnd qq w l → CEnd (held qq k) w (seq l k)
     calt-left : {pp qq : Cmp} {w : Closing} {k : Std} → CEnd pp w k → CEnd (calt pp qq) w k
     calt-right : {pp qq : Cmp} {w : Closing} {k : Std} → CEnd qq w k → CEnd (calt pp qq) w k
-    cpar-joins : {pp qq : Cmp} {w v x : Closing} {k l : Std} → CEnd pp w k → CEnd qq v l → x ≡ join w v → CEnd (cpar pp qq) x (par k l)
+    -- 02, Four: joint compensations are parallel with the same set
+    cpar-joins : {j : Joint} {pp qq : Cmp} {w v x : Closing} {k l : Std} → CEnd pp w k → CEnd qq v l → x ≡ join w v → CEnd (cpar j pp qq) x (par j k l)
 
 -- Steps -----------------------------------------------------------------------------------------------------------------
 
@@ -51,8 +53,10 @@ mutual
     hnd-second : {p q q′ : Std} {a : ℕ} → End p failed → Step q a q′ → Step (hnd p q) a q′
     alt-first : {p q r : Std} {a : ℕ} → Step p a r → Step (alt p q) a r
     alt-second : {p q r : Std} {a : ℕ} → Step q a r → Step (alt p q) a r
-    par-first : {p q p′ : Std} {a : ℕ} → Step p a p′ → Step (par p q) a (par p′ q)
-    par-second : {p q q′ : Std} {a : ℕ} → Step q a q′ → Step (par p q) a (par p q′)
+    par-first : {j : Joint} {p q p′ : Std} {a : ℕ} → j a ≡ false → Step p a p′ → Step (par j p q) a (par j p′ q)
+    par-second : {j : Joint} {p q q′ : Std} {a : ℕ} → j a ≡ false → Step q a q′ → Step (par j p q) a (par j p q′)
+    -- 02, Four: "an event in the set is one step of both sides"
+    par-both : {j : Joint} {p q p′ q′ : Std} {a : ℕ} → j a ≡ true → Step p a p′ → Step q a q′ → Step (par j p q) a (par j p′ q′)
     blk-first : {pp pp′ : Cmp} {a : ℕ} → CStep pp a pp′ → Step (blk pp) a (blk pp′)
     blk-second : {pp : Cmp} {k k′ : Std} {a : ℕ} → CEnd pp failed k → Step k a k′ → Step (blk pp) a k′
 
@@ -64,8 +68,9 @@ mutual
     held-step : {qq qq′ : Cmp} {k : Std} {a : ℕ} → CStep qq a qq′ → CStep (held qq k) a (held qq′ k)
     calt-first : {pp qq rr : Cmp} {a : ℕ} → CStep pp a rr → CStep (calt pp qq) a rr
     calt-second : {pp qq rr : Cmp} {a : ℕ} → CStep qq a rr → CStep (calt pp qq) a rr
-    cpar-first : {pp qq pp′ : Cmp} {a : ℕ} → CStep pp a pp′ → CStep (cpar pp qq) a (cpar pp′ qq)
-    cpar-second : {pp qq qq′ : Cmp} {a : ℕ} → CStep qq a qq′ → CStep (cpar pp qq) a (cpar pp qq′)
+    cpar-first : {j : Joint} {pp qq pp′ : Cmp} {a : ℕ} → j a ≡ false → CStep pp a pp′ → CStep (cpar j pp qq) a (cpar j pp′ qq)
+    cpar-second : {j : Joint} {pp qq qq′ : Cmp} {a : ℕ} → j a ≡ false → CStep qq a qq′ → CStep (cpar j pp qq) a (cpar j pp qq′)
+    cpar-both : {j : Joint} {pp qq pp′ qq′ : Cmp} {a : ℕ} → j a ≡ true → CStep pp a pp′ → CStep qq a qq′ → CStep (cpar j pp qq) a (cpar j pp′ qq′)
 
 -- Complete runs ---------------------------------------------------------------------------------------------------------
 

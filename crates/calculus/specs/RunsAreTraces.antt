@@ -1,23 +1,53 @@
--- The runs of a term are its traces: `runs-are-traces`, `cruns-are-traces`. Runs of the parts make runs of the whole; every term has a
--- trace that ends done or failed (`some`, `csome`), to be drawn where a second part is not entered. Assumes nothing.
+-- The runs of a term are its traces (`runs-are-traces`, `cruns-are-traces`), for all flows, also those that get stuck. For each way of
+-- making a part of parts the runs of the whole are what the operation of Traces makes of the runs of the parts (`then-runs` .. for
+-- standard parts, `cthen-runs` .. for compensable ones); the rest is recursion on terms. Assumes nothing.
 use Prim.Native.Nat.{ℕ}
 use mathlib.Core.Path.{_≡_, refl, sym, _∙_, ap, subst}
-use mathlib.Core.Logic.{_≢_, inl, inr, _↔_}
-use mathlib.Core.Bool.{Bool, true, false, cond}
+use mathlib.Core.Logic.{_≢_, _⊎_, inl, inr, _↔_}
+use mathlib.Core.Bool.{true, false}
 use mathlib.Core.List.{List, [], _∷_, _++_}
-use Rattle.calculus.specs.Term.{Closing, done, withdrawn, failed, eqc, Std, Cmp, skip, throw, yield, ev, seq, alt, par, hnd, blk, pair, cseq, calt, cpar, held, join}
-use Rattle.calculus.specs.Rules.{End, CEnd, Step, CStep, Run, closes, goes, Fwd, ccloses, cgoes, CRun, skip-ends, throw-ends, yield-ends, yield-yields, seq-on, seq-stops, hnd-on, hnd-stops, alt-left, alt-right, par-joins, blk-ends, blk-undoes, pair-ends, pair-stops, cseq-stops, cseq-on, held-ends, calt-left, calt-right, cpar-joins, ev-step, seq-first, seq-second, hnd-first, hnd-second, alt-first, alt-second, par-first, par-second, blk-first, blk-second, pair-step, cseq-first, cseq-second, held-step, calt-first, calt-second, cpar-first, cpar-second}
-use Rattle.calculus.specs.Members.{other, Compared, alike, differ, compared, cond-other, cond-both}
+use Rattle.calculus.specs.Term.{Closing, done, withdrawn, failed, Leaf, Joint, Std, Cmp, skip, throw, yield, ev, seq, alt, par, hnd, blk, pair, cseq, calt, cpar, held, join}
+use Rattle.calculus.specs.Rules.{End, Step, CStep, Run, closes, goes, Fwd, ccloses, cgoes, CRun, skip-ends, throw-ends, yield-ends, yield-yields, alt-left, alt-right, par-joins, blk-ends, blk-undoes, pair-ends, pair-stops, cseq-stops, cseq-on, held-ends, calt-left, calt-right, cpar-joins, ev-step, alt-first, alt-second, par-first, par-second, par-both, blk-first, blk-second, pair-step, cseq-first, cseq-second, held-step, calt-first, calt-second, cpar-first, cpar-second, cpar-both}
+use Rattle.calculus.specs.Members.{other}
 use Rattle.calculus.specs.Onward.{Onward, seq-onward, hnd-onward}
-use Rattle.calculus.specs.Traces.{Trace, tr, CTrace, ct, onto, onT, pairT, cthenT, heldT, Mix, mix-none, mix-left, mix-right, ParT, mixed, CParT, both, BlkT, undone, closed, Tr, CTr}
+use Rattle.calculus.specs.Traces.{Trace, tr, Traces, Pairs, onto, only, Then, stays, enters, Mix, mix-none, mix-left, mix-right, mix-both, ParT, mixed, Beside, beside, kept-by, Paired, then-undo, CThen, CEither, CBeside, Holding, Blocked, closed, undone, Tr, CTr, Within, SamePairs}
+use Rattle.calculus.specs.SetLaws.{SameSets, sets-self, sets-flip, sets-then, pairs-flip, pairs-then, then-cong, beside-cong, either-cong, blocked-cong, paired-cong, cthen-cong, ceither-cong, cbeside-cong, holding-cong}
 
-abbrev pub Runs : Std → Trace → Type 0
+-- Runs as sets ------------------------------------------------------------------------------------------------------------
+
+abbrev pub Runs : Std → Traces
 Runs p (tr s w) = Run p s w
 
-abbrev pub CRuns : Cmp → CTrace → Type 0
-CRuns pp (ct (tr s w) y) = (k : Std) × Fwd pp s w k × Runs k y
+-- a forward run, and the compensation that it leaves
+abbrev pub Ways : Cmp → Traces
+Ways pp (tr s w) = (k : Std) × Fwd pp s w k
 
--- runs of the parts make runs of the whole
+abbrev pub left-by : (pp : Cmp) (x : Trace) → Ways pp x → Std
+left-by pp (tr s w) h = h .0
+
+-- what is left stands for the set of its runs
+abbrev pub CRuns : Cmp → Pairs
+CRuns pp = record { way = Ways pp; undo = λ x h. Runs (left-by pp x h) }
+
+-- the set of pairs has one with the forward trace x and the set R
+abbrev Has : Pairs → Trace → Traces → Type 0
+Has P x R = (h : P .way x) × SameSets R (P .undo x h)
+
+-- one event before a trace
+abbrev pre : ℕ → Trace → Trace
+pre a (tr s w) = tr (a ∷ s) w
+
+pre-onto : (a : ℕ) (s : List ℕ) (y : Trace) → pre a (onto s y) ≡ onto (a ∷ s) y
+pre-onto a s (tr t v) = refl
+
+-- P may begin with a and go on as P′
+abbrev Begins : ℕ → Traces → Traces → Type 0
+Begins a P P′ = (x : Trace) → P′ x → P (pre a x)
+
+begins : {p p′ : Std} {a : ℕ} → Step p a p′ → Begins a (Runs p) (Runs p′)
+begins h (tr s w) r = goes h r
+
+-- ; and ▷ -----------------------------------------------------------------------------------------------------------------
 
 module _ {op : Std → Std → Std} {u : Closing} (o : Onward op u) where
   run-on : {p q : Std} {s t : List ℕ} {v : Closing} → Run p s u → Run q t v → Run (op p q) (s ++ t) v
@@ -29,18 +59,91 @@ module _ {op : Std → Std → Std} {u : Closing} (o : Onward op u) where
   run-stop n (closes e) = closes (o .stops e n)
   run-stop n (goes h r) = goes (o .first h) (run-stop n r)
 
-run-alt-left : {p q : Std} {s : List ℕ} {w : Closing} → Run p s w → Run (alt p q) s w
-run-alt-left (closes e) = closes (alt-left e)
-run-alt-left (goes h r) = goes (alt-first h) r
+  then-run : {p q : Std} {z : Trace} → Then u (Runs p) (Runs q) z → Runs (op p q) z
+  then-run (stays r n) = run-stop n r
+  then-run {p} {q} (enters {s} {y} r k e) = subst (Runs (op p q)) (sym e) (at y k)
+    where
+      at : (y : Trace) → Runs q y → Runs (op p q) (onto s y)
+      at (tr t v) k = run-on r k
 
-run-alt-right : {p q : Std} {s : List ℕ} {w : Closing} → Run q s w → Run (alt p q) s w
-run-alt-right (closes e) = closes (alt-right e)
-run-alt-right (goes h r) = goes (alt-second h) r
+  -- a step of the first part before a run
+  then-pre : {p p′ q : Std} {a : ℕ} → Step p a p′ → Begins a (Then u (Runs p) (Runs q)) (Then u (Runs p′) (Runs q))
+  then-pre h z (stays r n) = stays (goes h r) n
+  then-pre {a} h z (enters {s} {y} r k e) = enters {y = y} (goes h r) k (ap (pre a) e ∙ pre-onto a s y)
 
-run-par : {p q : Std} {s t r : List ℕ} {w v u : Closing} → Mix s t r → Run p s w → Run q t v → u ≡ join w v → Run (par p q) r u
-run-par mix-none (closes e) (closes f) j = closes (par-joins e f j)
-run-par (mix-left m) (goes h r) k j = goes (par-first h) (run-par m r k j)
-run-par (mix-right m) r (goes h k) j = goes (par-second h) (run-par m r k j)
+  run-then : {p q r : Std} {s : List ℕ} {w : Closing} → r ≡ op p q → Run r s w → Then u (Runs p) (Runs q) (tr s w)
+  run-then {p} {q} i (closes {w} e) = by (o .ends-as (subst (λ r. End r w) i e))
+    where
+      by : (End p w × (w ≢ u)) ⊎ (End p u × End q w) → Then u (Runs p) (Runs q) (tr [] w)
+      by (inl c) = stays (closes (c .0)) (c .1)
+      by (inr c) = enters {y = tr [] w} (closes (c .0)) (closes (c .1)) refl
+  run-then {p} {q} i (goes {p′ = r′} {a} {s} {w} h r) = by (λ p′ k. run-then k r) (o .steps-as (subst (λ r. Step r a r′) i h))
+    where
+      by : ((p′ : Std) → r′ ≡ op p′ q → Then u (Runs p′) (Runs q) (tr s w)) → ((p′ : Std) × Step p a p′ × (op p′ q ≡ r′)) ⊎ (End p u × Step q a r′) → Then u (Runs p) (Runs q) (tr (a ∷ s) w)
+      by below (inl c) = then-pre (c .1) (tr s w) (below (c .0) (sym (c .2)))
+      by below (inr c) = enters {y = tr (a ∷ s) w} (closes (c .0)) (goes (c .1) r) refl
+
+  pub then-runs : (p q : Std) → SameSets (Then u (Runs p) (Runs q)) (Runs (op p q))
+  then-runs p q (tr s w) = (λ h. then-run h, λ r. run-then refl r)
+
+-- A choice ----------------------------------------------------------------------------------------------------------------
+
+pub either-runs : (p q : Std) (z : Trace) → (Runs p z ⊎ Runs q z) ↔ Runs (alt p q) z
+either-runs p q (tr s w) = (λ h. make h, λ r. take r)
+  where
+    make : {s : List ℕ} {w : Closing} → Run p s w ⊎ Run q s w → Run (alt p q) s w
+    make (inl (closes e)) = closes (alt-left e)
+    make (inl (goes h r)) = goes (alt-first h) r
+    make (inr (closes e)) = closes (alt-right e)
+    make (inr (goes h r)) = goes (alt-second h) r
+
+    take : {s : List ℕ} {w : Closing} → Run (alt p q) s w → Run p s w ⊎ Run q s w
+    take (closes (alt-left e)) = inl (closes e)
+    take (closes (alt-right e)) = inr (closes e)
+    take (goes (alt-first h) r) = inl (goes h r)
+    take (goes (alt-second h) r) = inr (goes h r)
+
+-- Parallel ----------------------------------------------------------------------------------------------------------------
+
+-- an event of one side, or of both, before mixed traces
+module _ (j : Joint) (a : ℕ) where
+  beside-left : {P P′ Q : Traces} → j a ≡ false → Begins a P P′ → Begins a (Beside j P Q) (Beside j P′ Q)
+  beside-left n f z (beside {x} h k m) = beside (f x h) k (by m)
+    where
+      by : {x y z : Trace} → ParT j x y z → ParT j (pre a x) y (pre a z)
+      by (mixed m e) = mixed (mix-left n m) e
+
+  beside-right : {P Q Q′ : Traces} → j a ≡ false → Begins a Q Q′ → Begins a (Beside j P Q) (Beside j P Q′)
+  beside-right n g z (beside {y} h k m) = beside h (g y k) (by m)
+    where
+      by : {x y z : Trace} → ParT j x y z → ParT j x (pre a y) (pre a z)
+      by (mixed m e) = mixed (mix-right n m) e
+
+  beside-joint : {P P′ Q Q′ : Traces} → j a ≡ true → Begins a P P′ → Begins a Q Q′ → Begins a (Beside j P Q) (Beside j P′ Q′)
+  beside-joint n f g z (beside {x} {y} h k m) = beside (f x h) (g y k) (by m)
+    where
+      by : {x y z : Trace} → ParT j x y z → ParT j (pre a x) (pre a y) (pre a z)
+      by (mixed m e) = mixed (mix-both n m) e
+
+run-par : {j : Joint} {p q : Std} {s t r : List ℕ} {w v u : Closing} → Mix j s t r → Run p s w → Run q t v → u ≡ join w v → Run (par j p q) r u
+run-par mix-none (closes e) (closes f) i = closes (par-joins e f i)
+run-par (mix-left n m) (goes h r) k i = goes (par-first n h) (run-par m r k i)
+run-par (mix-right n m) r (goes h k) i = goes (par-second n h) (run-par m r k i)
+run-par (mix-both n m) (goes g r) (goes h k) i = goes (par-both n g h) (run-par m r k i)
+
+par-run : {j : Joint} {p q : Std} {s : List ℕ} {w : Closing} → Run (par j p q) s w → Beside j (Runs p) (Runs q) (tr s w)
+par-run (closes (par-joins {w} {v} e f i)) = beside {x = tr [] w} {y = tr [] v} (closes e) (closes f) (mixed mix-none i)
+par-run (goes {s} {w} (par-first {j} {a} n h) r) = beside-left j a n (begins h) (tr s w) (par-run r)
+par-run (goes {s} {w} (par-second {j} {a} n h) r) = beside-right j a n (begins h) (tr s w) (par-run r)
+par-run (goes {s} {w} (par-both {j} {a} n g h) r) = beside-joint j a n (begins g) (begins h) (tr s w) (par-run r)
+
+pub beside-runs : (j : Joint) (p q : Std) → SameSets (Beside j (Runs p) (Runs q)) (Runs (par j p q))
+beside-runs j p q (tr r u) = (λ h. by h, λ r. par-run r)
+  where
+    by : {z : Trace} → Beside j (Runs p) (Runs q) z → Runs (par j p q) z
+    by (beside r k (mixed m i)) = run-par m r k i
+
+-- A block -----------------------------------------------------------------------------------------------------------------
 
 run-undo : {pp : Cmp} {k : Std} {s t : List ℕ} {v : Closing} → Fwd pp s failed k → Run k t v → Run (blk pp) (s ++ t) v
 run-undo (ccloses e) (closes f) = closes (blk-undoes e f)
@@ -51,6 +154,34 @@ run-done : {pp : Cmp} {k : Std} {s : List ℕ} → Fwd pp s done k → Run (blk 
 run-done (ccloses e) = closes (blk-ends e)
 run-done (cgoes h f) = goes (blk-first h) (run-done f)
 
+blocked-pre : {pp pp′ : Cmp} {a : ℕ} → CStep pp a pp′ → Begins a (Blocked (CRuns pp)) (Blocked (CRuns pp′))
+blocked-pre h z (closed f) = closed (f .0, cgoes h (f .1))
+blocked-pre {a} h z (undone {s} {y} f r e) = undone {y = y} (f .0, cgoes h (f .1)) r (ap (pre a) e ∙ pre-onto a s y)
+
+blk-run : {pp : Cmp} {s : List ℕ} {w : Closing} → Run (blk pp) s w → Blocked (CRuns pp) (tr s w)
+blk-run (closes (blk-ends {k} e)) = closed (k, ccloses e)
+blk-run (closes (blk-undoes {k} {w} e f)) = undone {y = tr [] w} (k, ccloses e) (closes f) refl
+blk-run (goes {s} {w} (blk-first h) r) = blocked-pre h (tr s w) (blk-run r)
+blk-run (goes {a} {s} {w} (blk-second {k} e h) r) = undone {y = tr (a ∷ s) w} (k, ccloses e) (goes h r) refl
+
+pub blocked-runs : (pp : Cmp) → SameSets (Blocked (CRuns pp)) (Runs (blk pp))
+blocked-runs pp (tr s w) = (λ h. by h, λ r. blk-run r)
+  where
+    by : {z : Trace} → Blocked (CRuns pp) z → Runs (blk pp) z
+    by (closed f) = run-done (f .1)
+    by (undone {s} {y} f r e) = subst (Runs (blk pp)) (sym e) (at y r)
+      where
+        at : (y : Trace) → Runs (f .0) y → Runs (blk pp) (onto s y)
+        at (tr t v) r = run-undo (f .1) r
+
+-- A pair ------------------------------------------------------------------------------------------------------------------
+
+skip-run : {s : List ℕ} {w : Closing} → Run skip s w → tr s w ≡ tr [] done
+skip-run (closes skip-ends) = refl
+
+skip-runs : SameSets (only (tr [] done)) (Runs skip)
+skip-runs (tr s w) = (λ e. subst (Runs skip) (sym e) (closes skip-ends), λ r. skip-run r)
+
 fwd-pair : {p q : Std} {s : List ℕ} → Run p s done → Fwd (pair p q) s done q
 fwd-pair (closes e) = ccloses (pair-ends e)
 fwd-pair (goes h r) = cgoes (pair-step h) (fwd-pair r)
@@ -59,304 +190,200 @@ fwd-pair-stop : {p q : Std} {s : List ℕ} {w : Closing} → w ≢ done → Run 
 fwd-pair-stop n (closes e) = ccloses (pair-stops e n)
 fwd-pair-stop n (goes h r) = cgoes (pair-step h) (fwd-pair-stop n r)
 
-fwd-stop : {pp qq : Cmp} {k : Std} {s : List ℕ} {w : Closing} → w ≢ done → Fwd pp s w k → Fwd (cseq pp qq) s w k
-fwd-stop n (ccloses e) = ccloses (cseq-stops e n)
-fwd-stop n (cgoes h f) = cgoes (cseq-first h) (fwd-stop n f)
+pair-fwd : {p q m : Std} {s : List ℕ} {w : Closing} → Fwd (pair p q) s w m → Run p s w
+pair-fwd (ccloses (pair-ends e)) = closes e
+pair-fwd (ccloses (pair-stops e n)) = closes e
+pair-fwd (cgoes (pair-step h) r) = goes h (pair-fwd r)
+
+pair-keeps : {p q m : Std} {s : List ℕ} {w : Closing} → Fwd (pair p q) s w m → SameSets (Runs m) (kept-by (Runs q) (tr s w))
+pair-keeps (ccloses (pair-ends {q} e)) = sets-self (Runs q)
+pair-keeps (ccloses (pair-stops {q} {w} e n)) = by w n
+  where
+    by : (w : Closing) → w ≢ done → SameSets (Runs skip) (kept-by (Runs q) (tr [] w))
+    by done n = absurd (n refl)
+    by withdrawn n = sets-flip skip-runs
+    by failed n = sets-flip skip-runs
+pair-keeps (cgoes (pair-step h) r) = pair-keeps r
+
+pub paired-runs : (p q : Std) → SamePairs (Paired (Runs p) (Runs q)) (CRuns (pair p q))
+paired-runs p q = (λ x. make x, λ x. take x)
+  where
+    make : Within (Paired (Runs p) (Runs q)) (CRuns (pair p q))
+    make (tr s done) r = ((q, fwd-pair r), sets-self (Runs q))
+    make (tr s withdrawn) r = ((skip, fwd-pair-stop (other withdrawn done tt) r), skip-runs)
+    make (tr s failed) r = ((skip, fwd-pair-stop (other failed done tt) r), skip-runs)
+
+    take : Within (CRuns (pair p q)) (Paired (Runs p) (Runs q))
+    take (tr s w) f = (pair-fwd (f .1), pair-keeps (f .1))
+
+-- What holds a compensation, and ; -----------------------------------------------------------------------------------------
+
+-- a compensation of two, the later first
+then-left : {k l m : Std} → m ≡ seq l k → SameSets (Runs m) (Then done (Runs l) (Runs k))
+then-left {k} {l} e = subst (λ m. SameSets (Runs m) (Then done (Runs l) (Runs k))) (sym e) (sets-flip (then-runs seq-onward l k))
 
 fwd-held : {qq : Cmp} {k l : Std} {s : List ℕ} {w : Closing} → Fwd qq s w l → Fwd (held qq k) s w (seq l k)
 fwd-held (ccloses e) = ccloses (held-ends e)
 fwd-held (cgoes h f) = cgoes (held-step h) (fwd-held f)
+
+held-fwd : {qq : Cmp} {k m : Std} {s : List ℕ} {w : Closing} → Fwd (held qq k) s w m → (l : Std) × Fwd qq s w l × (m ≡ seq l k)
+held-fwd (ccloses (held-ends {l} e)) = (l, ccloses e, refl)
+held-fwd (cgoes (held-step h) f) = let c = held-fwd f in (c .0, cgoes h (c .1), c .2)
+
+pub holding-runs : (qq : Cmp) (r : Std) → SamePairs (Holding (CRuns qq) (Runs r)) (CRuns (held qq r))
+holding-runs qq r = (λ x. make x, λ x. take x)
+  where
+    make : Within (Holding (CRuns qq) (Runs r)) (CRuns (held qq r))
+    make (tr s w) f = ((seq (f .0) r, fwd-held (f .1)), then-runs seq-onward (f .0) r)
+
+    take : Within (CRuns (held qq r)) (Holding (CRuns qq) (Runs r))
+    take (tr s w) f = let c = held-fwd (f .1) in ((c .0, c .1), then-left (c .2))
+
+fwd-stop : {pp qq : Cmp} {k : Std} {s : List ℕ} {w : Closing} → w ≢ done → Fwd pp s w k → Fwd (cseq pp qq) s w k
+fwd-stop n (ccloses e) = ccloses (cseq-stops e n)
+fwd-stop n (cgoes h f) = cgoes (cseq-first h) (fwd-stop n f)
 
 fwd-on : {pp qq : Cmp} {k l : Std} {s t : List ℕ} {w : Closing} → Fwd pp s done k → Fwd qq t w l → Fwd (cseq pp qq) (s ++ t) w (seq l k)
 fwd-on (ccloses e) (ccloses f) = ccloses (cseq-on e f)
 fwd-on (ccloses e) (cgoes h f) = cgoes (cseq-second e h) (fwd-held f)
 fwd-on (cgoes h f) g = cgoes (cseq-first h) (fwd-on f g)
 
-fwd-alt-left : {pp qq : Cmp} {k : Std} {s : List ℕ} {w : Closing} → Fwd pp s w k → Fwd (calt pp qq) s w k
-fwd-alt-left (ccloses e) = ccloses (calt-left e)
-fwd-alt-left (cgoes h r) = cgoes (calt-first h) r
+cthen-pre : {pp pp′ qq : Cmp} {a : ℕ} → CStep pp a pp′ → (z : Trace) (c : Then done (CRuns pp′ .way) (CRuns qq .way) z) → Has (CThen (CRuns pp) (CRuns qq)) (pre a z) (then-undo (CRuns pp′) (CRuns qq) z c)
+cthen-pre h z (stays f n) = (stays (f .0, cgoes h (f .1)) n, sets-self (Runs (f .0)))
+cthen-pre {qq} {a} h z (enters {s} {y} f g e) = (enters {y = y} (f .0, cgoes h (f .1)) g (ap (pre a) e ∙ pre-onto a s y), sets-self (Then done (Runs (left-by qq y g)) (Runs (f .0))))
 
-fwd-alt-right : {pp qq : Cmp} {k : Std} {s : List ℕ} {w : Closing} → Fwd qq s w k → Fwd (calt pp qq) s w k
-fwd-alt-right (ccloses e) = ccloses (calt-right e)
-fwd-alt-right (cgoes h r) = cgoes (calt-second h) r
+cseq-fwd : {pp qq : Cmp} {m : Std} {s : List ℕ} {w : Closing} → Fwd (cseq pp qq) s w m → Has (CThen (CRuns pp) (CRuns qq)) (tr s w) (Runs m)
+cseq-fwd (ccloses (cseq-stops {k} e n)) = (stays (k, ccloses e) n, sets-self (Runs k))
+cseq-fwd (ccloses (cseq-on {w} {k} {l} e f)) = (enters {y = tr [] w} (k, ccloses e) (l, ccloses f) refl, then-left refl)
+cseq-fwd (cgoes {s} {w} (cseq-first h) r) = let c = cseq-fwd r in let d = cthen-pre h (tr s w) (c .0) in (d .0, sets-then (c .1) (d .1))
+cseq-fwd (cgoes {a} {s} {w} (cseq-second {k} e h) r) = let c = held-fwd r in (enters {y = tr (a ∷ s) w} (k, ccloses e) (c .0, cgoes h (c .1)) refl, then-left (c .2))
 
-fwd-par : {pp qq : Cmp} {k l : Std} {s t r : List ℕ} {w v u : Closing} → Mix s t r → Fwd pp s w k → Fwd qq t v l → u ≡ join w v → Fwd (cpar pp qq) r u (par k l)
-fwd-par mix-none (ccloses e) (ccloses f) j = ccloses (cpar-joins e f j)
-fwd-par (mix-left m) (cgoes h r) k j = cgoes (cpar-first h) (fwd-par m r k j)
-fwd-par (mix-right m) r (cgoes h k) j = cgoes (cpar-second h) (fwd-par m r k j)
-
--- the same over traces
-
-on-runs : {op : Std → Std → Std} {u : Closing} → Onward op u → (p q : Std) (x y : Trace) → Runs p x → Runs q y → Runs (op p q) (onT u x y)
-on-runs {op} {u} o p q (tr s w) (tr t v) r k = by (compared w u)
+pub cthen-runs : (pp qq : Cmp) → SamePairs (CThen (CRuns pp) (CRuns qq)) (CRuns (cseq pp qq))
+cthen-runs pp qq = (make, λ x. take x)
   where
-    by : {b : Bool} → Compared w u b → Runs (op p q) (cond b (tr (s ++ t) v) (tr s w))
-    by (alike e) = run-on o (subst (Run p s) e r) k
-    by (differ n) = run-stop o n r
+    make : Within (CThen (CRuns pp) (CRuns qq)) (CRuns (cseq pp qq))
+    make z (stays f n) = ((f .0, fwd-stop n (f .1)), sets-self (Runs (f .0)))
+    make z (enters {s} {y} f g e) = subst (λ z. Has (CRuns (cseq pp qq)) z (Then done (Runs (left-by qq y g)) (Runs (f .0)))) (sym e) (at y g)
+      where
+        at : (y : Trace) (g : Ways qq y) → Has (CRuns (cseq pp qq)) (onto s y) (Then done (Runs (left-by qq y g)) (Runs (f .0)))
+        at (tr t v) g = ((seq (g .0) (f .0), fwd-on (f .1) (g .1)), then-runs seq-onward (g .0) (f .0))
 
-par-runs : (p q : Std) {x y z : Trace} → ParT x y z → Runs p x → Runs q y → Runs (par p q) z
-par-runs p q (mixed m e) r k = run-par m r k e
+    take : Within (CRuns (cseq pp qq)) (CThen (CRuns pp) (CRuns qq))
+    take (tr s w) f = cseq-fwd (f .1)
 
-blk-runs : (pp : Cmp) {x : CTrace} {z : Trace} → BlkT x z → CRuns pp x → Runs (blk pp) z
-blk-runs pp {z} (undone {s} {y} e) r = subst (λ z. Runs (blk pp) z) (sym e) (at y (r .2))
+-- A choice of compensable parts ---------------------------------------------------------------------------------------------
+
+pub ceither-runs : (pp qq : Cmp) → SamePairs (CEither (CRuns pp) (CRuns qq)) (CRuns (calt pp qq))
+ceither-runs pp qq = (λ x. make x, λ x. take x)
   where
-    at : (y : Trace) → Runs (r .0) y → Runs (blk pp) (onto s y)
-    at (tr t v) k = run-undo (r .1) k
-blk-runs pp closed r = run-done (r .1)
+    left : {k : Std} {s : List ℕ} {w : Closing} → Fwd pp s w k → Fwd (calt pp qq) s w k
+    left (ccloses e) = ccloses (calt-left e)
+    left (cgoes h f) = cgoes (calt-first h) f
 
-pair-runs : (p q : Std) (x y : Trace) → Runs p x → Runs q y → CRuns (pair p q) (pairT x y)
-pair-runs p q (tr s done) y r k = (q, fwd-pair r, k)
-pair-runs p q (tr s withdrawn) y r k = (skip, fwd-pair-stop (other withdrawn done tt) r, closes skip-ends)
-pair-runs p q (tr s failed) y r k = (skip, fwd-pair-stop (other failed done tt) r, closes skip-ends)
+    right : {k : Std} {s : List ℕ} {w : Closing} → Fwd qq s w k → Fwd (calt pp qq) s w k
+    right (ccloses e) = ccloses (calt-right e)
+    right (cgoes h f) = cgoes (calt-second h) f
 
-cseq-runs : (pp qq : Cmp) (x y : CTrace) → CRuns pp x → CRuns qq y → CRuns (cseq pp qq) (cthenT x y)
-cseq-runs pp qq (ct (tr s done) x) (ct (tr t w) z) r k = (seq (k .0) (r .0), fwd-on (r .1) (k .1), on-runs seq-onward (k .0) (r .0) z x (k .2) (r .2))
-cseq-runs pp qq (ct (tr s withdrawn) x) (ct y z) r k = (r .0, fwd-stop (other withdrawn done tt) (r .1), r .2)
-cseq-runs pp qq (ct (tr s failed) x) (ct y z) r k = (r .0, fwd-stop (other failed done tt) (r .1), r .2)
+    make : Within (CEither (CRuns pp) (CRuns qq)) (CRuns (calt pp qq))
+    make (tr s w) (inl f) = ((f .0, left (f .1)), sets-self (Runs (f .0)))
+    make (tr s w) (inr f) = ((f .0, right (f .1)), sets-self (Runs (f .0)))
 
-held-runs : (qq : Cmp) (p : Std) (y : CTrace) (x : Trace) → CRuns qq y → Runs p x → CRuns (held qq p) (heldT y x)
-held-runs qq p (ct (tr t w) z) x k r = (seq (k .0) p, fwd-held (k .1), on-runs seq-onward (k .0) p z x (k .2) r)
+    of : {k : Std} {s : List ℕ} {w : Closing} → Fwd (calt pp qq) s w k → Has (CEither (CRuns pp) (CRuns qq)) (tr s w) (Runs k)
+    of (ccloses (calt-left {k} e)) = (inl (k, ccloses e), sets-self (Runs k))
+    of (ccloses (calt-right {k} e)) = (inr (k, ccloses e), sets-self (Runs k))
+    of (cgoes {k} (calt-first h) f) = (inl (k, cgoes h f), sets-self (Runs k))
+    of (cgoes {k} (calt-second h) f) = (inr (k, cgoes h f), sets-self (Runs k))
 
-calt-left-runs : (pp qq : Cmp) (z : CTrace) → CRuns pp z → CRuns (calt pp qq) z
-calt-left-runs pp qq (ct (tr s w) y) r = (r .0, fwd-alt-left (r .1), r .2)
+    take : Within (CRuns (calt pp qq)) (CEither (CRuns pp) (CRuns qq))
+    take (tr s w) f = of (f .1)
 
-calt-right-runs : (pp qq : Cmp) (z : CTrace) → CRuns qq z → CRuns (calt pp qq) z
-calt-right-runs pp qq (ct (tr s w) y) r = (r .0, fwd-alt-right (r .1), r .2)
+-- Compensable parts in parallel ---------------------------------------------------------------------------------------------
 
-cpar-runs : (pp qq : Cmp) {x y z : CTrace} → CParT x y z → CRuns pp x → CRuns qq y → CRuns (cpar pp qq) z
-cpar-runs pp qq (both (mixed m e) n) r k = (par (r .0) (k .0), fwd-par m (r .1) (k .1) e, par-runs (r .0) (k .0) n (r .2) (k .2))
+-- the forward runs that leave k
+abbrev Leaving : Cmp → Std → Traces
+Leaving pp k (tr s w) = Fwd pp s w k
 
-alt-left-runs : (p q : Std) (z : Trace) → Runs p z → Runs (alt p q) z
-alt-left-runs p q (tr s w) r = run-alt-left r
+cbegins : {pp pp′ : Cmp} {a : ℕ} → CStep pp a pp′ → (k : Std) → Begins a (Leaving pp k) (Leaving pp′ k)
+cbegins h k (tr s w) f = cgoes h f
 
-alt-right-runs : (p q : Std) (z : Trace) → Runs q z → Runs (alt p q) z
-alt-right-runs p q (tr s w) r = run-alt-right r
+fwd-par : {j : Joint} {pp qq : Cmp} {k l : Std} {s t r : List ℕ} {w v u : Closing} → Mix j s t r → Fwd pp s w k → Fwd qq t v l → u ≡ join w v → Fwd (cpar j pp qq) r u (par j k l)
+fwd-par mix-none (ccloses e) (ccloses f) i = ccloses (cpar-joins e f i)
+fwd-par (mix-left n m) (cgoes h f) g i = cgoes (cpar-first n h) (fwd-par m f g i)
+fwd-par (mix-right n m) f (cgoes h g) i = cgoes (cpar-second n h) (fwd-par m f g i)
+fwd-par (mix-both n m) (cgoes h f) (cgoes k g) i = cgoes (cpar-both n h k) (fwd-par m f g i)
 
+cpar-fwd : {j : Joint} {pp qq : Cmp} {m : Std} {s : List ℕ} {w : Closing} → Fwd (cpar j pp qq) s w m → (k : Std) × (l : Std) × (m ≡ par j k l) × Beside j (Leaving pp k) (Leaving qq l) (tr s w)
+cpar-fwd (ccloses (cpar-joins {w} {v} {k} {l} e f i)) = (k, l, refl, beside {x = tr [] w} {y = tr [] v} (ccloses e) (ccloses f) (mixed mix-none i))
+cpar-fwd (cgoes {s} {w} (cpar-first {j} {a} n h) f) = let c = cpar-fwd f in (c .0, c .1, c .2, beside-left j a n (cbegins h (c .0)) (tr s w) (c .3))
+cpar-fwd (cgoes {s} {w} (cpar-second {j} {a} n h) f) = let c = cpar-fwd f in (c .0, c .1, c .2, beside-right j a n (cbegins h (c .1)) (tr s w) (c .3))
+cpar-fwd (cgoes {s} {w} (cpar-both {j} {a} n g h) f) = let c = cpar-fwd f in (c .0, c .1, c .2, beside-joint j a n (cbegins g (c .0)) (cbegins h (c .1)) (tr s w) (c .3))
+
+pub cbeside-runs : (j : Joint) (pp qq : Cmp) → SamePairs (CBeside j (CRuns pp) (CRuns qq)) (CRuns (cpar j pp qq))
+cbeside-runs j pp qq = (make, λ x. take x)
+  where
+    make : Within (CBeside j (CRuns pp) (CRuns qq)) (CRuns (cpar j pp qq))
+    make z (beside f g (mixed m i)) = ((par j (f .0) (g .0), fwd-par m (f .1) (g .1) i), beside-runs j (f .0) (g .0))
+
+    of : {k l m : Std} → m ≡ par j k l → (z : Trace) → Beside j (Leaving pp k) (Leaving qq l) z → Has (CBeside j (CRuns pp) (CRuns qq)) z (Runs m)
+    of {k} {l} {m} e z (beside f g (mixed {s} {t} {w} {v} c i)) = (
+      beside {x = tr s w} {y = tr t v} (k, f) (l, g) (mixed c i),
+      subst (λ m. SameSets (Runs m) (Beside j (Runs k) (Runs l))) (sym e) (sets-flip (beside-runs j k l)),
+    )
+
+    take : Within (CRuns (cpar j pp qq)) (CBeside j (CRuns pp) (CRuns qq))
+    take (tr s w) f = let c = cpar-fwd (f .1) in of (c .2) (tr s w) (c .3)
+
+-- The two semantics agree ---------------------------------------------------------------------------------------------------
+
+throw-runs : SameSets (Runs throw) (Tr throw)
+throw-runs (tr s w) = (λ r. by r, λ e. subst (Runs throw) (sym e) (closes throw-ends))
+  where
+    by : {s : List ℕ} {w : Closing} → Run throw s w → tr s w ≡ tr [] failed
+    by (closes throw-ends) = refl
+
+yield-runs : SameSets (Runs yield) (Tr yield)
+yield-runs (tr s w) = (λ r. by r, λ h. of h)
+  where
+    by : {s : List ℕ} {w : Closing} → Run yield s w → Tr yield (tr s w)
+    by (closes yield-ends) = inr refl
+    by (closes yield-yields) = inl refl
+
+    of : {z : Trace} → Tr yield z → Runs yield z
+    of (inl e) = subst (Runs yield) (sym e) (closes yield-yields)
+    of (inr e) = subst (Runs yield) (sym e) (closes yield-ends)
+
+ev-runs : (l : Leaf) → SameSets (Runs (ev l)) (Tr (ev l))
+ev-runs l (tr s w) = (λ r. by r, λ h. subst (Runs (ev l)) (sym (h .2)) (goes (ev-step (h .1)) (closes skip-ends)))
+  where
+    by : {s : List ℕ} {w : Closing} → Run (ev l) s w → Tr (ev l) (tr s w)
+    by (goes (ev-step {a} h) r) = (a, h, ap (pre a) (skip-run r))
+
+-- in the words of sets
 mutual
-  pub trace-runs : (p : Std) (z : Trace) → Tr p z → Runs p z
-  trace-runs skip z e = subst (Runs skip) (sym e) (closes skip-ends)
-  trace-runs throw z e = subst (Runs throw) (sym e) (closes throw-ends)
-  trace-runs yield z (inl e) = subst (Runs yield) (sym e) (closes yield-yields)
-  trace-runs yield z (inr e) = subst (Runs yield) (sym e) (closes yield-ends)
-  trace-runs (ev l) z t = subst (Runs (ev l)) (sym (t .2)) (goes (ev-step (t .1)) (closes skip-ends))
-  trace-runs (seq p q) z t = subst (Runs (seq p q)) (sym (t .4)) (on-runs seq-onward p q (t .0) (t .1) (trace-runs p (t .0) (t .2)) (trace-runs q (t .1) (t .3)))
-  trace-runs (alt p q) z (inl t) = alt-left-runs p q z (trace-runs p z t)
-  trace-runs (alt p q) z (inr t) = alt-right-runs p q z (trace-runs q z t)
-  trace-runs (par p q) z t = par-runs p q (t .4) (trace-runs p (t .0) (t .2)) (trace-runs q (t .1) (t .3))
-  trace-runs (hnd p q) z t = subst (Runs (hnd p q)) (sym (t .4)) (on-runs hnd-onward p q (t .0) (t .1) (trace-runs p (t .0) (t .2)) (trace-runs q (t .1) (t .3)))
-  trace-runs (blk pp) z t = blk-runs pp (t .2) (ctrace-runs pp (t .0) (t .1))
+  pub runs-same : (p : Std) → SameSets (Runs p) (Tr p)
+  runs-same skip = sets-flip skip-runs
+  runs-same throw = throw-runs
+  runs-same yield = yield-runs
+  runs-same (ev l) = ev-runs l
+  runs-same (seq p q) = sets-then (sets-flip (then-runs seq-onward p q)) (then-cong (runs-same p) (runs-same q))
+  runs-same (alt p q) = sets-then (sets-flip (either-runs p q)) (either-cong (runs-same p) (runs-same q))
+  runs-same (par j p q) = sets-then (sets-flip (beside-runs j p q)) (beside-cong (runs-same p) (runs-same q))
+  runs-same (hnd p q) = sets-then (sets-flip (then-runs hnd-onward p q)) (then-cong (runs-same p) (runs-same q))
+  runs-same (blk pp) = sets-then (sets-flip (blocked-runs pp)) (blocked-cong (cruns-are-pairs pp))
 
-  pub ctrace-runs : (pp : Cmp) (z : CTrace) → CTr pp z → CRuns pp z
-  ctrace-runs (pair p q) z t = subst (CRuns (pair p q)) (sym (t .4)) (pair-runs p q (t .0) (t .1) (trace-runs p (t .0) (t .2)) (trace-runs q (t .1) (t .3)))
-  ctrace-runs (cseq pp qq) z t = subst (CRuns (cseq pp qq)) (sym (t .4)) (cseq-runs pp qq (t .0) (t .1) (ctrace-runs pp (t .0) (t .2)) (ctrace-runs qq (t .1) (t .3)))
-  ctrace-runs (calt pp qq) z (inl t) = calt-left-runs pp qq z (ctrace-runs pp z t)
-  ctrace-runs (calt pp qq) z (inr t) = calt-right-runs pp qq z (ctrace-runs qq z t)
-  ctrace-runs (cpar pp qq) z t = cpar-runs pp qq (t .4) (ctrace-runs pp (t .0) (t .2)) (ctrace-runs qq (t .1) (t .3))
-  ctrace-runs (held qq r) z t = subst (CRuns (held qq r)) (sym (t .4)) (held-runs qq r (t .0) (t .1) (ctrace-runs qq (t .0) (t .2)) (trace-runs r (t .1) (t .3)))
+  pub cruns-are-pairs : (pp : Cmp) → SamePairs (CRuns pp) (CTr pp)
+  cruns-are-pairs (pair p q) = pairs-then (pairs-flip (paired-runs p q)) (paired-cong (runs-same p) (runs-same q))
+  cruns-are-pairs (cseq pp qq) = pairs-then (pairs-flip (cthen-runs pp qq)) (cthen-cong (cruns-are-pairs pp) (cruns-are-pairs qq))
+  cruns-are-pairs (calt pp qq) = pairs-then (pairs-flip (ceither-runs pp qq)) (ceither-cong (cruns-are-pairs pp) (cruns-are-pairs qq))
+  cruns-are-pairs (cpar j pp qq) = pairs-then (pairs-flip (cbeside-runs j pp qq)) (cbeside-cong (cruns-are-pairs pp) (cruns-are-pairs qq))
+  cruns-are-pairs (held qq r) = pairs-then (pairs-flip (holding-runs qq r)) (holding-cong (cruns-are-pairs qq) (runs-same r))
 
--- every term has a trace, and one that is not withdrawn
-
-abbrev pub Firm : Trace → Type 0
-Firm (tr s w) = w ≢ withdrawn
-
-abbrev pub CFirm : CTrace → Type 0
-CFirm (ct x y) = Firm x × Firm y
-
-done-firm : done ≢ withdrawn
-done-firm = other done withdrawn tt
-
-failed-firm : failed ≢ withdrawn
-failed-firm = other failed withdrawn tt
-
-onto-firm : (s : List ℕ) (y : Trace) → Firm y → Firm (onto s y)
-onto-firm s (tr t v) f = f
-
-on-firm : (u : Closing) (x y : Trace) → Firm x → Firm y → Firm (onT u x y)
-on-firm u (tr s w) y f g = cond-both Firm (eqc w u) (onto s y) (tr s w) (onto-firm s y g) f
-
-mix-any : (s t : List ℕ) → Mix s t (s ++ t)
-mix-any [] [] = mix-none
-mix-any [] (a ∷ t) = mix-right (mix-any [] t)
-mix-any (a ∷ s) t = mix-left (mix-any s t)
-
-join-firm : (w v : Closing) → w ≢ withdrawn → v ≢ withdrawn → join w v ≢ withdrawn
-join-firm done v f g = g
-join-firm withdrawn v f g = absurd (f refl)
-join-firm failed v f g = f
-
-par-firm : (x y : Trace) → Firm x → Firm y → (z : Trace) × ParT x y z × Firm z
-par-firm (tr s w) (tr t v) f g = (tr (s ++ t) (join w v), mixed (mix-any s t) refl, join-firm w v f g)
-
-pair-firm : (x y : Trace) → Firm x → Firm y → CFirm (pairT x y)
-pair-firm (tr s w) y f g = (f, cond-both Firm (eqc w done) y (tr [] done) g done-firm)
-
-cthen-firm : (x y : CTrace) → CFirm x → CFirm y → CFirm (cthenT x y)
-cthen-firm (ct (tr s w) x) (ct y z) f g =
-    cond-both CFirm (eqc w done) (ct (onto s y) (onT done z x)) (ct (tr s w) x) (onto-firm s y (g .0), on-firm done z x (g .1) (f .1)) f
-
-held-firm : (y : CTrace) (x : Trace) → CFirm y → Firm x → CFirm (heldT y x)
-held-firm (ct y z) x f g = (f .0, on-firm done z x (f .1) g)
-
-cpar-firm : (x y : CTrace) → CFirm x → CFirm y → (z : CTrace) × CParT x y z × CFirm z
-cpar-firm (ct x x′) (ct y y′) f g =
-    let a = par-firm x y (f .0) (g .0) in
-    let b = par-firm x′ y′ (f .1) (g .1) in
-    (ct (a .0) (b .0), both (a .1) (b .1), (a .2, b .2))
-
-blk-firm : (x : CTrace) → CFirm x → (z : Trace) × BlkT x z × Firm z
-blk-firm (ct (tr s done) y) f = (tr s done, closed, done-firm)
-blk-firm (ct (tr s withdrawn) y) f = absurd (f .0 refl)
-blk-firm (ct (tr s failed) y) f = (onto s y, undone refl, onto-firm s y (f .1))
-
-mutual
-  pub some : (p : Std) → (z : Trace) × Tr p z × Firm z
-  some skip = (tr [] done, refl, done-firm)
-  some throw = (tr [] failed, refl, failed-firm)
-  some yield = (tr [] done, inr refl, done-firm)
-  some (ev l) = (tr (l .names ∷ []) done, (l .names, l .own, refl), done-firm)
-  some (seq p q) = let x = some p in let y = some q in (onT done (x .0) (y .0), (x .0, y .0, x .1, y .1, refl), on-firm done (x .0) (y .0) (x .2) (y .2))
-  some (alt p q) = let x = some p in (x .0, inl (x .1), x .2)
-  some (par p q) = let x = some p in let y = some q in let z = par-firm (x .0) (y .0) (x .2) (y .2) in (z .0, (x .0, y .0, x .1, y .1, z .1), z .2)
-  some (hnd p q) = let x = some p in let y = some q in (onT failed (x .0) (y .0), (x .0, y .0, x .1, y .1, refl), on-firm failed (x .0) (y .0) (x .2) (y .2))
-  some (blk pp) = let x = csome pp in let z = blk-firm (x .0) (x .2) in (z .0, (x .0, x .1, z .1), z .2)
-
-  pub csome : (pp : Cmp) → (z : CTrace) × CTr pp z × CFirm z
-  csome (pair p q) = let x = some p in let y = some q in (pairT (x .0) (y .0), (x .0, y .0, x .1, y .1, refl), pair-firm (x .0) (y .0) (x .2) (y .2))
-  csome (cseq pp qq) = let x = csome pp in let y = csome qq in (cthenT (x .0) (y .0), (x .0, y .0, x .1, y .1, refl), cthen-firm (x .0) (y .0) (x .2) (y .2))
-  csome (calt pp qq) = let x = csome pp in (x .0, inl (x .1), x .2)
-  csome (cpar pp qq) = let x = csome pp in let y = csome qq in let z = cpar-firm (x .0) (y .0) (x .2) (y .2) in (z .0, (x .0, y .0, x .1, y .1, z .1), z .2)
-  csome (held qq r) = let x = csome qq in let y = some r in (heldT (x .0) (y .0), (x .0, y .0, x .1, y .1, refl), held-firm (x .0) (y .0) (x .2) (y .2))
-
--- an ending is a trace with no events
-
-pub on-stop : (u : Closing) (s : List ℕ) (w : Closing) (y : Trace) → w ≢ u → tr s w ≡ onT u (tr s w) y
-on-stop u s w y n = sym (cond-other (onto s y) (tr s w) n)
-
-pub pair-stop : (s : List ℕ) (w : Closing) (y : Trace) → w ≢ done → ct (tr s w) (tr [] done) ≡ pairT (tr s w) y
-pair-stop s w y n = ap (ct (tr s w)) (sym (cond-other y (tr [] done) n))
-
-pub cthen-stop : (s : List ℕ) (w : Closing) (x : Trace) (y : CTrace) → w ≢ done → ct (tr s w) x ≡ cthenT (ct (tr s w) x) y
-cthen-stop s w x (ct y z) n = sym (cond-other (ct (onto s y) (onT done z x)) (ct (tr s w) x) n)
-
-onto-none : (z : Trace) → z ≡ onto [] z
-onto-none (tr s w) = refl
-
-mutual
-  end-trace : {p : Std} {w : Closing} → End p w → Tr p (tr [] w)
-  end-trace skip-ends = refl
-  end-trace throw-ends = refl
-  end-trace yield-ends = inr refl
-  end-trace yield-yields = inl refl
-  end-trace (seq-on {w} e f) = (tr [] done, tr [] w, end-trace e, end-trace f, refl)
-  end-trace (seq-stops {q} {w} e n) = let y = some q in (tr [] w, y .0, end-trace e, y .1, on-stop done [] w (y .0) n)
-  end-trace (hnd-on {w} e f) = (tr [] failed, tr [] w, end-trace e, end-trace f, refl)
-  end-trace (hnd-stops {q} {w} e n) = let y = some q in (tr [] w, y .0, end-trace e, y .1, on-stop failed [] w (y .0) n)
-  end-trace (alt-left e) = inl (end-trace e)
-  end-trace (alt-right e) = inr (end-trace e)
-  end-trace (par-joins {w} {v} e f j) = (tr [] w, tr [] v, end-trace e, end-trace f, mixed mix-none j)
-  end-trace (blk-ends {k} e) = let y = some k in (ct (tr [] done) (y .0), cend-trace e (y .0) (y .1), closed)
-  end-trace (blk-undoes {w} e f) = (ct (tr [] failed) (tr [] w), cend-trace e (tr [] w) (end-trace f), undone refl)
-
-  cend-trace : {pp : Cmp} {w : Closing} {k : Std} → CEnd pp w k → (y : Trace) → Tr k y → CTr pp (ct (tr [] w) y)
-  cend-trace (pair-ends e) y h = (tr [] done, y, end-trace e, h, refl)
-  cend-trace (pair-stops {q} {w} e n) y h = let z = some q in (tr [] w, z .0, end-trace e, z .1, ap (ct (tr [] w)) h ∙ pair-stop [] w (z .0) n)
-  cend-trace (cseq-stops {qq} {w} e n) y h = let z = csome qq in (ct (tr [] w) y, z .0, cend-trace e y h, z .1, cthen-stop [] w y (z .0) n)
-  cend-trace (cseq-on {w} e f) y h = (ct (tr [] done) (h .1), ct (tr [] w) (h .0), cend-trace e (h .1) (h .3), cend-trace f (h .0) (h .2), ap (ct (tr [] w)) (h .4))
-  cend-trace (held-ends {w} f) y h = (ct (tr [] w) (h .0), h .1, cend-trace f (h .0) (h .2), h .3, ap (ct (tr [] w)) (h .4))
-  cend-trace (calt-left e) y h = inl (cend-trace e y h)
-  cend-trace (calt-right e) y h = inr (cend-trace e y h)
-  cend-trace (cpar-joins {w} {v} e f j) y h = (ct (tr [] w) (h .0), ct (tr [] v) (h .1), cend-trace e (h .0) (h .2), cend-trace f (h .1) (h .3), both (mixed mix-none j) (h .4))
-
--- a step puts its event before a trace
-
-abbrev pre : ℕ → Trace → Trace
-pre a (tr s w) = tr (a ∷ s) w
-
-abbrev cpre : ℕ → CTrace → CTrace
-cpre a (ct x y) = ct (pre a x) y
-
-module _ (a : ℕ) where
-  pre-onto : (s : List ℕ) (y : Trace) → pre a (onto s y) ≡ onto (a ∷ s) y
-  pre-onto s (tr t v) = refl
-
-  pre-on : (u : Closing) (x y : Trace) → pre a (onT u x y) ≡ onT u (pre a x) y
-  pre-on u (tr s w) y = by (eqc w u)
-    where
-      by : (b : Bool) → pre a (cond b (onto s y) (tr s w)) ≡ cond b (onto (a ∷ s) y) (tr (a ∷ s) w)
-      by true = pre-onto s y
-      by false = refl
-
-  pre-pair : (x y : Trace) → cpre a (pairT x y) ≡ pairT (pre a x) y
-  pre-pair (tr s w) y = refl
-
-  pre-cthen : (x y : CTrace) → cpre a (cthenT x y) ≡ cthenT (cpre a x) y
-  pre-cthen (ct (tr s w) x) (ct y z) = by (eqc w done)
-    where
-      by : (b : Bool) → cpre a (cond b (ct (onto s y) (onT done z x)) (ct (tr s w) x)) ≡ cond b (ct (onto (a ∷ s) y) (onT done z x)) (ct (tr (a ∷ s) w) x)
-      by true = ap (λ u. ct u (onT done z x)) (pre-onto s y)
-      by false = refl
-
-  pre-held : (y : CTrace) (x : Trace) → cpre a (heldT y x) ≡ heldT (cpre a y) x
-  pre-held (ct y z) x = refl
-
-  pre-held-on : (y : CTrace) (x : Trace) → cpre a (heldT y x) ≡ cthenT (ct (tr [] done) x) (cpre a y)
-  pre-held-on (ct (tr s w) z) x = refl
-
-  par-left : {x y z : Trace} → ParT x y z → ParT (pre a x) y (pre a z)
-  par-left (mixed m e) = mixed (mix-left m) e
-
-  par-right : {x y z : Trace} → ParT x y z → ParT x (pre a y) (pre a z)
-  par-right (mixed m e) = mixed (mix-right m) e
-
-  cpar-left : {x y z : CTrace} → CParT x y z → CParT (cpre a x) y (cpre a z)
-  cpar-left (both f g) = both (par-left f) g
-
-  cpar-right : {x y z : CTrace} → CParT x y z → CParT x (cpre a y) (cpre a z)
-  cpar-right (both f g) = both (par-right f) g
-
-  pre-blk : {x : CTrace} {z : Trace} → BlkT x z → BlkT (cpre a x) (pre a z)
-  pre-blk (undone {s} {y} e) = undone (ap (pre a) e ∙ pre-onto s y)
-  pre-blk closed = closed
-
-mutual
-  step-trace : {p p′ : Std} {a : ℕ} → Step p a p′ → (z : Trace) → Tr p′ z → Tr p (pre a z)
-  step-trace (ev-step {a} h) z t = (a, h, ap (pre a) t)
-  step-trace (seq-first {a} h) z t = (pre a (t .0), t .1, step-trace h (t .0) (t .2), t .3, ap (pre a) (t .4) ∙ pre-on a done (t .0) (t .1))
-  step-trace (seq-second {a} e h) z t = (tr [] done, pre a z, end-trace e, step-trace h z t, onto-none (pre a z))
-  step-trace (hnd-first {a} h) z t = (pre a (t .0), t .1, step-trace h (t .0) (t .2), t .3, ap (pre a) (t .4) ∙ pre-on a failed (t .0) (t .1))
-  step-trace (hnd-second {a} e h) z t = (tr [] failed, pre a z, end-trace e, step-trace h z t, onto-none (pre a z))
-  step-trace (alt-first h) z t = inl (step-trace h z t)
-  step-trace (alt-second h) z t = inr (step-trace h z t)
-  step-trace (par-first {a} h) z t = (pre a (t .0), t .1, step-trace h (t .0) (t .2), t .3, par-left a (t .4))
-  step-trace (par-second {a} h) z t = (t .0, pre a (t .1), t .2, step-trace h (t .1) (t .3), par-right a (t .4))
-  step-trace (blk-first {a} h) z t = (cpre a (t .0), cstep-trace h (t .0) (t .1), pre-blk a (t .2))
-  step-trace (blk-second {a} e h) z t = (ct (tr [] failed) (pre a z), cend-trace e (pre a z) (step-trace h z t), undone (onto-none (pre a z)))
-
-  cstep-trace : {pp pp′ : Cmp} {a : ℕ} → CStep pp a pp′ → (z : CTrace) → CTr pp′ z → CTr pp (cpre a z)
-  cstep-trace (pair-step {a} h) z t = (pre a (t .0), t .1, step-trace h (t .0) (t .2), t .3, ap (cpre a) (t .4) ∙ pre-pair a (t .0) (t .1))
-  cstep-trace (cseq-first {a} h) z t = (cpre a (t .0), t .1, cstep-trace h (t .0) (t .2), t .3, ap (cpre a) (t .4) ∙ pre-cthen a (t .0) (t .1))
-  cstep-trace (cseq-second {a} e h) z t = (ct (tr [] done) (t .1), cpre a (t .0), cend-trace e (t .1) (t .3), cstep-trace h (t .0) (t .2), ap (cpre a) (t .4) ∙ pre-held-on a (t .0) (t .1))
-  cstep-trace (held-step {a} h) z t = (cpre a (t .0), t .1, cstep-trace h (t .0) (t .2), t .3, ap (cpre a) (t .4) ∙ pre-held a (t .0) (t .1))
-  cstep-trace (calt-first h) z t = inl (cstep-trace h z t)
-  cstep-trace (calt-second h) z t = inr (cstep-trace h z t)
-  cstep-trace (cpar-first {a} h) z t = (cpre a (t .0), t .1, cstep-trace h (t .0) (t .2), t .3, cpar-left a (t .4))
-  cstep-trace (cpar-second {a} h) z t = (t .0, cpre a (t .1), t .2, cstep-trace h (t .1) (t .3), cpar-right a (t .4))
-
-run-trace : {p : Std} {s : List ℕ} {w : Closing} → Run p s w → Tr p (tr s w)
-run-trace (closes e) = end-trace e
-run-trace (goes {s} {w} h r) = step-trace h (tr s w) (run-trace r)
-
-fwd-trace : {pp : Cmp} {s : List ℕ} {w : Closing} {k : Std} → Fwd pp s w k → (y : Trace) → Tr k y → CTr pp (ct (tr s w) y)
-fwd-trace (ccloses e) y t = cend-trace e y t
-fwd-trace (cgoes {s} {w} h f) y t = cstep-trace h (ct (tr s w) y) (fwd-trace f y t)
-
--- the two semantics agree
-
+-- and trace by trace
 pub runs-are-traces : (p : Std) (s : List ℕ) (w : Closing) → Run p s w ↔ Tr p (tr s w)
-runs-are-traces p s w = (λ r. run-trace r, λ t. trace-runs p (tr s w) t)
+runs-are-traces p s w = runs-same p (tr s w)
 
-pub cruns-are-traces : (pp : Cmp) (s : List ℕ) (w : Closing) (t : List ℕ) (v : Closing) → CRun pp s w t v ↔ CTr pp (ct (tr s w) (tr t v))
+pub cruns-are-traces : (pp : Cmp) (s : List ℕ) (w : Closing) (t : List ℕ) (v : Closing) → CRun pp s w t v ↔ ((h : CTr pp .way (tr s w)) × CTr pp .undo (tr s w) h (tr t v))
 cruns-are-traces pp s w t v = (
-  λ r. fwd-trace (r .forward) (tr t v) (run-trace (r .back)),
-  λ h. let r = ctrace-runs pp (ct (tr s w) (tr t v)) h in record { left = r .0; forward = r .1; back = r .2 },
+  λ r. let c = cruns-are-pairs pp .0 (tr s w) (r .left, r .forward) in (c .0, c .1 (tr t v) .0 (r .back)),
+  λ h. let c = cruns-are-pairs pp .1 (tr s w) (h .0) in record { left = c .0 .0; forward = c .0 .1; back = c .1 (tr t v) .0 (h .1) },
 )

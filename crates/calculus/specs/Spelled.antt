@@ -12,7 +12,7 @@ abbrev mutual
   spelled f (ev l) = f l
   spelled f (seq p q) = seq (spelled f p) (spelled f q)
   spelled f (alt p q) = alt (spelled f p) (spelled f q)
-  spelled f (par p q) = par (spelled f p) (spelled f q)
+  spelled f (par j p q) = par j (spelled f p) (spelled f q)
   spelled f (hnd p q) = hnd (spelled f p) (spelled f q)
   spelled f (blk pp) = blk (cspelled f pp)
 
@@ -20,7 +20,7 @@ abbrev mutual
   cspelled f (pair p q) = pair (spelled f p) (spelled f q)
   cspelled f (cseq pp qq) = cseq (cspelled f pp) (cspelled f qq)
   cspelled f (calt pp qq) = calt (cspelled f pp) (cspelled f qq)
-  cspelled f (cpar pp qq) = cpar (cspelled f pp) (cspelled f qq)
+  cspelled f (cpar j pp qq) = cpar j (cspelled f pp) (cspelled f qq)
   cspelled f (held qq r) = held (cspelled f qq) (spelled f r)
 
 abbrev pub spelled-state : (Leaf → Std) → State → State

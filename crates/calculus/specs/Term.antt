@@ -1,5 +1,5 @@
--- Flows as terms: standard and compensable parts (the table of sixteen kinds in 01), the form ⟨QQ, R⟩ that 002 adds for
--- states, and the three closings with their join. Definitions only. Assumes nothing.
+-- Flows as terms: standard and compensable parts (the table of kinds in 01, with the parallel of 02, Four), the form ⟨QQ, R⟩ that
+-- 002 adds for states, and the three closings with their join. Definitions only. Assumes nothing.
 use Prim.Native.Nat.{ℕ}
 use mathlib.Core.Bool.{Bool, true, false}
 use lib.Dec.{T, eqb, eqb-refl}
@@ -33,18 +33,28 @@ pub record Leaf : Type 0 where
 abbrev pub leaf : ℕ → Leaf
 leaf k = record { names = k; takes = λ a. eqb a k; own = eqb-refl k }
 
+-- The set of joint events of two parallel sides. 02, Four: "an event in the set is one step of both sides"
+abbrev pub Joint : Type 0
+Joint = ℕ → Bool
+
+-- kinds 7 and 13: nothing is joint
+abbrev pub none : Joint
+none a = false
+
 mutual
-  -- kinds 1 to 9
+  -- kinds 1 to 9, and 256 to 271: a parallel carries its set
   pub data Std : Type 0 where
     skip throw yield : Std
     ev : Leaf → Std
-    seq alt par hnd : Std → Std → Std
+    seq alt hnd : Std → Std → Std
+    par : Joint → Std → Std → Std
     blk : Cmp → Std
 
-  -- kinds 10 to 13; `held qq r` is 002's ⟨QQ, R⟩, which stands in states only
+  -- kinds 10 to 13, and 512 to 527; `held qq r` is 002's ⟨QQ, R⟩, which stands in states only
   pub data Cmp : Type 0 where
     pair : Std → Std → Cmp
-    cseq calt cpar : Cmp → Cmp → Cmp
+    cseq calt : Cmp → Cmp → Cmp
+    cpar : Joint → Cmp → Cmp → Cmp
     held : Cmp → Std → Cmp
 
 -- kinds 14 to 16. 01: "SKIPP, THROWW, YIELDD are SKIP, THROW, YIELD paired with SKIP."

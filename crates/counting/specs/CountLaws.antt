@@ -13,7 +13,7 @@ use Rattle.flow.specs.declared.Two.{Two}
 use Rattle.flow.specs.Kinds.{node, shape}
 use Rattle.flow.specs.Trees.{self, up}
 use Rattle.flow.specs.Nodes.{under-le}
-use Rattle.flow.specs.Cues.{takes-cue, cued}
+use Rattle.flow.specs.Cues.{takes-cue, cued-leaf}
 use Rattle.tallies.specs.declared.View.{View}
 use Rattle.tallies.specs.declared.Word.{Word}
 use Rattle.tallies.specs.Formulas.{skipV, evV, hndV, blkV, pairW, heldW}
@@ -77,7 +77,7 @@ module _ {ns t : List ℕ} {i : ℕ} (spot : Spot ns t i) (a : ℕ) where
     pub event-counted : {n : ℕ} → stand v (node ns j) (modes t j) ≡ standing.Event n → {c c′ : List ℕ} {y w : View} → y ≡ evV (takes-cue a n) → (w ≡ y) × Sets c i (y .moves) c′ → Counted s₀ (Plain z) i c c′ w
     unfolding std-of std-right
     event-counted {n} e {c} {c′} {y} {w} ey d =
-        none-noted s₀ spot (Plain z) true tt (d .0 ∙ ey ∙ sym (ap (view a) (is-part e) ∙ view-ev a (cued n))) (is-right e c′) (answered (Plain z) y w d)
+        none-noted s₀ spot (Plain z) true tt (d .0 ∙ ey ∙ sym (ap (view a) (is-part e) ∙ view-ev a (cued-leaf n))) (is-right e c′) (answered (Plain z) y w d)
 
     pub basic-counted : {b : Simple} → stand v (node ns j) (modes t j) ≡ standing.Basic b → {c c′ : List ℕ} {y w : View} → y ≡ simpleV b → (w ≡ y) × Sets c i (y .moves) c′ → Counted s₀ (Plain z) i c c′ w
     unfolding std-of std-right
@@ -94,9 +94,9 @@ module _ {ns t : List ℕ} {i : ℕ} (spot : Spot ns t i) (a : ℕ) where
         (d .0 ∙ ey ∙ (λ r. f (h .seen r) (k .seen r)) ∙ sym (ap (view a) (is-part e) ∙ law)) (is-right e c₃ ∙ both c₃) (answered (Plain z) y w d)
 
     pub both-counted : {o : Operator} {x : Two} → stand v (node ns j) (modes t j) ≡ standing.Both o x → {c c₁ c₂ c₃ : List ℕ} {p q y w : View}
-        → Counted s₀ (Plain v) (x .first) c c₁ p → Counted s₀ (Plain v) (x .second) c₁ c₂ q → y ≡ operatorV o p q → (w ≡ y) × Sets c₂ i (y .moves) c₃ → Counted s₀ (Plain z) i c c₃ w
+        → Counted s₀ (Plain v) (x .first) c c₁ p → Counted s₀ (Plain v) (x .second) c₁ c₂ q → y ≡ operatorV a o p q → (w ≡ y) × Sets c₂ i (y .moves) c₃ → Counted s₀ (Plain z) i c c₃ w
     unfolding std-of std-right
-    both-counted {o} e = two-counted e (rests e) (operatorV o) (view-both a o _ _) (λ c. refl)
+    both-counted {o} e = two-counted e (rests e) (operatorV a o) (view-both a o _ _) (λ c. refl)
 
     pub handler-counted : {x : Two} → stand v (node ns j) (modes t j) ≡ standing.Handler x → {c c₁ c₂ c₃ : List ℕ} {p q y w : View}
         → Counted s₀ (Plain v) (x .first) c c₁ p → Counted s₀ (Plain v) (x .second) c₁ c₂ q → y ≡ hndV p q → (w ≡ y) × Sets c₂ i (y .moves) c₃ → Counted s₀ (Plain z) i c c₃ w
@@ -174,11 +174,11 @@ module _ {ns t : List ℕ} {i : ℕ} (spot : Spot ns t i) (a : ℕ) where
         (w .0 ∙ eu ∙ same ∙ ap (λ y. pairW y q′) (f .seen) ∙ sym pair-sees) (is-run-right e c₂) (answered Running u v w)
 
   pub runs-both-counted : {o : Operator} {x : Two} → course-of (node ns i) (modes t i) ≡ course.Both o x → {c c₁ c₂ c₃ : List ℕ} {p q u v : Word}
-      → Counted s₀ Running (x .first) c c₁ p → Counted s₀ Running (x .second) c₁ c₂ q → u ≡ operatorW o p q → (v ≡ u) × Sets c₂ i (u .moves) c₃ → Counted s₀ Running i c c₃ v
+      → Counted s₀ Running (x .first) c c₁ p → Counted s₀ Running (x .second) c₁ c₂ q → u ≡ operatorW a o p q → (v ≡ u) × Sets c₂ i (u .moves) c₃ → Counted s₀ Running i c c₃ v
   unfolding run-of run-right
   runs-both-counted {o} {x} e {c₃ = c₃} {u = u} {v} f g eu w =
       two-noted s₀ spot Running (self refl) Running Running (run-rests e) f g (noted-at s₀ c₃ (x .first) .run && noted-at s₀ c₃ (x .second) .run) (λ h h′. and-in (noted-at s₀ c₃ (x .first) .run) (noted-at s₀ c₃ (x .second) .run) h h′)
-      (w .0 ∙ eu ∙ (λ y. operatorW o (f .seen y) (g .seen y)) ∙ sym (ap (word a) (is-run e) ∙ word-both a o _ _)) (is-run-right e c₃) (answered Running u v w)
+      (w .0 ∙ eu ∙ (λ y. operatorW a o (f .seen y) (g .seen y)) ∙ sym (ap (word a) (is-run e) ∙ word-both a o _ _)) (is-run-right e c₃) (answered Running u v w)
 
   pub held-counted : {x : Two} → course-of (node ns i) (modes t i) ≡ course.Held x → {c c₁ c₂ c₃ : List ℕ} {p : View} {q u v : Word}
       → Counted s₀ (Plain Undoing) (x .first) c c₁ p → Counted s₀ Running (x .second) c₁ c₂ q → u ≡ heldW q p → (v ≡ u) × Sets c₂ i (u .moves) c₃ → Counted s₀ Running i c c₃ v

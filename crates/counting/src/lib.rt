@@ -45,14 +45,14 @@ fn note_word(c: &mut [u32; 64], i: usize, v: Word) -> Word
 }
 
 // Whether a leaf of this event takes the record of the cue: it is the record's own event, or the other one.
-fn takes(cue: u32, event: u16) -> bool
+fn takes(cue: u64, event: u16) -> bool
     ensures { λ r. ⌜ r ≡ takes-cue cue event ⌝ }
 {
-    let e = event as u32;
-    (cue % 65536 == e) | (cue / 65536 == e)
+    let e = event as u64;
+    (cue % 65536 == e) | (cue / 4294967296 == e)
 }
 
-fn event_view(cue: u32, event: u16) -> View
+fn event_view(cue: u64, event: u16) -> View
     ensures { λ r. ⌜ r ≡ evV (takes-cue cue event) ⌝ }
 {
     tallies::event_view(takes(cue, event))
@@ -68,13 +68,13 @@ fn basic_view(simple: Simple) -> View
     }
 }
 
-fn both_view(operator: Operator, p: View, q: View) -> View
-    ensures { λ r. ⌜ r ≡ operatorV operator p q ⌝ }
+fn both_view(cue: u64, operator: Operator, p: View, q: View) -> View
+    ensures { λ r. ⌜ r ≡ operatorV cue operator p q ⌝ }
 {
     match operator {
         Operator::Sequence => tallies::sequence_view(p, q),
         Operator::Choice => tallies::choice_view(p, q),
-        Operator::Parallel => tallies::parallel_view(p, q),
+        Operator::Parallel(set) => tallies::parallel_view(states::joint(cue, set), p, q),
     }
 }
 
@@ -88,18 +88,18 @@ pub fn basic_word(simple: Simple) -> Word
     }
 }
 
-pub fn both_word(operator: Operator, p: Word, q: Word) -> Word
-    ensures { λ r. ⌜ r ≡ operatorW operator p q ⌝ }
+pub fn both_word(cue: u64, operator: Operator, p: Word, q: Word) -> Word
+    ensures { λ r. ⌜ r ≡ operatorW cue operator p q ⌝ }
 {
     match operator {
         Operator::Sequence => tallies::sequence_word(p, q),
         Operator::Choice => tallies::choice_word(p, q),
-        Operator::Parallel => tallies::parallel_word(p, q),
+        Operator::Parallel(set) => tallies::parallel_word(states::joint(cue, set), p, q),
     }
 }
 
 // What node i can do as a standard part. A part that is live in place of another is counted where it stands, without a call.
-pub fn count_std(ns: &[u16], t: &[u8], a: u32, c: &mut [u32; 64], i: usize, sense: Sense) -> View
+pub fn count_std(ns: &[u16], t: &[u8], a: u64, c: &mut [u32; 64], i: usize, sense: Sense) -> View
     requires { ⌜ Spot (now ns) (now t) i ⌝ }
     ensures { λ r. ⌜ Counted (scene (now (ns .entry)) (now (t .entry)) a) (Plain sense) i (now (c .entry)) (now (c .exit)) r ⌝ }
 {
@@ -113,7 +113,7 @@ pub fn count_std(ns: &[u16], t: &[u8], a: u32, c: &mut [u32; 64], i: usize, sens
             Standing::Both(operator, two) => {
                 let p = count_std(ns, t, a, c, two.first, live);
                 let q = count_std(ns, t, a, c, two.second, live);
-                return note(c, i, both_view(operator, p, q));
+                return note(c, i, both_view(a, operator, p, q));
             }
             Standing::Handler(two) => {
                 let p = count_std(ns, t, a, c, two.first, live);
@@ -133,7 +133,7 @@ pub fn count_std(ns: &[u16], t: &[u8], a: u32, c: &mut [u32; 64], i: usize, sens
 }
 
 // What node i can do as a part that runs.
-pub fn count_run(ns: &[u16], t: &[u8], a: u32, c: &mut [u32; 64], i: usize) -> Word
+pub fn count_run(ns: &[u16], t: &[u8], a: u64, c: &mut [u32; 64], i: usize) -> Word
     requires { ⌜ Spot (now ns) (now t) i ⌝ }
     ensures { λ r. ⌜ Counted (scene (now (ns .entry)) (now (t .entry)) a) Running i (now (c .entry)) (now (c .exit)) r ⌝ }
 {
@@ -152,7 +152,7 @@ pub fn count_run(ns: &[u16], t: &[u8], a: u32, c: &mut [u32; 64], i: usize) -> W
         Course::Both(operator, two) => {
             let p = count_run(ns, t, a, c, two.first);
             let q = count_run(ns, t, a, c, two.second);
-            note_word(c, i, both_word(operator, p, q))
+            note_word(c, i, both_word(a, operator, p, q))
         }
         Course::Held(two) => {
             let k = count_std(ns, t, a, c, two.first, Sense::Undoing);

@@ -8,7 +8,7 @@ use mathlib.Core.List.{List, [], _∷_, _++_}
 use Rattle.flow.specs.declared.Check.{Check}
 use Rattle.flow.specs.declared.Check.the-variants.{Fine, Refused}
 use Rattle.flow.specs.declared.Extent.{Extent}
-use Rattle.flow.specs.Refusals.{Ground, Round, lone, sweep, nodes-order, table-length-order, table-order, values-order, closing-order, records-length-order, records-order}
+use Rattle.flow.specs.Refusals.{Ground, Round, lone, sweep, sets-order, nodes-order, table-length-order, table-order, values-order, closing-order, records-length-order, records-order}
 
 ---- The first ground that holds ----
 
@@ -47,13 +47,17 @@ grounds (sweep n f ∷ (next ∷ order)) = each f 0 n ++ grounds (next ∷ order
 unfoldable pub table-length-check : List ℕ → Check
 table-length-check ns = first (grounds (table-length-order ns))
 
--- 1 to 9
-unfoldable pub table-check : List ℕ → Check
-table-check ns = first (grounds (table-order ns))
+-- 23
+unfoldable pub sets-check : List ℕ → Check
+sets-check sets = first (grounds (sets-order sets))
 
--- 4 to 9
-unfoldable pub nodes-check : List ℕ → Check
-nodes-check ns = first (grounds (nodes-order ns))
+-- 1 to 9, with 23
+unfoldable pub table-check : List ℕ → List ℕ → Check
+table-check sets ns = first (grounds (table-order sets ns))
+
+-- 4 to 9, with 22, where so many sets are present
+unfoldable pub nodes-check : ℕ → List ℕ → Check
+nodes-check many ns = first (grounds (nodes-order many ns))
 
 -- 12
 unfoldable pub values-check : List ℕ → Check

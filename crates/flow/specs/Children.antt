@@ -92,9 +92,9 @@ pub marks-none : (ns : List ℕ) → Marks ns 0 (replicate 64 false)
 unfolding taken
 marks-none ns = record { size = refl; each = λ c h. getD-replicate 64 c false false h }
 
-pub fine-node : (ns : List ℕ) (i : ℕ) → None (node-grounds ns i) → FineNode ns i
+pub fine-node : (many : ℕ) (ns : List ℕ) (i : ℕ) → None (node-grounds many ns i) → FineNode ns i
 unfolding node-grounds
-fine-node ns i (more a (more b (more c (more d (more e n))))) = record {
+fine-node many ns i (more a (more s (more b (more c (more d (more e n)))))) = record {
   known = is-false (unknown-kind ns i) a;
   fields = is-false (wrong-field ns i) b;
   lower = is-false (not-lower ns i) c;

@@ -12,7 +12,7 @@ use Rattle.flow.specs.declared.Node.the-variants.{Event, Basic, Standard
 use Rattle.flow.specs.Kinds.{node-of, form, node, one-of, two-of}
 use Rattle.flow.specs.Records.{most-events, is-event-number}
 use Rattle.flow.specs.Refusals.{wrong-field}
-use Rattle.flow.specs.EachKind.{unknown, each-kind}
+use Rattle.flow.specs.EachKind.{beyond-by, each-kind}
 use Rattle.flow.specs.Fine.{FineNode}
 use Rattle.flow.specs.Tests.{neither-one, then-false}
 
@@ -35,7 +35,7 @@ module _ (x y : ℕ) where
   carries-event : (k : ℕ) → CarriesEvent k
   carries-event =
       let no : (a : ℕ) → ⊥ → a ≡ x = λ a h. absurd h in
-      each-kind CarriesEvent no (λ a h. sym h) no no no no no no no no no no no no no no no (λ k l a h. absurd (subst (λ n. HasEvent n a) (unknown k x y l) h))
+      each-kind CarriesEvent no (λ a h. sym h) no no no no no no no no no no no no no no no (λ k l. beyond-by (λ n. (a : ℕ) → HasEvent n a → a ≡ x) k x y l (λ s. no) (λ s. no) no)
 
 module _ (ns : List ℕ) (i : ℕ) {e : ℕ} (is : node ns i ≡ Event e) where
   pub event-first : e ≡ one-of ns i

@@ -5,13 +5,14 @@ use mathlib.Core.Path.{_≡_}
 use mathlib.Core.Bool.{Bool, true, false}
 use mathlib.Core.List.{List}
 use lib.ListN.{length, getD}
-use Rattle.calculus.specs.Term.{Leaf, Std, Cmp}
+use Rattle.calculus.specs.Term.{Std, Cmp}
 use Rattle.calculus.specs.Records.{std, cmp}
 use Rattle.flow.specs.declared.Extent.{Extent}
+use Rattle.flow.specs.Legends.{Legend}
 use Rattle.flow.specs.Refusals.{count, unknown-kind, wrong-field, not-lower, wrong-sort, child-taken, nobodys-child, most-records, no-record, wrong-closings}
 use Rattle.flow.specs.Draws.{Draws}
 
--- none of 4 to 8
+-- none of 4 to 8; of 22 nothing has to be known
 pub record FineNode (ns : List ℕ) (i : ℕ) : Type 0 where
   pub known : unknown-kind ns i ≡ false
   pub fields : wrong-field ns i ≡ false
@@ -40,6 +41,6 @@ pub record FineRecords (extent : Extent) (ns rs : List ℕ) : Type 0 where
   pub closings : wrong-closings extent ns rs ≡ false
 
 -- the part that node i draws is standard (true) or compensable (false)
-pub data Drawing (leaves : ℕ → Leaf) (ns : List ℕ) (i : ℕ) : Bool → Type 0 where
-  standard-part : (p : Std) → Draws leaves ns i (std p) → Drawing leaves ns i true
-  compensable-part : (pp : Cmp) → Draws leaves ns i (cmp pp) → Drawing leaves ns i false
+pub data Drawing (legend : Legend) (ns : List ℕ) (i : ℕ) : Bool → Type 0 where
+  standard-part : (p : Std) → Draws legend ns i (std p) → Drawing legend ns i true
+  compensable-part : (pp : Cmp) → Draws legend ns i (cmp pp) → Drawing legend ns i false

@@ -16,6 +16,7 @@ use Rattle.flow.specs.Trees.{Tree}
 use Rattle.flow.specs.declared.Node.{Node}
 use Rattle.flow.specs.declared.Node.the-variants.{Unknown}
 use Rattle.flow.specs.Kinds.{node-of, form, node, one-of, two-of, shape, is-standard}
+use Rattle.flow.specs.Legends.{set-count}
 use Rattle.flow.specs.Refusals.{count, has-one, has-two, no-nodes, not-whole, too-many-nodes, wrong-sort, child-taken, nobodys-child, is-child, taken, node-grounds, child-grounds, table-order}
 use Rattle.flow.specs.Checks.{each, grounds, table-check}
 use Rattle.flow.specs.Tests.{is-false, not-both, neither-one, neither-two, then-false, same-of-xor}
@@ -28,10 +29,11 @@ module _ (ns : List ℕ) where
   unfolding child-grounds
   fine-child i (more t n) = is-false (nobodys-child ns i) t
 
-  parts-fine : None (grounds (table-order ns)) → FineTable ns
+  -- of 22 and 23 nothing has to be known
+  parts-fine : (sets : List ℕ) → None (grounds (table-order sets ns)) → FineTable ns
   unfolding no-nodes not-whole too-many-nodes
-  parts-fine (more a (more b (more c n))) =
-      let m = none-append (each (node-grounds ns) 0 (count ns)) (each (child-grounds ns) 0 (count ns - 1)) n in
+  parts-fine sets (more a (more b (more c (more d n)))) =
+      let m = none-append (each (node-grounds (set-count sets) ns) 0 (count ns)) (each (child-grounds ns) 0 (count ns - 1)) n in
       let na = eqb-false (length ns) 0 (is-false (no-nodes ns) a) in
       let nb = eqb-true (length ns % 3) 0 (not-false (eqb (length ns % 3) 0) (is-false (not-whole ns) b)) in
       let nc = ltb-false 64 (count ns) (is-false (too-many-nodes ns) c) in
@@ -39,13 +41,13 @@ module _ (ns : List ℕ) where
         some = omega (arith, na, nb);
         few = nc;
         whole = omega (arith, nb);
-        node = λ i h. fine-node ns i (none-each (node-grounds ns) 0 (count ns) i (m .0) (omega arith) (omega arith));
+        node = λ i h. fine-node (set-count sets) ns i (none-each (node-grounds (set-count sets) ns) 0 (count ns) i (m .0) (omega arith) (omega arith));
         child = λ i h. fine-child i (none-each (child-grounds ns) 0 (count ns - 1) i (m .1) (omega arith) (omega arith));
       }
 
-  pub fine-table : table-check ns ≡ Fine → FineTable ns
+  pub fine-table : (sets : List ℕ) → table-check sets ns ≡ Fine → FineTable ns
   unfolding table-check
-  fine-table e = parts-fine (fine-exactly (grounds (table-order ns)) .0 e)
+  fine-table sets e = parts-fine sets (fine-exactly (grounds (table-order sets ns)) .0 e)
 
 ---- Children ----
 

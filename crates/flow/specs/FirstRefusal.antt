@@ -18,8 +18,9 @@ use Rattle.flow.specs.declared.Check.{Check}
 use Rattle.flow.specs.declared.Check.the-variants.{Fine, Refused}
 use Rattle.flow.specs.declared.Extent.{Extent}
 use Rattle.flow.specs.declared.Extent.the-variants.{Whole, Beginning}
-use Rattle.flow.specs.Refusals.{Ground, ground, Round, lone, sweep, count, no-nodes, not-whole, too-many-nodes, no-records, too-many-records, nodes-order, table-length-order, values-order, closing-order, records-length-order}
-use Rattle.flow.specs.Checks.{refused, or-else-check, answer, first, each, grounds, table-check, table-length-check, nodes-check, records-check, records-length-check, values-check, closings-check}
+use Rattle.flow.specs.Legends.{set-count}
+use Rattle.flow.specs.Refusals.{Ground, ground, Round, lone, sweep, count, no-nodes, not-whole, too-many-nodes, no-records, too-many-records, sets-order, nodes-order, table-length-order, values-order, closing-order, records-length-order}
+use Rattle.flow.specs.Checks.{refused, or-else-check, answer, first, each, grounds, table-check, table-length-check, sets-check, nodes-check, records-check, records-length-check, values-check, closings-check}
 use Rattle.flow.specs.Earliest.{Nowhere, end, not-lone, not-sweep}
 use Rattle.flow.specs.Fine.{FineLength}
 pub use Rattle.flow.specs.Earliest.{First, here, later, None, none, more}
@@ -191,9 +192,11 @@ pub or-else-fine : {a : Check} (b : Check) → a ≡ Fine → b ≡ or-else-chec
 unfolding or-else-check
 or-else-fine b e = sym (ap (λ (x : Check). or-else-check x b) e)
 
-pub table-parts : (ns : List ℕ) → table-check ns ≡ or-else-check (table-length-check ns) (nodes-check ns)
-unfolding table-check table-length-check nodes-check
-table-parts ns = orders-append (table-length-order ns) (nodes-order ns)
+pub table-parts : (sets ns : List ℕ) → table-check sets ns ≡ or-else-check (table-length-check ns) (or-else-check (sets-check sets) (nodes-check (set-count sets) ns))
+unfolding table-check table-length-check sets-check nodes-check
+table-parts sets ns =
+    orders-append (table-length-order ns) (sets-order sets ++ nodes-order (set-count sets) ns)
+    ∙ ap (or-else-check (table-length-check ns)) (orders-append (sets-order sets) (nodes-order (set-count sets) ns))
 
 pub records-parts : (extent : Extent) (ns rs : List ℕ) → records-check extent ns rs ≡ or-else-check (records-length-check extent rs) (or-else-check (values-check rs) (closings-check extent ns rs))
 unfolding records-check records-length-check values-check closings-check

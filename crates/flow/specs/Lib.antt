@@ -2,6 +2,7 @@
 pub mod Shapes
 pub mod Kinds
 pub mod Records
+pub mod Legends
 pub mod Refusals
 pub mod Earliest
 pub mod Draws
@@ -10,6 +11,7 @@ pub mod Trees
 pub mod Drawn
 pub mod Cues
 pub mod Checks
+pub mod PlainKinds
 pub mod Forms
 pub mod Fine
 -- Theorems.
@@ -25,5 +27,6 @@ pub mod OneFlow
 pub mod EventLeaves
 pub mod DrawnLeaves
 pub mod RecordsFit
+pub mod MaskLaws
 pub mod CuedFlows
 pub mod DeafFlows

@@ -9,7 +9,7 @@ use Rattle.flow.specs.declared.Two.{Two}
 use Rattle.flow.specs.declared.Node.{Node}
 use Rattle.flow.specs.declared.Node.the-variants.{Event, Basic, Standard, Handler, Block, Pair, Compensable, Paired, Unknown}
 use Rattle.flow.specs.Kinds.{two, node-of, form, node, one-of, two-of, shape}
-use Rattle.flow.specs.EachKind.{unknown, each-kind}
+use Rattle.flow.specs.EachKind.{beyond-by, each-kind}
 use Rattle.flow.specs.Shapes.{Kid, kid1, kid2}
 use Rattle.flow.specs.Trees.{Under, Tree}
 use Rattle.flow.specs.Nodes.{disjoint}
@@ -46,7 +46,7 @@ module _ (x y : ℕ) where
   carries =
       let no : (t : Two) → ⊥ → t ≡ two x y = λ t h. absurd h in
       let so : (t : Two) → two x y ≡ t → t ≡ two x y = λ t h. sym h in
-      each-kind Carries no no no no no so so so so no so so so so no no no (λ k l t h. absurd (subst (λ n. Has n t) (unknown k x y l) h))
+      each-kind Carries no no no no no so so so so no so so so so no no no (λ k l. beyond-by (λ n. (t : Two) → Has n t → t ≡ two x y) k x y l (λ s. so) (λ s. so) no)
 
   abbrev CarriesOne : ℕ → Type 0
   CarriesOne k = (c : ℕ) → HasOne (node-of k x y) c → c ≡ x
@@ -54,7 +54,7 @@ module _ (x y : ℕ) where
   carries-one : (k : ℕ) → CarriesOne k
   carries-one =
       let no : (c : ℕ) → ⊥ → c ≡ x = λ c h. absurd h in
-      each-kind CarriesOne no no no no no no no no no (λ c h. sym h) no no no no no no no (λ k l c h. absurd (subst (λ n. HasOne n c) (unknown k x y l) h))
+      each-kind CarriesOne no no no no no no no no no (λ c h. sym h) no no no no no no no (λ k l. beyond-by (λ n. (c : ℕ) → HasOne n c → c ≡ x) k x y l (λ s. no) (λ s. no) no)
 
 has-count : (n : Node) (t : Two) → Has n t → form n .kids ≡ 2
 has-count (Event e) t h = absurd h

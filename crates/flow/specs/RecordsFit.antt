@@ -9,7 +9,7 @@ use native.Mathlib.Omega.{arith}
 use lib.Dec.{T, eqb}
 use lib.ListN.{length, getD}
 use borrow.Author.Tests.{not-false}
-use Rattle.calculus.specs.Term.{Leaf, Closing, done, withdrawn, failed, Std, Cmp}
+use Rattle.calculus.specs.Term.{Closing, done, withdrawn, failed, Std, Cmp}
 use Rattle.calculus.specs.Records.{Record, event, close, State, std, cmp, Closed, last, ClosedTwice, Fits}
 use Rattle.calculus.specs.Ahead.{Open, OpenTwice, Begins}
 use Rattle.calculus.specs.Within.{Within}
@@ -20,13 +20,14 @@ use Rattle.flow.specs.declared.Extent.the-variants.{Whole, Beginning}
 use Rattle.flow.specs.Kinds.{node, is-standard}
 use Rattle.flow.specs.Records.{done-number, withdrawn-number, failed-number, is-closing-number, record-of, records}
 use Rattle.flow.specs.Refusals.{root, no-record, closed, closings-wanted, too-many-closings, closings-allowed, wrong-closings, value-grounds, values-order, closing-order}
-use Rattle.flow.specs.Checks.{or-else-check, table-check, records-length-check, values-check, closings-check, records-check}
+use Rattle.flow.specs.Checks.{or-else-check, records-length-check, values-check, closings-check, records-check}
 use Rattle.flow.specs.Earliest.{None, Nowhere, end, not-lone, not-sweep}
 use Rattle.flow.specs.Tests.{is-false}
 use Rattle.flow.specs.Closings.{event-many, closing-many, closing-over}
 use Rattle.flow.specs.FirstRefusal.{fine-nowhere, both-fine, records-parts, few-records}
 use Rattle.flow.specs.Drawn.{flow-by}
-use Rattle.flow.specs.FineTable.{fine-table}
+use Rattle.flow.specs.FineTable.{FineTable}
+use Rattle.flow.specs.Legends.{Legend}
 use Rattle.flow.specs.OneFlow.{flow-standard, flow-compensable}
 pub use Rattle.flow.specs.Fine.{FineRecords}
 
@@ -120,34 +121,34 @@ module _ (extent : Extent) (ns rs : List ℕ) where
       right (not-lone c end) = is-false (wrong-closings extent ns rs) c
 
 -- what holds of the table's flow, by the sort of its root
-module _ (leaves : ℕ → Leaf) (ns : List ℕ) (fine : table-check ns ≡ Fine) (R : State → Type 0) where
-  by-root : ((p : Std) → is-standard (node ns (root ns)) ≡ true → R (std p)) → ((pp : Cmp) → is-standard (node ns (root ns)) ≡ false → R (cmp pp)) → R (flow-by leaves ns)
+module _ (legend : Legend) (ns : List ℕ) (fine : FineTable ns) (R : State → Type 0) where
+  by-root : ((p : Std) → is-standard (node ns (root ns)) ≡ true → R (std p)) → ((pp : Cmp) → is-standard (node ns (root ns)) ≡ false → R (cmp pp)) → R (flow-by legend ns)
   by-root when-standard when-compensable = by (is-standard (node ns (root ns))) refl
     where
-      by : (b : Bool) → is-standard (node ns (root ns)) ≡ b → R (flow-by leaves ns)
-      by true h = let p = flow-standard leaves ns (fine-table ns fine) h in subst R (sym (p .1)) (when-standard (p .0) h)
-      by false h = let p = flow-compensable leaves ns (fine-table ns fine) h in subst R (sym (p .1)) (when-compensable (p .0) h)
+      by : (b : Bool) → is-standard (node ns (root ns)) ≡ b → R (flow-by legend ns)
+      by true h = let p = flow-standard legend ns fine h in subst R (sym (p .1)) (when-standard (p .0) h)
+      by false h = let p = flow-compensable legend ns fine h in subst R (sym (p .1)) (when-compensable (p .0) h)
 
-module _ (ns rs : List ℕ) (leaves : ℕ → Leaf) (fine : table-check ns ≡ Fine) where
-  -- 13 leaves the closings that the root needs
-  pub records-fit : records-check Whole ns rs ≡ Fine → Fits (flow-by leaves ns) (records rs)
+module _ (ns rs : List ℕ) (legend : Legend) (fine : FineTable ns) where
+  -- 13 legend the closings that the root needs
+  pub records-fit : records-check Whole ns rs ≡ Fine → Fits (flow-by legend ns) (records rs)
   unfolding closings-wanted wrong-closings
   records-fit f =
       let c : closed rs (closings-wanted ns) ≡ true = not-false (closed rs (closings-wanted ns)) (fine-records Whole ns rs f .closings) in
-      by-root leaves ns fine (λ (s : State). Fits s (records rs))
+      by-root legend ns fine (λ (s : State). Fits s (records rs))
       (λ p h. closed-once rs (ap (λ (b : Bool). closed rs (cond b 1 2)) (sym h) ∙ c))
       (λ pp h. closed-twice rs (ap (λ (b : Bool). closed rs (cond b 1 2)) (sym h) ∙ c))
 
   -- and in a beginning no closing too many
-  pub records-begin : records-check Beginning ns rs ≡ Fine → Begins (flow-by leaves ns) (records rs)
+  pub records-begin : records-check Beginning ns rs ≡ Fine → Begins (flow-by legend ns) (records rs)
   unfolding closings-wanted closings-allowed wrong-closings
   records-begin f =
       let c : too-many-closings rs (closings-allowed ns) ≡ false = fine-records Beginning ns rs f .closings in
-      by-root leaves ns fine (λ (s : State). Begins s (records rs))
+      by-root legend ns fine (λ (s : State). Begins s (records rs))
       (λ p h. open-once rs (ap (λ (b : Bool). too-many-closings rs (cond b 1 2 - 1)) (sym h) ∙ c))
       (λ pp h. open-twice rs (ap (λ (b : Bool). too-many-closings rs (cond b 1 2 - 1)) (sym h) ∙ c))
 
 -- a search can go through records that pass
-pub records-within : (extent : Extent) (ns rs : List ℕ) (leaves : ℕ → Leaf) → table-check ns ≡ Fine → records-check extent ns rs ≡ Fine → Within (flow-by leaves ns) (records rs)
-records-within Whole ns rs leaves fine f = fits-within (flow-by leaves ns) (records rs) (records-fit ns rs leaves fine f)
-records-within Beginning ns rs leaves fine f = begins-within (flow-by leaves ns) (records rs) (records-begin ns rs leaves fine f)
+pub records-within : (extent : Extent) (ns rs : List ℕ) (legend : Legend) → FineTable ns → records-check extent ns rs ≡ Fine → Within (flow-by legend ns) (records rs)
+records-within Whole ns rs legend fine f = fits-within (flow-by legend ns) (records rs) (records-fit ns rs legend fine f)
+records-within Beginning ns rs legend fine f = begins-within (flow-by legend ns) (records rs) (records-begin ns rs legend fine f)

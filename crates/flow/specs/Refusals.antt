@@ -1,9 +1,10 @@
--- What is refused: the refusal table of 01, numbers 1 to 13. First each number's own condition, in the table's words. Then the
--- order in which they are looked at, as a list of rounds over grounds, each a number, a place and the condition there.
--- `ns` are the numbers of the nodes, `rs` those of the records, which are lent whole or as a beginning (02, Three): the `Extent`.
+-- What is refused: the refusal table of 01, numbers 1 to 13, and 22 and 23 of 02, Four. First each number's own condition, in the words of
+-- the documents. Then the order in which they are looked at, as a list of rounds over grounds, each a number, a place and the condition
+-- there. `ns` are the numbers of the nodes, `sets` the bytes of the lent sets, `rs` the numbers of the records, which are lent whole or as a
+-- beginning (02, Three): the `Extent`.
 -- Definitions only: Earliest says what it means that a refusal of an order is given, and Checks computes it; FineTable proves what is
 -- known of a table that is not refused. 14 belongs to whoever is lent room. Assumes nothing.
-use Prim.Native.Nat.{ℕ, zero, suc, _-_, _/_, _%_}
+use Prim.Native.Nat.{ℕ, zero, suc, _-_, _*_, _/_, _%_}
 use mathlib.Core.Bool.{Bool, true, false, not, xor, _&&_, _||_, cond}
 use mathlib.Core.List.{List, [], _∷_, _++_}
 use lib.Dec.{eqb, leb, ltb}
@@ -11,7 +12,8 @@ use lib.ListN.{length, getD}
 use Rattle.flow.specs.declared.Refusal.{Refusal}
 use Rattle.flow.specs.declared.Extent.{Extent}
 use Rattle.flow.specs.declared.Extent.the-variants.{Whole, Beginning}
-use Rattle.flow.specs.Kinds.{form, is-standard, node, one-of, two-of}
+use Rattle.flow.specs.Kinds.{form, is-standard, node, one-of, two-of, most-sets, set-number}
+use Rattle.flow.specs.Legends.{set-bytes, set-count}
 use Rattle.flow.specs.Records.{is-event-number, is-closing-number}
 
 ---- The conditions on a node table ----
@@ -50,6 +52,10 @@ module _ (ns : List ℕ) (i : ℕ) where
   unfoldable pub unknown-kind : Bool
   unknown-kind = not (form (node ns i) .known)
 
+  -- 22: "kind with a set number not present", where so many sets are
+  unfoldable pub no-such-set : ℕ → Bool
+  no-such-set many = let k : ℕ = set-number (node ns i) in ltb k most-sets && leb many k
+
   -- 5: "event out of 1 to 256, or an unused field not 0"
   unfoldable pub wrong-field : Bool
   wrong-field =
@@ -87,6 +93,12 @@ module _ (ns : List ℕ) (i : ℕ) where
   -- 9: "node other than the last is nobody's child"; the last is left out where these grounds are listed
   unfoldable pub nobodys-child : Bool
   nobodys-child = not (taken ns (count ns) i)
+
+---- The conditions on lent sets ----
+
+-- 23: "lent sets of a length no multiple of 32 or above 512"
+unfoldable pub wrong-sets : List ℕ → Bool
+wrong-sets sets = not (eqb (length sets % set-bytes) 0) || ltb (set-bytes * most-sets) (length sets)
 
 ---- The conditions on a record list ----
 
@@ -163,10 +175,11 @@ pub data Round : Type 0 where
   lone : Ground → Round
   sweep : ℕ → (ℕ → List Ground) → Round
 
--- "nodes .., each in the order 4 to 8"
-unfoldable pub node-grounds : List ℕ → ℕ → List Ground
-node-grounds ns i =
+-- "nodes .., each in the order 4 to 8"; 22 "right after 4"
+unfoldable pub node-grounds : ℕ → List ℕ → ℕ → List Ground
+node-grounds many ns i =
     ground 4 i (unknown-kind ns i)
+    ∷ ground 22 i (no-such-set ns i many)
     ∷ ground 5 i (wrong-field ns i)
     ∷ ground 6 i (not-lower ns i)
     ∷ ground 7 i (wrong-sort ns i)
@@ -177,17 +190,21 @@ unfoldable pub child-grounds : List ℕ → ℕ → List Ground
 child-grounds ns i = ground 9 i (nobodys-child ns i) ∷ []
 
 -- "then nodes from 0 up ..; then 9", which is of no place but a "node other than the last"
-abbrev pub nodes-order : List ℕ → List Round
-nodes-order ns = sweep (count ns) (node-grounds ns) ∷ sweep (count ns - 1) (child-grounds ns) ∷ []
+abbrev pub nodes-order : ℕ → List ℕ → List Round
+nodes-order many ns = sweep (count ns) (node-grounds many ns) ∷ sweep (count ns - 1) (child-grounds ns) ∷ []
 
 -- "Judging checks 1 to 3"
 abbrev pub table-length-order : List ℕ → List Round
 table-length-order ns =
     lone (ground 1 0 (no-nodes ns)) ∷ lone (ground 2 0 (not-whole ns)) ∷ lone (ground 3 0 (too-many-nodes ns)) ∷ []
 
--- "Judging checks 1 to 3; then nodes"
-abbrev pub table-order : List ℕ → List Round
-table-order ns = table-length-order ns ++ nodes-order ns
+-- 23, "place 0"
+abbrev pub sets-order : List ℕ → List Round
+sets-order sets = lone (ground 23 0 (wrong-sets sets)) ∷ []
+
+-- "Judging checks 1 to 3; then nodes"; 23 "just before the nodes"
+abbrev pub table-order : List ℕ → List ℕ → List Round
+table-order sets ns = table-length-order ns ++ (sets-order sets ++ nodes-order (set-count sets) ns)
 
 unfoldable pub value-grounds : List ℕ → ℕ → List Ground
 value-grounds rs i = ground 12 i (no-record (getD rs i 0)) ∷ []

@@ -1,18 +1,19 @@
-// Node tables and record lists: what is refused, in the order of document 01's table, and what stands in a node.
-// `check_table` answers the first of the refusals 1 to 9, `check_records` of 10 to 13, by whether the records are lent whole or as a
-// beginning; the parts of both that the flow file's reader and writer want by themselves are public too. The definitions that the contracts cite are in specs/. Nothing is written here
-// but marks of the function's own, and no lent slice is changed.
+// Node tables, the sets of joint events and record lists: what is refused, in the order of document 01's table and of 02, and what stands in
+// a node. `check_table` answers the first of the refusals 1 to 9, 22 and 23, `check_records` of 10 to 13, by whether the records are lent
+// whole or as a beginning; the parts of both that the flow file's reader and writer want by themselves are public too. The definitions that
+// the contracts cite are in specs/. Nothing is written here but marks of the function's own, and no lent slice is changed.
 ghost use mathlib.Core.Path.{_≡_};
 ghost use mathlib.Core.Bool.{true, false, cond, xor, _&&_};
 ghost use Prim.Native.Nat.{_+_, _*_, _-_, _<_, _≤_};
 ghost use lib.Dec.{T};
 ghost use lib.ListN.{length, getD, set};
 ghost use Rattle.flow.specs.declared.Extent.the-variants.{Whole, Beginning};
-ghost use Rattle.flow.specs.Kinds.{node-of, node, one-of, two-of, form, is-standard};
+ghost use Rattle.flow.specs.PlainKinds.{plain-kind, kind-set};
+ghost use Rattle.flow.specs.Kinds.{node-of, node, one-of, two-of, form, is-standard, operator-set, set-number};
 ghost use Rattle.flow.specs.Forms.{leaf-form, branch-form, Marks};
 ghost use Rattle.flow.specs.Records.{is-event-number, is-closing-number};
-ghost use Rattle.flow.specs.Refusals.{unknown-kind, wrong-field, not-lower, wrong-sort, child-taken, no-record, closings-wanted, node-grounds, child-grounds, count};
-ghost use Rattle.flow.specs.Checks.{refused, first, each, table-length-check, table-check, nodes-check, values-check, closings-check, records-length-check, records-check};
+ghost use Rattle.flow.specs.Refusals.{unknown-kind, no-such-set, wrong-field, not-lower, wrong-sort, child-taken, no-record, closings-wanted, node-grounds, child-grounds, count};
+ghost use Rattle.flow.specs.Checks.{refused, first, each, table-length-check, sets-check, table-check, nodes-check, values-check, closings-check, records-length-check, records-check};
 
 // A refusal of document 01: its number, and the node or record that it names.
 pub struct Refusal {
@@ -38,11 +39,11 @@ pub enum Simple {
     Yield,
 }
 
-// What joins two parts of either sort.
+// What joins two parts of either sort. A parallel has the number of its set of joint events, or `NO_SET`.
 pub enum Operator {
     Sequence,
     Choice,
-    Parallel,
+    Parallel(u16),
 }
 
 // The two children of a node.
@@ -82,11 +83,18 @@ pub const WITHDRAWN: u16 = 61442;
 pub const FAILED: u16 = 61443;
 
 // The cues of the first two, beside 65535, which is no event's (specs/Cues.antt); that of the third is above them.
-pub const DONE_CUE: u32 = 4294963201;
+pub const DONE_CUE: u64 = 281470681804801;
 
-pub const WITHDRAWN_CUE: u32 = 4294963202;
+pub const WITHDRAWN_CUE: u64 = 281470681804802;
 
 const MOST_EVENTS: u16 = 256;
+
+// How many sets of joint events there may be, and how many bytes each has. No set has the number behind the last one's.
+pub const MOST_SETS: usize = 16;
+
+pub const SET_BYTES: usize = 32;
+
+pub const NO_SET: u16 = 16;
 
 pub const MOST_NODES: usize = 64;
 
@@ -102,6 +110,8 @@ pub const NO_RECORDS: u16 = 10;
 pub const TOO_MANY_RECORDS: u16 = 11;
 
 pub const NO_ROOM: u16 = 14;
+
+pub const WRONG_SETS: u16 = 23;
 
 // A part without children.
 fn leaf(standard: bool, event: bool) -> Form
@@ -129,8 +139,32 @@ fn branch(standard: bool, kids: u8, inner: bool) -> Form
     }
 }
 
-// The sixteen kinds, by a node's three numbers. Each number has an arm of its own: ranges are lowered to a chain of tests, and every
-// visit of a node comes through here.
+// A kind without its set: the kinds with one are two ranges, of the parallels 7 and 13.
+fn plain_kind(kind: u16) -> u16
+    ensures { λ r. ⌜ r ≡ plain-kind kind ⌝ }
+{
+    if kind < 256 {
+        return kind;
+    }
+    match kind {
+        256..=271 => 7,
+        512..=527 => 13,
+        _ => 0,
+    }
+}
+
+// The number of the set that a parallel's kind has, if it has one.
+fn kind_set(kind: u16) -> u16
+    ensures { λ r. ⌜ r ≡ kind-set kind ⌝ }
+{
+    if kind < 256 {
+        return NO_SET;
+    }
+    kind % 256
+}
+
+// The kinds, by a node's three numbers. Each of the sixteen has an arm of its own: ranges are lowered to a chain of tests, and every visit
+// of a node comes through here. Those with a set are told apart before, by one test of all others.
 fn node_of(kind: u16, first: u16, second: u16) -> Node
     ensures { λ r. ⌜ r ≡ node-of kind first second ⌝ }
 {
@@ -138,20 +172,20 @@ fn node_of(kind: u16, first: u16, second: u16) -> Node
         first: first as usize,
         second: second as usize,
     };
-    match kind {
+    match plain_kind(kind) {
         1 => Node::Event(first),
         2 => Node::Basic(Simple::Skip),
         3 => Node::Basic(Simple::Throw),
         4 => Node::Basic(Simple::Yield),
         5 => Node::Standard(Operator::Sequence, two),
         6 => Node::Standard(Operator::Choice, two),
-        7 => Node::Standard(Operator::Parallel, two),
+        7 => Node::Standard(Operator::Parallel(kind_set(kind)), two),
         8 => Node::Handler(two),
         9 => Node::Block(first as usize),
         10 => Node::Pair(two),
         11 => Node::Compensable(Operator::Sequence, two),
         12 => Node::Compensable(Operator::Choice, two),
-        13 => Node::Compensable(Operator::Parallel, two),
+        13 => Node::Compensable(Operator::Parallel(kind_set(kind)), two),
         14 => Node::Paired(Simple::Skip),
         15 => Node::Paired(Simple::Throw),
         16 => Node::Paired(Simple::Yield),
@@ -179,6 +213,28 @@ fn form_of(node: Node) -> Form
             kids: 0,
             inner: false,
         },
+    }
+}
+
+// The number of the operator's set, if it has one.
+fn operator_set(operator: Operator) -> u16
+    ensures { λ r. ⌜ r ≡ operator-set operator ⌝ }
+{
+    match operator {
+        Operator::Sequence => NO_SET,
+        Operator::Choice => NO_SET,
+        Operator::Parallel(set) => set,
+    }
+}
+
+// The number of the node's set, if it has one.
+fn set_number(node: Node) -> u16
+    ensures { λ r. ⌜ r ≡ set-number node ⌝ }
+{
+    match node {
+        Node::Standard(operator, _) => operator_set(operator),
+        Node::Compensable(operator, _) => operator_set(operator),
+        _ => NO_SET,
     }
 }
 
@@ -258,6 +314,15 @@ fn unknown_kind(nodes: &[u16], i: usize) -> bool
     !form.known
 }
 
+// 22 of node i, where so many sets are present.
+fn no_such_set(nodes: &[u16], i: usize, many: usize) -> bool
+    requires { ⌜ 3 * i + 2 < length (now nodes) ⌝ }
+    ensures { λ r. ⌜ r ≡ no-such-set (now (nodes .entry)) i many ⌝ }
+{
+    let set = set_number(node_at(nodes, i)) as usize;
+    (set < MOST_SETS) & (many <= set)
+}
+
 // 5 of node i.
 fn wrong_field(nodes: &[u16], i: usize) -> bool
     requires { ⌜ 3 * i + 2 < length (now nodes) ⌝ }
@@ -330,15 +395,18 @@ fn child_taken(nodes: &[u16], i: usize, marks: &[bool; 64]) -> bool
     marked(marks, first, form.kids != 0) | (marked(marks, second, two) | (two & (first == second)))
 }
 
-// 4 to 8 of node i.
-fn check_node(nodes: &[u16], i: usize, marks: &[bool; 64]) -> Check
+// 4 to 8 of node i, with 22.
+fn check_node(nodes: &[u16], i: usize, many: usize, marks: &[bool; 64]) -> Check
     requires { ⌜ 3 * i + 2 < length (now nodes) ⌝ }
     requires { ⌜ i < 64 ⌝ }
     requires { ⌜ Marks (now nodes) i (now marks) ⌝ }
-    ensures { λ r. ⌜ r ≡ first (node-grounds (now (nodes .entry)) i) ⌝ }
+    ensures { λ r. ⌜ r ≡ first (node-grounds many (now (nodes .entry)) i) ⌝ }
 {
     if unknown_kind(nodes, i) {
         return refuse(4, i);
+    }
+    if no_such_set(nodes, i, many) {
+        return refuse(22, i);
     }
     if wrong_field(nodes, i) {
         return refuse(5, i);
@@ -397,16 +465,16 @@ fn check_children(nodes: &[u16], marks: &[bool; 64]) -> Check
     Check::Fine
 }
 
-// 4 to 9, of at most 64 whole nodes.
-pub fn check_nodes(nodes: &[u16]) -> Check
+// 4 to 9, with 22, of at most 64 whole nodes, where so many sets are present.
+pub fn check_nodes(nodes: &[u16], many: usize) -> Check
     requires { ⌜ length (now nodes) ≤ 192 ⌝ }
-    ensures { λ r. ⌜ r ≡ nodes-check (now (nodes .entry)) ⌝ }
+    ensures { λ r. ⌜ r ≡ nodes-check many (now (nodes .entry)) ⌝ }
 {
     let n = nodes.len() / 3;
     let mut marks = [false; 64];
     let mut i = 0;
     while i < n {
-        let found = check_node(nodes, i, &marks);
+        let found = check_node(nodes, i, many, &marks);
         if let Check::Refused(refusal) = found {
             return Check::Refused(refusal);
         }
@@ -432,15 +500,29 @@ pub fn check_table_length(nodes: &[u16]) -> Check
     Check::Fine
 }
 
-// 1 to 9.
-pub fn check_table(nodes: &[u16]) -> Check
-    ensures { λ r. ⌜ r ≡ table-check (now (nodes .entry)) ⌝ }
+// 23 of lent sets.
+pub fn check_sets(sets: &[u8]) -> Check
+    ensures { λ r. ⌜ r ≡ sets-check (now (sets .entry)) ⌝ }
+{
+    if (sets.len() % SET_BYTES != 0) | (sets.len() > SET_BYTES * MOST_SETS) {
+        return refuse(WRONG_SETS, 0);
+    }
+    Check::Fine
+}
+
+// 1 to 9, with 23 and 22.
+pub fn check_table(nodes: &[u16], sets: &[u8]) -> Check
+    ensures { λ r. ⌜ r ≡ table-check (now (sets .entry)) (now (nodes .entry)) ⌝ }
 {
     let length = check_table_length(nodes);
     let Check::Fine = length else {
         return length;
     };
-    check_nodes(nodes)
+    let lent = check_sets(sets);
+    let Check::Fine = lent else {
+        return lent;
+    };
+    check_nodes(nodes, sets.len() / SET_BYTES)
 }
 
 // 12, of at most 256 records.

@@ -22,7 +22,7 @@ use Rattle.flow.specs.EventLeaves.{event-first, event-leaf, event-within}
 use Rattle.format.specs.Contents.{unnamed-leaf, leaf-grounds, unnamed-event, event-grounds, names-order}
 use Rattle.format.specs.ContentChecks.{leaves-grounds, events-grounds, grounds-of}
 
-module _ (extent : Extent) (names : ℕ) (ns rs : List ℕ) where
+module _ (extent : Extent) (names many : ℕ) (ns rs : List ℕ) where
   -- from each check on
   abbrev pub leaves-on : Check
   leaves-on = or-else-check (first (leaves-grounds names ns)) (first (events-grounds names rs))
@@ -33,33 +33,33 @@ module _ (extent : Extent) (names : ℕ) (ns rs : List ℕ) where
   abbrev pub values-on : Check
   values-on = or-else-check (values-check rs) closings-on
 
-  pub contents-is : first (grounds-of extent names ns rs) ≡ or-else-check (nodes-check ns) values-on
+  pub contents-is : first (grounds-of extent names many ns rs) ≡ or-else-check (nodes-check many ns) values-on
   unfolding grounds-of leaves-grounds events-grounds nodes-check values-check closings-check
   contents-is =
-      orders-append (nodes-order ns) (values-order rs ++ (closing-order extent ns rs ++ names-order names ns rs))
-      ∙ ap (or-else-check (nodes-check ns)) (orders-append (values-order rs) (closing-order extent ns rs ++ names-order names ns rs)
+      orders-append (nodes-order many ns) (values-order rs ++ (closing-order extent ns rs ++ names-order names ns rs))
+      ∙ ap (or-else-check (nodes-check many ns)) (orders-append (values-order rs) (closing-order extent ns rs ++ names-order names ns rs)
       ∙ ap (or-else-check (values-check rs)) (orders-append (closing-order extent ns rs) (names-order names ns rs)
       ∙ ap (or-else-check (closings-check extent ns rs)) (first-append (leaves-grounds names ns) (events-grounds names rs))))
 
-  pub nodes-refused : {c : Check} {r : Refusal} → c ≡ nodes-check ns → c ≡ Refused r → c ≡ first (grounds-of extent names ns rs)
+  pub nodes-refused : {c : Check} {r : Refusal} → c ≡ nodes-check many ns → c ≡ Refused r → c ≡ first (grounds-of extent names many ns rs)
   nodes-refused e h = e ∙ or-else-refused values-on (sym e ∙ h) ∙ sym contents-is
 
-  module _ (a : nodes-check ns ≡ Fine) where
-    pub values-refused : {c : Check} {r : Refusal} → c ≡ values-check rs → c ≡ Refused r → c ≡ first (grounds-of extent names ns rs)
+  module _ (a : nodes-check many ns ≡ Fine) where
+    pub values-refused : {c : Check} {r : Refusal} → c ≡ values-check rs → c ≡ Refused r → c ≡ first (grounds-of extent names many ns rs)
     values-refused e h = e ∙ or-else-refused closings-on (sym e ∙ h) ∙ or-else-fine values-on a ∙ sym contents-is
 
     module _ (b : values-check rs ≡ Fine) where
-      pub closings-refused : {c : Check} {r : Refusal} → c ≡ closings-check extent ns rs → c ≡ Refused r → c ≡ first (grounds-of extent names ns rs)
+      pub closings-refused : {c : Check} {r : Refusal} → c ≡ closings-check extent ns rs → c ≡ Refused r → c ≡ first (grounds-of extent names many ns rs)
       closings-refused e h = e ∙ or-else-refused leaves-on (sym e ∙ h) ∙ or-else-fine closings-on b ∙ or-else-fine values-on a ∙ sym contents-is
 
       module _ (c : closings-check extent ns rs ≡ Fine) where
-        leaves-last : leaves-on ≡ first (grounds-of extent names ns rs)
+        leaves-last : leaves-on ≡ first (grounds-of extent names many ns rs)
         leaves-last = or-else-fine leaves-on c ∙ or-else-fine closings-on b ∙ or-else-fine values-on a ∙ sym contents-is
 
-        pub leaves-refused : {x : Check} {r : Refusal} → x ≡ first (leaves-grounds names ns) → x ≡ Refused r → x ≡ first (grounds-of extent names ns rs)
+        pub leaves-refused : {x : Check} {r : Refusal} → x ≡ first (leaves-grounds names ns) → x ≡ Refused r → x ≡ first (grounds-of extent names many ns rs)
         leaves-refused e h = e ∙ or-else-refused (first (events-grounds names rs)) (sym e ∙ h) ∙ leaves-last
 
-        pub events-last : {x : Check} → first (leaves-grounds names ns) ≡ Fine → x ≡ first (events-grounds names rs) → x ≡ first (grounds-of extent names ns rs)
+        pub events-last : {x : Check} → first (leaves-grounds names ns) ≡ Fine → x ≡ first (events-grounds names rs) → x ≡ first (grounds-of extent names many ns rs)
         events-last d e = e ∙ or-else-fine (first (events-grounds names rs)) d ∙ leaves-last
 
 ---- Nothing is refused ----
@@ -69,19 +69,19 @@ none-single : (number place : ℕ) (b : Bool) → None (ground number place b �
 none-single number place b (more t n) = is-false b t
 
 -- the parts of the check, all passed
-pub record ContentsPassed (extent : Extent) (names : ℕ) (ns rs : List ℕ) : Type 0 where
-  pub nodes : nodes-check ns ≡ Fine
+pub record ContentsPassed (extent : Extent) (names many : ℕ) (ns rs : List ℕ) : Type 0 where
+  pub nodes : nodes-check many ns ≡ Fine
   pub values : values-check rs ≡ Fine
   pub closings : closings-check extent ns rs ≡ Fine
   pub leaves : (i : ℕ) → i < count ns → unnamed-leaf names ns i ≡ false
   pub events : (i : ℕ) → i < length rs → unnamed-event names (getD rs i 0) ≡ false
 
-pub contents-passed : (extent : Extent) (names : ℕ) (ns rs : List ℕ) → first (grounds-of extent names ns rs) ≡ Fine → ContentsPassed extent names ns rs
+pub contents-passed : (extent : Extent) (names many : ℕ) (ns rs : List ℕ) → first (grounds-of extent names many ns rs) ≡ Fine → ContentsPassed extent names many ns rs
 unfolding leaves-grounds events-grounds
-contents-passed extent names ns rs e =
-    let a = both-fine (nodes-check ns) (values-on extent names ns rs) (sym (contents-is extent names ns rs) ∙ e) in
-    let b = both-fine (values-check rs) (closings-on extent names ns rs) (a .1) in
-    let c = both-fine (closings-check extent ns rs) (leaves-on extent names ns rs) (b .1) in
+contents-passed extent names many ns rs e =
+    let a = both-fine (nodes-check many ns) (values-on extent names many ns rs) (sym (contents-is extent names many ns rs) ∙ e) in
+    let b = both-fine (values-check rs) (closings-on extent names many ns rs) (a .1) in
+    let c = both-fine (closings-check extent ns rs) (leaves-on extent names many ns rs) (b .1) in
     let d = both-fine (first (leaves-grounds names ns)) (first (events-grounds names rs)) (c .1) in
     record {
       nodes = a .0;

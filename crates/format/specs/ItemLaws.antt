@@ -57,6 +57,9 @@ has-found f (got a n) {g} e =
     record { found = a; is = ap (λ (g′ : Got). got a (g′ .next .at)) e′; sized = sym (ap (λ (g′ : Got). g′ .value) e′) }
 has-found f (bad n p) {g} e = let z : _≡_ {A = ℕ} 0 1 = cc in absurd (omega arith)
 
+pub item-found : {A : Type 0} (f : A → ℕ) (x : Ran A) {i : Item} {g : Got} → i ≡ as-item f x → i ≡ Has g → Found f x g
+item-found f x e h = has-found f x (sym e ∙ h)
+
 pub bad-found : {A : Type 0} (f : A → ℕ) (x : Ran A) {r : Refusal} → as-item f x ≡ Bad r → x ≡ bad (r .number) (r .place)
 unfolding as-item
 bad-found f (got a n) {r} e = let z : _≡_ {A = ℕ} 0 1 = cc in absurd (omega arith)

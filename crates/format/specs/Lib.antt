@@ -16,6 +16,7 @@ pub mod There
 pub mod Lengths
 pub mod Plans
 pub mod ItemLaws
+pub mod RunLaws
 pub mod SectionLaws
 pub mod NameLaws
 pub mod ContentLaws

@@ -1,9 +1,10 @@
--- Which flow files are within the limits of 01, "The flow file", and what it means that bytes stand at an offset of a file.
--- What the numbers mean (4 to 9, 12, 13, 19, 20) is no limit: Contents says that. Definitions only. Assumes nothing.
+-- Which flow files are within the limits of 01, "The flow file", and of 02, Four, and what it means that bytes stand at an offset of a
+-- file. What the numbers mean (4 to 9, 12, 13, 19, 20, 22) is no limit: Contents says that. Definitions only. Assumes nothing.
 use Prim.Native.Nat.{ℕ, _+_, _*_, _≤_, _<_}
 use mathlib.Core.List.{List, [], _∷_, _++_, List·Memᴰ}
 use mathlib.Core.Path.{_≡_}
 use lib.ListN.{length, getD, drop}
+use Rattle.flow.specs.Legends.{set-bytes}
 use Rattle.format.specs.declared.Range.{Range}
 use Rattle.format.specs.Format.{Entry, File}
 
@@ -27,6 +28,10 @@ node-count = record { least = 1; few = 1; most = 64; many = 3 }
 abbrev pub record-count : Range
 record-count = record { least = 1; few = 10; most = 256; many = 11 }
 
+-- 23: "set count 0 or above 16"
+abbrev pub sets-count : Range
+sets-count = record { least = 1; few = 23; most = 16; many = 23 }
+
 pub record InRange (g : Range) (n : ℕ) : Type 0 where
   pub low : g .least ≤ n
   pub high : n ≤ g .most
@@ -47,20 +52,26 @@ pub record GoodNames (es : List Entry) : Type 0 where
   pub counted : InRange name-count (length es)
   pub entries : GoodEntries [] es
 
--- whole nodes or records, as many as there may be
+-- what is known of the bytes of a file
+abbrev pub Bytes : List ℕ → Type 0
+Bytes s = (i : ℕ) → getD s i 0 < 256
+
+-- whole nodes, records or sets, `each` numbers to one, as many as there may be
 pub record GoodNumbers (g : Range) (each : ℕ) (ns : List ℕ) : Type 0 where
   pub n : ℕ
   pub whole : length ns ≡ each * n
   pub counted : InRange g n
 
+-- no sets, or whole ones
+pub data GoodSets : List ℕ → Type 0 where
+  no-sets : GoodSets []
+  some-sets : {sets : List ℕ} → GoodNumbers sets-count set-bytes sets → Bytes sets → GoodSets sets
+
 pub record WithinLimits (f : File) : Type 0 where
   pub names : GoodNames (f .names)
   pub nodes : GoodNumbers node-count 3 (f .nodes)
   pub records : GoodNumbers record-count 1 (f .records)
-
--- what is known of the bytes of a file
-abbrev pub Bytes : List ℕ → Type 0
-Bytes s = (i : ℕ) → getD s i 0 < 256
+  pub sets : GoodSets (f .sets)
 
 -- the bytes xs stand in s at an offset
 pub record Stands (s : List ℕ) (at : ℕ) (xs : List ℕ) : Type 0 where

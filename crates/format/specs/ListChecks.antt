@@ -49,7 +49,7 @@ unfoldable pub named-check : List ℕ → (List Entry → List Round) → Check
 unfolding by-entries section-alone
 named-check s order = by-entries order (section-alone s)
 
--- 15 to 18, 21; 1 to 3, 10, 11, 4 to 9, 12, 13, 19, 20
-unfoldable pub lists-check : Extent → List ℕ → List ℕ → List ℕ → Check
+-- 15 to 18, 21; 1 to 3, 10, 11, 23, 4 to 9, with 22, 12, 13, 19, 20
+unfoldable pub lists-check : Extent → List ℕ → List ℕ → List ℕ → List ℕ → Check
 unfolding named-check
-lists-check extent s ns rs = named-check s (λ es. lists-order extent (length es) ns rs)
+lists-check extent s sets ns rs = named-check s (λ es. lists-order extent (length es) sets ns rs)

@@ -7,6 +7,7 @@ use lib.Dec.{T, eqb, eqb-refl}
 use lib.ListN.{length, getD}
 use Rattle.calculus.specs.Term.{Leaf}
 use Rattle.calculus.specs.Members.{or-in-left}
+use Rattle.flow.specs.Legends.{Legend, in-set}
 use Rattle.format.specs.Format.{Entry}
 
 unfoldable pub same-bytes : List ℕ → List ℕ → Bool
@@ -44,3 +45,7 @@ own-matches es n = or-in-left (eqb n n) _ (eqb-refl n)
 
 abbrev pub named : List Entry → ℕ → Leaf
 named es n = record { names = n; takes = λ r. matches es n r; own = own-matches es n }
+
+-- what the numbers of a table stand for where names and sets are lent
+abbrev pub with-names : List Entry → List ℕ → Legend
+with-names es sets = record { leaves = named es; sets = in-set sets }

@@ -19,9 +19,9 @@ module _ (s : List ℕ) where
   pub data RangeFault (g : Range) (size : ℕ) (bytes : ℕ → List ℕ) (at : ℕ) : ℕ → ℕ → Type 0 where
     -- 15
     cut-count : length s < at + size → RangeFault g size bytes at 15 at
-    -- 1, 10: "no nodes", "no records"; 17: "length out of range"
+    -- 1, 10: "no nodes", "no records"; 17: "length out of range"; 23: "set count 0"
     below : (v : ℕ) → Stands s at (bytes v) → v < g .least → RangeFault g size bytes at (g .few) at
-    -- 3, 11: "over 64 nodes", "over 256"; 16: "over 256 names"; 17
+    -- 3, 11: "over 64 nodes", "over 256"; 16: "over 256 names"; 17; 23: "or above 16"
     above : (v : ℕ) → Stands s at (bytes v) → g .most < v → RangeFault g size bytes at (g .many) at
 
   -- of a name at an offset

@@ -1,12 +1,12 @@
--- Laws of every plan: two plans one after the other, and an item that is there or cut. Assumes nothing.
+-- Laws of every plan: two plans one after the other, an item that is there or cut, and a file that ends or goes on. Assumes nothing.
 use Prim.Native.Nat.{ℕ, _+_, _≤_, _<_}
 use mathlib.Core.Bool.{Bool, true, false, cond}
 use mathlib.Core.List.{List}
-use mathlib.Core.Path.{_≡_, refl, ap, _∙_}
-use borrow.Author.Tests.{le-leb, lt-leb}
-use lib.Dec.{leb}
+use mathlib.Core.Path.{_≡_, refl, ap, ap₂, _∙_}
+use borrow.Author.Tests.{le-leb, lt-leb, lt-ltb, le-ltb}
+use lib.Dec.{leb, ltb}
 use lib.ListN.{length, take, drop}
-use Rattle.format.specs.Plan.{Plan, done, refuse, place, item, _>>=_, Ran, got, bad, run}
+use Rattle.format.specs.Plan.{Plan, done, refuse, place, item, ends, _>>=_, Ran, got, bad, run}
 
 -- what comes after a value; a refusal stays
 unfoldable pub after : {A B : Type 0} → Ran A → (A → ℕ → Ran B) → Ran B
@@ -26,6 +26,9 @@ module _ {A B : Type 0} (s : List ℕ) where
   run-bind at (item n k) f =
       ap (λ (x : Ran B). cond (leb (at + n) (length s)) x (bad 15 at)) (run-bind (at + n) (k (take n (drop at s))) f)
       ∙ after-cond (leb (at + n) (length s)) (run s (at + n) (k (take n (drop at s)))) (bad 15 at) (λ a m. run s m (f a))
+  run-bind at (ends p q) f =
+      ap₂ (λ (x y : Ran B). cond (ltb at (length s)) x y) (run-bind at q f) (run-bind at p f)
+      ∙ after-cond (ltb at (length s)) (run s at q) (run s at p) (λ a m. run s m (f a))
 
   -- the first plan refuses, and so both do
   pub bind-bad : {n q : ℕ} (at : ℕ) (p : Plan A) (f : A → Plan B) → run s at p ≡ bad n q → run s at (p >>= f) ≡ bad n q
@@ -45,3 +48,12 @@ module _ {A : Type 0} (s : List ℕ) (at n : ℕ) (k : List ℕ → Plan A) wher
   pub item-cut : length s < at + n → run s at (item n k) ≡ bad 15 at
   unfolding run
   item-cut h = rw (lt-leb (at + n) (length s) h)
+
+module _ {A : Type 0} (s : List ℕ) (at : ℕ) (p q : Plan A) where
+  pub ends-here : length s ≤ at → run s at (ends p q) ≡ run s at p
+  unfolding run
+  ends-here h = rw (le-ltb at (length s) h)
+
+  pub ends-later : at < length s → run s at (ends p q) ≡ run s at q
+  unfolding run
+  ends-later h = rw (lt-ltb at (length s) h)

@@ -1,22 +1,22 @@
--- What the plans of counts, numbers, entries and sections come to, by the runs of their parts. Assumes nothing.
+-- What the plans of entries, names and sections of numbers come to, by the runs of their parts. Assumes nothing.
 use Prim.Native.Nat.{ℕ, zero, suc, _+_, _*_, _-_, _≤_, _<_}
 use mathlib.Core.Bool.{Bool, true, false, cond}
 use mathlib.Core.List.{List, [], _∷_, _++_, append-assoc}
-use mathlib.Core.Logic.{_⊎_, inl, inr}
 use mathlib.Core.Path.{_≡_, refl, ap, ap₂, sym, _∙_, subst}
-use native.Mathlib.Nat.{mul-le-mul}
 use native.Mathlib.Numerals.{add-one}
 use native.Mathlib.Omega.{arith}
 use lib.ListN.{length, getD, take, drop, set, length-append, length-drop}
 use lib.Seq.{drop-cons, set-at, take-at}
 use Rattle.format.specs.declared.Range.{Range}
-use Rattle.format.specs.Format.{Entry}
-use Rattle.format.specs.Plan.{Plan, done, refuse, _>>=_, Ran, got, bad, run}
+use Rattle.format.specs.Format.{number-bytes, Entry, name-bytes, entry-bytes, entries-bytes, names-section, numbers-section}
+use Rattle.format.specs.Plan.{Plan, done, refuse, Ran, got, bad, run}
 use Rattle.format.specs.Plans.{bind-bad, bind-got}
-use Rattle.format.specs.Sections.{number, ranged, name-count, entry, met, new-entry, entries, names, numbers, section}
-use Rattle.format.specs.Items.{number-at, numbers-at, at-front, entry-at, entry-end, entries-at, entries-end}
-use Rattle.format.specs.ItemLaws.{le-or-lt, got-value, got-next, number-cut, number-got, number-there, ranged-there, entry-there, got-not-bad}
-pub use Rattle.format.specs.There.{NewThere, Scanned, NumbersThere, SectionThere, NamesThere}
+use Rattle.format.specs.Sections.{number, ranged, name-count, entry, met, new-entry, entries, names, count-by, item-section, numbers-of, section}
+use Rattle.format.specs.Lengths.{section-length}
+use Rattle.format.specs.Items.{as-item, number-at, numbers-at, at-front, name-end, entry-at, entry-end, entries-at, entries-end}
+use Rattle.format.specs.ItemLaws.{got-value, got-next, item-bad, item-got, number-there, ranged-there, name-length, entry-there, got-not-bad}
+use Rattle.format.specs.RunLaws.{item-section-there}
+pub use Rattle.format.specs.There.{NewThere, Scanned, SectionThere, NamesThere}
 
 ---- At the front of a table ----
 
@@ -32,48 +32,22 @@ front-set ns v table {i} n h =
 ---- Numbers ----
 
 module _ (s : List ℕ) where
-  rest-of : ℕ → ℕ → Plan (List ℕ)
-  rest-of k n = numbers k >>= (λ ns. done (n ∷ ns))
-
-  pub numbers-bad : (k at : ℕ) {n p : ℕ} → run s at number ≡ bad n p → run s at (numbers (suc k)) ≡ bad n p
-  unfolding numbers rest-of
-  numbers-bad k at e = bind-bad s at number (rest-of k) e
-
-  module _ (k at : ℕ) (h : at + 2 ≤ length s) where
-    pub numbers-next-bad : {n p : ℕ} → run s (at + 2) (numbers k) ≡ bad n p → run s at (numbers (suc k)) ≡ bad n p
-    unfolding numbers rest-of
-    numbers-next-bad e = bind-got s at number (rest-of k) (number-got s at h) ∙ bind-bad s (at + 2) (numbers k) _ e
-
-    pub numbers-next-got : {ns : List ℕ} {next : ℕ} → run s (at + 2) (numbers k) ≡ got ns next → run s at (numbers (suc k)) ≡ got (number-at s at ∷ ns) next
-    unfolding numbers rest-of run
-    numbers-next-got e = bind-got s at number (rest-of k) (number-got s at h) ∙ bind-got s (at + 2) (numbers k) _ e
-
-  pub numbers-got : (k at : ℕ) → at + 2 * k ≤ length s → run s at (numbers k) ≡ got (numbers-at s k at) (at + 2 * k)
-  unfolding numbers run numbers-at
-  numbers-got zero at h = ap (λ (n : ℕ). got [] n) (omega arith)
-  numbers-got (suc k) at h =
-      numbers-next-got k at (omega arith) (numbers-got k (at + 2) (omega arith))
-      ∙ ap (λ (n : ℕ). got (number-at s at ∷ numbers-at s k (at + 2)) n) (omega arith)
-
-  -- the first numbers stand whole, and the next one is refused
-  pub numbers-stop : (i k at : ℕ) {n p : ℕ} → i < k → at + 2 * i ≤ length s → run s (at + 2 * i) number ≡ bad n p → run s at (numbers k) ≡ bad n p
-  numbers-stop i zero at h l e = absurd (omega arith)
-  numbers-stop zero (suc k) at {n} {p} h l e =
-      let d : at + 2 * 0 ≡ at = omega arith in
-      numbers-bad k at (subst (λ (x : ℕ). run s x number ≡ bad n p) d e)
-  numbers-stop (suc i) (suc k) at {n} {p} h l e =
-      let d : at + 2 * suc i ≡ (at + 2) + 2 * i = omega arith in
-      numbers-next-bad k at (omega arith)
-      (numbers-stop i k (at + 2) (omega arith) (omega arith) (subst (λ (x : ℕ). run s x number ≡ bad n p) d e))
-
-  -- the same, at an offset that is known to be theirs
-  pub numbers-stop-at : (i k at m : ℕ) {n p : ℕ} → m ≡ at + 2 * i → i < k → at + 2 * i ≤ length s → run s m number ≡ bad n p → run s at (numbers k) ≡ bad n p
-  numbers-stop-at i k at m {n} {p} d h l e = numbers-stop i k at h l (subst (λ (x : ℕ). run s x number ≡ bad n p) d e)
-
   pub numbers-at-length : (k at : ℕ) → length (numbers-at s k at) ≡ k
   unfolding numbers-at
   numbers-at-length zero at = refl
   numbers-at-length (suc k) at = ap suc (numbers-at-length k (at + 2))
+
+  -- the bytes of so many numbers
+  pub numbers-of-at : (k at : ℕ) → at + 2 * k ≤ length s → numbers-of (take (2 * k) (drop at s)) ≡ numbers-at s k at
+  unfolding numbers-of numbers-at
+  numbers-of-at zero at h = refl
+  numbers-of-at (suc k) at h =
+      let two : 2 * suc k ≡ suc (suc (2 * k)) = omega arith in
+      let e : suc (at + 1) ≡ at + 2 = omega arith in
+      let here : drop at s ≡ getD s at 0 ∷ (getD s (at + 1) 0 ∷ drop (at + 2) s) =
+      drop-cons s at 0 (omega arith) ∙ ap (λ (n : ℕ). getD s at 0 ∷ drop n s) (sym (add-one at))
+      ∙ ap (λ (xs : List ℕ). getD s at 0 ∷ xs) (drop-cons s (at + 1) 0 (omega arith) ∙ ap (λ (n : ℕ). getD s (at + 1) 0 ∷ drop n s) e) in
+      ap₂ (λ (n : ℕ) (bs : List ℕ). numbers-of (take n bs)) two here ∙ ap (λ (ns : List ℕ). number-at s at ∷ ns) (numbers-of-at k (at + 2) (omega arith))
 
   pub numbers-at-more : (k at : ℕ) → numbers-at s (suc k) at ≡ numbers-at s k at ++ (number-at s (at + 2 * k) ∷ [])
   unfolding numbers-at
@@ -235,68 +209,73 @@ module _ (s : List ℕ) where
   pub front-length : (k at : ℕ) (table : List ℕ) {table′ : List ℕ} → table′ ≡ at-front (numbers-at s k at) table → length (take k table′) ≡ k
   front-length k at table e = ap length (front-is k at table e) ∙ numbers-at-length s k at
 
----- What was read ----
-
-module _ (s : List ℕ) where
-  -- as many numbers as there is room for: they stand whole, or some number is cut
-  numbers-whole : (k at : ℕ) {ns : List ℕ} {next : ℕ} → at ≤ length s → run s at (numbers k) ≡ got ns next → at + 2 * k ≤ length s
-  numbers-whole zero at l e = omega arith
-  numbers-whole (suc k) at {ns} {next} l e = by-first (λ a ms m l′ e′. numbers-whole k a l′ e′) (le-or-lt (at + 2) (length s))
-    where
-      by-rest : ((a : ℕ) (ms : List ℕ) (m : ℕ) → a ≤ length s → run s a (numbers k) ≡ got ms m → a + 2 * k ≤ length s) → at + 2 ≤ length s → (x : Ran (List ℕ)) → run s (at + 2) (numbers k) ≡ x → at + 2 * suc k ≤ length s
-      by-rest rec h (got ms m) a = omega (arith, rec (at + 2) ms m h a)
-      by-rest rec h (bad n p) a = got-not-bad e (numbers-next-bad s k at h a)
-
-      by-first : ((a : ℕ) (ms : List ℕ) (m : ℕ) → a ≤ length s → run s a (numbers k) ≡ got ms m → a + 2 * k ≤ length s) → (at + 2 ≤ length s) ⊎ (length s < at + 2) → at + 2 * suc k ≤ length s
-      by-first rec (inl h) = by-rest rec h (run s (at + 2) (numbers k)) refl
-      by-first rec (inr h) = got-not-bad e (numbers-bad s k at (number-cut s at h))
-
-  pub numbers-there : (k at : ℕ) {ns : List ℕ} {next : ℕ} → at ≤ length s → run s at (numbers k) ≡ got ns next → NumbersThere s k at ns next
-  numbers-there k at l e =
-      let h = numbers-whole k at l e in
-      let g = sym e ∙ numbers-got s k at h in
-      record { is = got-value g; ends = got-next g; inside = rw (got-next g) h }
-
 ---- A section of numbers ----
 
--- of fewer nodes or records there are fewer numbers
-pub fewer-numbers : (each : ℕ) {n most : ℕ} → n ≤ most → each * most ≤ 256 → each * n ≤ 256
-fewer-numbers each {n} {most} h l = let r : each ≤ each = omega arith in omega (arith, mul-le-mul r h)
+-- two bytes are one number
+numbers-of-length : (bs : List ℕ) → length (numbers-of bs) ≡ count-by 2 bs
+unfolding numbers-of
+numbers-of-length [] = refl
+numbers-of-length (a ∷ []) = refl
+numbers-of-length (a ∷ b ∷ bs) = omega (arith, numbers-of-length bs)
 
 module _ (s : List ℕ) (at : ℕ) (g : Range) (each : ℕ) where
-  counted-numbers : ℕ → Plan (List ℕ)
-  counted-numbers n = numbers (each * n)
+  as-numbers : List ℕ → Plan (List ℕ)
+  as-numbers bs = done (numbers-of bs)
 
-  pub section-count-bad : {n p : ℕ} → run s at (ranged g number) ≡ bad n p → run s at (section g each) ≡ bad n p
-  unfolding section counted-numbers
-  section-count-bad e = bind-bad s at (ranged g number) counted-numbers e
+  pub section-bad : {n p : ℕ} → run s at (item-section g 2 each) ≡ bad n p → run s at (section g each) ≡ bad n p
+  unfolding section as-numbers
+  section-bad e = bind-bad s at (item-section g 2 each) as-numbers e
 
-  pub section-from : {v next : ℕ} → run s at (ranged g number) ≡ got v next → run s at (section g each) ≡ run s next (numbers (each * v))
-  unfolding section counted-numbers
-  section-from e = bind-got s at (ranged g number) counted-numbers e
+  pub section-got : {bs : List ℕ} {next : ℕ} → run s at (item-section g 2 each) ≡ got bs next → run s at (section g each) ≡ got (numbers-of bs) next
+  unfolding section as-numbers run
+  section-got e = bind-got s at (item-section g 2 each) as-numbers e
+
+  -- as items, there are as many
+  pub section-item : as-item (count-by 2) (run s at (item-section g 2 each)) ≡ as-item length (run s at (section g each))
+  unfolding as-item
+  section-item = by (run s at (item-section g 2 each)) refl
+    where
+      by : (x : Ran (List ℕ)) → run s at (item-section g 2 each) ≡ x → as-item (count-by 2) x ≡ as-item length (run s at (section g each))
+      by (got bs next) e = item-got length _ (sym (numbers-of-length bs)) refl (section-got e)
+      by (bad n p) e = item-bad length _ refl (section-bad e)
 
   pub section-there : {ns : List ℕ} {next : ℕ} → run s at (section g each) ≡ got ns next → SectionThere s at g each ns next
-  section-there {ns} {next} e = by (run s at (ranged g number)) refl
+  section-there {ns} {next} e = by (run s at (item-section g 2 each)) refl
     where
-      by : (x : Ran ℕ) → run s at (ranged g number) ≡ x → SectionThere s at g each ns next
-      by (got v m) a =
-          let t = ranged-there s at g number a in
-          let u = number-there s at (t .read) in
-          let c = numbers-there s (each * v) m (omega (arith, u .ends, u .inside)) (sym (section-from a) ∙ e) in
-          let is : ns ≡ numbers-at s (each * v) (at + 2) = c .is ∙ ap (numbers-at s (each * v)) (u .ends) in
+      by : (x : Ran (List ℕ)) → run s at (item-section g 2 each) ≡ x → SectionThere s at g each ns next
+      by (got bs m) a =
+          let q : got ns next ≡ got (numbers-of bs) m = sym e ∙ section-got a in
+          let t = item-section-there s at g 2 each a in
+          let is : ns ≡ numbers-at s (each * t .n) (at + 2) = got-value q ∙ ap numbers-of (t .is) ∙ numbers-of-at s (each * t .n) (at + 2) (omega (arith, t .ends, t .inside)) in
           record {
-            n = v;
-            counted = u .is;
+            n = t .n;
+            counted = t .counted;
             low = t .low;
             high = t .high;
             is = is;
-            sized = ap length is ∙ numbers-at-length s (each * v) (at + 2);
-            ends = c .ends ∙ ap (λ (k : ℕ). k + 2 * (each * v)) (u .ends);
-            inside = c .inside;
+            sized = ap length is ∙ numbers-at-length s (each * t .n) (at + 2);
+            ends = got-next q ∙ t .ends;
+            inside = omega (arith, got-next q, t .inside);
           }
-      by (bad k p) a = got-not-bad e (section-count-bad a)
+      by (bad k p) a = got-not-bad e (section-bad a)
+
+  -- it ends where its bytes do
+  pub section-end : {ns : List ℕ} {next : ℕ} → run s at (section g each) ≡ got ns next → next ≡ at + length (numbers-section each ns)
+  section-end {ns} e = let t = section-there e in omega (arith, t .ends, t .sized, section-length each ns)
 
 ---- Names that were read ----
+
+-- so many entries end where their bytes do
+entries-end-is : (s : List ℕ) (k at : ℕ) → entries-end s k at ≤ length s → entries-end s k at ≡ at + length (entries-bytes (entries-at s k at))
+unfolding entries-at entries-end entries-bytes entry-bytes name-bytes
+entries-end-is s zero at h = omega arith
+entries-end-is s (suc k) at h =
+    let e = entry-at s at in
+    let rest = entries-bytes (entries-at s k (entry-end s at)) in
+    let inside = entries-end-le s k (entry-end s at) in
+    let step = name-length s at (omega arith) in
+    let machine = name-length s (name-end s at) (omega arith) in
+    omega (arith, entries-end-is s k (entry-end s at) h, length-append (entry-bytes e) rest, length-append (name-bytes (e .step)) (name-bytes (e .machine)))
 
 module _ (s : List ℕ) {es : List Entry} {next : ℕ} (e : run s 0 names ≡ got es next) where
   scan-all : (k : ℕ) {n i at : ℕ} → Scanned s n i at → n - i ≡ k → NamesThere s es next
@@ -323,3 +302,10 @@ module _ (s : List ℕ) {es : List Entry} {next : ℕ} (e : run s 0 names ≡ go
       by-count : (x : Ran ℕ) → run s 0 (ranged name-count number) ≡ x → NamesThere s es next
       by-count (got v m) a = scan-all (v - 0) (scan-start s a) refl
       by-count (bad n p) a = got-not-bad e (names-bad s a)
+
+  pub names-end : next ≡ length (names-section es)
+  unfolding names-section number-bytes
+  names-end =
+      let t = names-there in
+      let e : length (entries-bytes es) ≡ length (entries-bytes (entries-at s (length es) 2)) = ap (λ (gs : List Entry). length (entries-bytes gs)) (t .is) in
+      omega (arith, t .ends, entries-end-is s (length es) 2 (omega (arith, t .ends, t .inside)))

@@ -1,18 +1,19 @@
 -- How a flow file is gone through, item by item, in the order of 01, "The flow file": 15 to 18 on the names, 1 and 3 on the node
--- count, 10 and 11 on the record count, and 15 wherever an item is cut. All places are byte offsets.
+-- count, 10 and 11 on the record count, then 23 on the set count (02, Four), and 15 wherever an item is cut. All places are byte offsets.
 -- Not here: what the numbers of a file mean (Contents), and what a refusal means in terms of the format (`reader`, Faults). A reader
 -- need not believe this file nor Plan: promises/specs/Reads tells by Format, Limits, Contents and Faults alone what is read and what is
 -- refused. Definitions only. Assumes nothing.
-use Prim.Native.Nat.{ℕ, zero, suc, _+_, _*_}
+use Prim.Native.Nat.{ℕ, zero, suc, _+_, _*_, _/_}
 use mathlib.Core.Bool.{Bool, false, _&&_, _||_, cond}
 use mathlib.Core.List.{List, [], _∷_, _++_}
 use lib.Dec.{ltb}
-use lib.ListN.{getD}
+use lib.ListN.{length, getD}
+use Rattle.flow.specs.Legends.{set-bytes}
 use Rattle.format.specs.declared.Range.{Range}
 use Rattle.format.specs.Format.{Entry, File}
-pub use Rattle.format.specs.Limits.{step-length, machine-length, name-count, node-count, record-count}
+pub use Rattle.format.specs.Limits.{step-length, machine-length, name-count, node-count, record-count, sets-count}
 unfoldable pub use Rattle.format.specs.Matching.{same-bytes, same-step}
-use Rattle.format.specs.Plan.{Plan, done, refuse, place, item, _>>=_}
+use Rattle.format.specs.Plan.{Plan, done, refuse, place, item, ends, _>>=_}
 
 ---- Items ----
 
@@ -69,26 +70,44 @@ unfoldable pub names : Plan (List Entry)
 unfolding _>>=_ ranged number entries
 names = ranged name-count number >>= (λ n. entries n [])
 
----- Nodes and records ----
+---- Nodes, records and sets ----
 
-unfoldable pub numbers : ℕ → Plan (List ℕ)
-unfolding _>>=_ number
-numbers zero = done []
-numbers (suc k) = do
-  n ← number
-  ns ← numbers k
-  done (n ∷ ns)
+-- so many items of a size: their bytes, one item behind the other
+unfoldable pub items : ℕ → ℕ → Plan (List ℕ)
+unfolding _>>=_
+items size zero = done []
+items size (suc k) = item size (λ b. items size k >>= (λ bs. done (b ++ bs)))
 
--- a count, and so many times `each` numbers
+-- how many items so many bytes are
+abbrev pub count-by : ℕ → List ℕ → ℕ
+count-by size bs = length bs / size
+
+-- a count, and so many times `each` items
+unfoldable pub item-section : Range → ℕ → ℕ → Plan (List ℕ)
+unfolding _>>=_ ranged number items
+item-section g size each = ranged g number >>= (λ n. items size (each * n))
+
+-- two bytes to a number
+unfoldable pub numbers-of : List ℕ → List ℕ
+numbers-of [] = []
+numbers-of (a ∷ []) = []
+numbers-of (a ∷ b ∷ bs) = (a + 256 * b) ∷ numbers-of bs
+
 unfoldable pub section : Range → ℕ → Plan (List ℕ)
-unfolding _>>=_ ranged number numbers
-section g each = ranged g number >>= (λ n. numbers (each * n))
+unfolding _>>=_ item-section numbers-of
+section g each = item-section g 2 each >>= (λ bs. done (numbers-of bs))
 
--- "Three sections in a fixed order"
+-- 02, Four: "A file may end after its records; then it has no sets."
+unfoldable pub joint-sets : Plan (List ℕ)
+unfolding item-section
+joint-sets = ends (done []) (item-section sets-count set-bytes 1)
+
+-- "Three sections in a fixed order", and the fourth
 unfoldable pub layout : Plan File
-unfolding _>>=_ names section
+unfolding _>>=_ names section joint-sets
 layout = do
   es ← names
   ns ← section node-count 3
   rs ← section record-count 1
-  done (record { names = es; nodes = ns; records = rs })
+  sets ← joint-sets
+  done (record { names = es; nodes = ns; records = rs; sets = sets })

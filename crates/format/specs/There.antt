@@ -1,10 +1,10 @@
--- What is known of what was read: a number, a name, an entry, the entries, a section. Definitions only: ItemLaws, SectionLaws and
+-- What is known of what was read: a number, a name, an entry, the entries, a section, the sets. Definitions only: ItemLaws, SectionLaws and
 -- EntryLaws prove them. Assumes nothing.
 use Prim.Native.Nat.{ℕ, _+_, _-_, _*_, _≤_, _<_}
 use mathlib.Core.Bool.{false}
 use mathlib.Core.List.{List}
 use mathlib.Core.Path.{_≡_}
-use lib.ListN.{length, getD}
+use lib.ListN.{length, getD, take, drop}
 use Rattle.format.specs.declared.Got.{Got}
 use Rattle.format.specs.declared.Range.{Range}
 use Rattle.format.specs.Format.{Entry}
@@ -76,13 +76,31 @@ pub record Scanned (s : List ℕ) (n i at : ℕ) : Type 0 where
   pub inside : at ≤ length s
   pub goes-on : run s 0 names ≡ run s at (entries (n - i) (entries-at s i 2))
 
--- numbers that were read, and where they end
-pub record NumbersThere (s : List ℕ) (k at : ℕ) (ns : List ℕ) (next : ℕ) : Type 0 where
-  pub is : ns ≡ numbers-at s k at
-  pub ends : next ≡ at + 2 * k
+-- items of a size that were read, and where they end
+pub record ItemsThere (s : List ℕ) (size k at : ℕ) (bs : List ℕ) (next : ℕ) : Type 0 where
+  pub is : bs ≡ take (size * k) (drop at s)
+  pub ends : next ≡ at + size * k
   pub inside : next ≤ length s
 
--- a section that was read: its count, and its numbers behind it
+-- of so many items the first that is not wholly there
+pub record Cut (s : List ℕ) (size k at : ℕ) : Type 0 where
+  pub number : ℕ
+  pub before : number < k
+  pub inside : at + size * number ≤ length s
+  pub cut : length s < at + size * number + size
+
+-- a section of items that was read: its count, and their bytes behind it
+pub record ItemSectionThere (s : List ℕ) (at : ℕ) (g : Range) (size each : ℕ) (bs : List ℕ) (next : ℕ) : Type 0 where
+  pub n : ℕ
+  pub counted : n ≡ number-at s at
+  pub low : g .least ≤ n
+  pub high : n ≤ g .most
+  pub is : bs ≡ take (size * (each * n)) (drop (at + 2) s)
+  pub sized : length bs ≡ size * (each * n)
+  pub ends : next ≡ at + 2 + size * (each * n)
+  pub inside : next ≤ length s
+
+-- the numbers of a section that was read
 pub record SectionThere (s : List ℕ) (at : ℕ) (g : Range) (each : ℕ) (ns : List ℕ) (next : ℕ) : Type 0 where
   pub n : ℕ
   pub counted : n ≡ number-at s at
@@ -91,6 +109,16 @@ pub record SectionThere (s : List ℕ) (at : ℕ) (g : Range) (each : ℕ) (ns :
   pub is : ns ≡ numbers-at s (each * n) (at + 2)
   pub sized : length ns ≡ each * n
   pub ends : next ≡ at + 2 + 2 * (each * n)
+  pub inside : next ≤ length s
+
+-- sets that were read: none, or those that end where the file's fourth section does
+pub record SetsThere (s : List ℕ) (at : ℕ) (sets : List ℕ) (next : ℕ) : Type 0 where
+  pub n : ℕ
+  pub few : n ≤ 16
+  pub is : sets ≡ take (32 * n) (drop (next - 32 * n) s)
+  pub sized : length sets ≡ 32 * n
+  pub from : at + 32 * n ≤ next
+  pub near : next ≤ at + 514
   pub inside : next ≤ length s
 
 -- names that were read, and where they end

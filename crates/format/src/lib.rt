@@ -1,5 +1,6 @@
 // The flow file's items: a file's bytes read one item after the other, each of which answers a value with the cursor behind it or a
-// refusal; the names section and the sections of numbers; the checks on the numbers of a file, and on lists that are lent to be written.
+// refusal; the names section, the sections of numbers and the sets; the checks on the numbers of a file, and on lists that are lent to be
+// written.
 // What each answers is defined in specs/, on the plan of the file. Not here: the file as a whole (crates `reader` and `writer`).
 use flow::Check;
 use flow::Extent;
@@ -7,9 +8,10 @@ use flow::Refusal;
 ghost use mathlib.Core.Path.{_≡_};
 ghost use Prim.Native.Nat.{_+_, _*_, _<_, _≤_};
 ghost use lib.ListN.{length};
+ghost use Rattle.flow.specs.Legends.{set-count};
 ghost use Rattle.flow.specs.Checks.{first};
 ghost use Rattle.format.specs.Plan.{run};
-ghost use Rattle.format.specs.Sections.{byte, number, name, entry, new-entry, names, numbers, section, same-bytes, same-step, same-entry, met};
+ghost use Rattle.format.specs.Sections.{byte, number, name, entry, new-entry, names, items, count-by, item-section, section, joint-sets, same-bytes, same-step, same-entry, met};
 ghost use Rattle.format.specs.Contents.{unnamed-leaf, unnamed-event};
 ghost use Rattle.format.specs.ContentChecks.{leaves-grounds, events-grounds, grounds-of};
 ghost use Rattle.format.specs.ListChecks.{section-alone, lists-check};
@@ -59,7 +61,7 @@ pub struct Range {
     pub many: u16,
 }
 
-// Of a step name's bytes, of a machine name's, and of the number of names.
+// Of a step name's bytes, of a machine name's, and of the numbers of sets and names.
 const STEP_BYTES: Range = Range {
     least: 1,
     few: BAD_LENGTH,
@@ -72,6 +74,13 @@ const MACHINE_BYTES: Range = Range {
     few: BAD_LENGTH,
     most: MOST_BYTES,
     many: BAD_LENGTH,
+};
+
+const SETS: Range = Range {
+    least: 1,
+    few: flow::WRONG_SETS,
+    most: flow::MOST_SETS as u16,
+    many: flow::WRONG_SETS,
 };
 
 const NAMES: Range = Range {
@@ -340,35 +349,54 @@ pub fn scan_alone(names: &[u8]) -> Item
     item
 }
 
-// So many numbers, one after the other. The value is how many.
-fn run_of_numbers(file: &[u8], c: Cursor, count: u16) -> Item
-    requires { ⌜ (c .at < 64000) × (c .at ≤ length (now file)) × (count ≤ 256) ⌝ }
-    ensures { λ r. ⌜ r ≡ as-item length (run (now (file .entry)) (c .at) (numbers count)) ⌝ }
+// So many items of a size, one after the other. The value is how many.
+fn run_of_items(file: &[u8], c: Cursor, count: u16, size: usize) -> Item
+    requires { ⌜ (c .at < 64000) × (c .at ≤ length (now file)) × (1 ≤ size) × (size * count ≤ 512) ⌝ }
+    ensures { λ r. ⌜ r ≡ as-item (count-by size) (run (now (file .entry)) (c .at) (items size count)) ⌝ }
 {
-    let mut next = c;
+    let from = c.at;
     let mut i: u16 = 0;
     while i < count {
-        let item = number_at(file, next);
-        let Item::Has(got) = item else {
-            return item;
-        };
-        next = got.next;
+        let at = from + size * i as usize;
+        if file.len() < at + size {
+            return Item::Bad(refusal(CUT, at));
+        }
         i += 1;
     }
-    Item::Has(Got { value: count, next })
+    found(count, from + size * count as usize)
 }
 
-// A section of numbers: its count, in a range, and so many times `each` numbers. The value is how many numbers there are.
-pub fn section_at(file: &[u8], c: Cursor, range: Range, each: u16) -> Item
-    requires { ⌜ (c .at < 60000) × (each * range .most ≤ 256) ⌝ }
-    ensures { λ r. ⌜ r ≡ as-item length (run (now (file .entry)) (c .at) (section range each)) ⌝ }
+// A section of items of a size: its count, in a range, and so many times `each` items. The value is how many items there are.
+fn items_at(file: &[u8], c: Cursor, range: Range, each: u16, size: usize) -> Item
+    requires { ⌜ (c .at < 60000) × (1 ≤ size) × (size * (each * range .most) ≤ 512) ⌝ }
+    ensures { λ r. ⌜ r ≡ as-item (count-by size) (run (now (file .entry)) (c .at) (item-section range size each)) ⌝ }
 {
     let at = c.at;
     let head = in_range(number_at(file, c), at, range);
     let Item::Has(got) = head else {
         return head;
     };
-    run_of_numbers(file, got.next, each * got.value)
+    run_of_items(file, got.next, each * got.value, size)
+}
+
+// A section of numbers, `each` of which make one. The value is how many numbers there are.
+pub fn section_at(file: &[u8], c: Cursor, range: Range, each: u16) -> Item
+    requires { ⌜ (c .at < 60000) × (each * range .most ≤ 256) ⌝ }
+    ensures { λ r. ⌜ r ≡ as-item length (run (now (file .entry)) (c .at) (section range each)) ⌝ }
+{
+    items_at(file, c, range, each, 2)
+}
+
+// The sets; none where the file ends. The value is how many there are.
+pub fn sets_at(file: &[u8], c: Cursor) -> Item
+    requires { ⌜ c .at < 60000 ⌝ }
+    ensures { λ r. ⌜ r ≡ as-item set-count (run (now (file .entry)) (c .at) joint-sets) ⌝ }
+{
+    let at = c.at;
+    if file.len() <= at {
+        return found(0, at);
+    }
+    items_at(file, c, SETS, 1, flow::SET_BYTES)
 }
 
 // The `count` numbers of the file at an offset, to the front of a table; the rest of it stays.
@@ -431,12 +459,18 @@ fn check_events(records: &[u16], names: u16) -> Check
     Check::Fine
 }
 
-// 4 to 9, 12, 13, 19 and 20, of the nodes, records and number of names that stand in a file.
-pub fn check_contents(nodes: &[u16], records: &[u16], names: u16, extent: Extent) -> Check
+// 4 to 9, with 22, 12, 13, 19 and 20, of the nodes, records, number of names and number of sets that stand in a file.
+pub fn check_contents(
+    nodes: &[u16],
+    records: &[u16],
+    names: u16,
+    many: usize,
+    extent: Extent,
+) -> Check
     requires { ⌜ (3 ≤ length (now nodes)) × (length (now nodes) ≤ 192) × (length (now records) ≤ 256) ⌝ }
-    ensures { λ r. ⌜ r ≡ first (grounds-of extent names (now (nodes .entry)) (now (records .entry))) ⌝ }
+    ensures { λ r. ⌜ r ≡ first (grounds-of extent names many (now (nodes .entry)) (now (records .entry))) ⌝ }
 {
-    let table = flow::check_nodes(nodes);
+    let table = flow::check_nodes(nodes, many);
     let Check::Fine = table else {
         return table;
     };
@@ -455,10 +489,16 @@ pub fn check_contents(nodes: &[u16], records: &[u16], names: u16, extent: Extent
     check_events(records, names)
 }
 
-// What is refused of a names section, nodes and records that are lent as lists: 15 to 18 and 21 of the names section, 1 to 3, 10 and 11,
-// then as of a file's contents.
-pub fn check_lists(names: &[u8], nodes: &[u16], records: &[u16], extent: Extent) -> Check
-    ensures { λ r. ⌜ r ≡ lists-check extent (now (names .entry)) (now (nodes .entry)) (now (records .entry)) ⌝ }
+// What is refused of a names section, nodes, records and sets that are lent as lists: 15 to 18 and 21 of the names section, 1 to 3, 10
+// and 11, 23, then as of a file's contents.
+pub fn check_lists(
+    names: &[u8],
+    nodes: &[u16],
+    records: &[u16],
+    sets: &[u8],
+    extent: Extent,
+) -> Check
+    ensures { λ r. ⌜ r ≡ lists-check extent (now (names .entry)) (now (sets .entry)) (now (nodes .entry)) (now (records .entry)) ⌝ }
 {
     let section = scan_alone(names);
     let Item::Has(got) = section else {
@@ -472,5 +512,15 @@ pub fn check_lists(names: &[u8], nodes: &[u16], records: &[u16], extent: Extent)
     let Check::Fine = list else {
         return list;
     };
-    check_contents(nodes, records, got.value, extent)
+    let lent = flow::check_sets(sets);
+    let Check::Fine = lent else {
+        return lent;
+    };
+    check_contents(
+        nodes,
+        records,
+        got.value,
+        sets.len() / flow::SET_BYTES,
+        extent,
+    )
 }

@@ -1,5 +1,5 @@
 -- The search by cues gives the answer that is meant: by the cues of records where no names are lent (`plain-ready`, `plain-judged`),
--- and by those that a names section makes (`named-ready`, `named-judged`). What both share is said once, of any leaves (`Cueing`), and
+-- and by those that a names section makes (`named-ready`, `named-judged`). What both share is said once, of any legend (`Cueing`), and
 -- of records of any extent where they need not be whole. The cues of all events are known to be right, not only those of a call's records
 -- (`plain-cueing`, `named-cueing`, and `events-heard` of any known numbers). Assumes nothing.
 use Prim.Native.Nat.{ℕ, zero, suc, _<_, _≤_}
@@ -10,7 +10,6 @@ use native.Mathlib.Omega.{arith}
 use lib.Dec.{T, eqb}
 use lib.ListN.{length, getD, take, drop, length-map}
 use lib.Seq.{take-at}
-use Rattle.calculus.specs.Term.{Leaf, leaf}
 use Rattle.calculus.specs.Search as search
 use Rattle.calculus.specs.Spending.{Out as Found, spent, back, visitB}
 use Rattle.calculus.specs.Budget.{answer, budgeted}
@@ -22,8 +21,9 @@ use Rattle.flow.specs.declared.Node.the-variants.{Event}
 use Rattle.flow.specs.Kinds.{node}
 use Rattle.flow.specs.Records.{most-events, is-event-number, is-closing-number, records}
 use Rattle.flow.specs.Refusals.{count, no-record}
-use Rattle.flow.specs.Drawn.{flow-by}
-use Rattle.flow.specs.Cues.{cued, cue-record, cue-records, cue-of, itself}
+use Rattle.flow.specs.Legends.{Legend, in-set, plain}
+use Rattle.flow.specs.Drawn.{flow-by, flow-of}
+use Rattle.flow.specs.Cues.{cued, cue-record, cue-records, cue-of, itself, masked}
 use Rattle.flow.specs.CuedFlows.{cued-judge, cued-within, cues-low}
 use Rattle.flow.specs.FineTable.{fine-table}
 use Rattle.flow.specs.RecordsFit.{fine-records, records-within}
@@ -33,7 +33,7 @@ use Rattle.search.specs.Searches.{SearchReady, Searched, LeftWithin}
 use Rattle.search.specs.SearchLaws.{visit-within}
 use Rattle.search.specs.Visits.{out-of}
 use Rattle.format.specs.Format.{Entry}
-use Rattle.format.specs.Matching.{named}
+use Rattle.format.specs.Matching.{with-names}
 use Rattle.format.specs.ContentLaws.{leaf-named}
 use Rattle.format.specs.ListChecks.{entries-in}
 use Rattle.format.specs.ListLaws.{ListsPassed}
@@ -67,7 +67,7 @@ module _ {ns xs work : List ℕ} {allowance : ℕ} {o : Out} {after : List ℕ} 
     leaves = s .leaves;
   }
 
----- Any leaves ----
+---- Any legend ----
 
 -- the cues that stand at the front of a table
 module _ (f : ℕ → ℕ) (rs table xs : List ℕ) (e : xs ≡ at-front (map f rs) table) where
@@ -79,9 +79,9 @@ abbrev pub Heard : ℕ → Type 0
 Heard a = (1 ≤ a) × (a ≤ most-events)
 
 -- the cues of all events take what is meant, at every event leaf of the table
-pub record Cueing (leaves : ℕ → Leaf) (other : ℕ → ℕ) (ns : List ℕ) : Type 0 where
+pub record Cueing (legend : Legend) (other : ℕ → ℕ) (ns : List ℕ) : Type 0 where
   pub small : (a : ℕ) → Heard a → (a ≤ most-events) × (other a ≤ most-events)
-  pub right : (i e : ℕ) → i < count ns → node ns i ≡ Event e → (a : ℕ) → Heard a → leaves e .takes a ≡ (eqb a e || eqb (other a) e)
+  pub right : (i e : ℕ) → i < count ns → node ns i ≡ Event e → (a : ℕ) → Heard a → legend .leaves e .takes a ≡ (eqb a e || eqb (other a) e)
 
 -- a known number is not 0
 pub from-one : (r : ℕ) → no-record r ≡ false → 1 ≤ r
@@ -95,35 +95,35 @@ pub events-heard : (rs : List ℕ) → ((i : ℕ) → i < length rs → no-recor
 events-heard rs each i h l = (from-one (getD rs i 0) (each i h), l)
 
 -- records that pass, of any extent
-module _ {extent : Extent} {leaves : ℕ → Leaf} {other : ℕ → ℕ} {ns rs : List ℕ} (work : List ℕ) (passed : Passed extent ns rs (length work)) (c : Cueing leaves other ns)
-    {xs : List ℕ} (is : xs ≡ map (cue-of other) rs) where
+module _ {extent : Extent} {legend : Legend} {other : ℕ → ℕ} {ns rs : List ℕ} (work : List ℕ) (passed : Passed extent ns rs (length work)) (c : Cueing legend other ns)
+    {xs : List ℕ} (is : xs ≡ map (cue-of (masked (legend .sets)) other) rs) where
   pub known : (i : ℕ) → i < length rs → no-record (getD rs i 0) ≡ false
   known = fine-records extent ns rs (passed .records) .each
 
-  pub as-long : length (map (cue-of other) rs) ≡ length rs
-  as-long = length-map rs (cue-of other)
+  pub as-long : length (map (cue-of (masked (legend .sets)) other) rs) ≡ length rs
+  as-long = length-map rs (cue-of (masked (legend .sets)) other)
 
   pub cueing-ready : SearchReady ns xs work
   cueing-ready = subst (λ (l : List ℕ). SearchReady ns l work) (sym is) (record {
     table = passed .table;
     few = omega (arith, as-long, records-few _ ns rs (passed .records));
-    low = λ i h. cues-low leaves other ns rs (passed .table) known Heard (events-heard rs known) (c .small) (c .right) i (omega (arith, as-long));
-    fits = cued-within leaves other ns rs (passed .table) known Heard (events-heard rs known) (c .small) (c .right) (records-within extent ns rs leaves (passed .table) (passed .records));
+    low = λ i h. cues-low legend other ns rs (passed .table) known Heard (events-heard rs known) (c .small) (c .right) i (omega (arith, as-long));
+    fits = cued-within legend other ns rs (passed .table) known Heard (events-heard rs known) (c .small) (c .right) (records-within extent ns rs legend (passed .table) (passed .records));
     room = subst (λ (n : ℕ). room-of (count ns) n ≤ length work) (sym as-long) (passed .enough);
   })
 
   cueing-searched : {allowance : ℕ} {r : Answer} {after : List ℕ} → Answered ns xs allowance work r after
-      → (r ≡ answer-of (search.judge (flow-by leaves ns) (records rs) allowance)) × (after ≡ cleared (room-wanted ns rs) work)
+      → (r ≡ answer-of (search.judge (flow-by legend ns) (records rs) allowance)) × (after ≡ cleared (room-wanted ns rs) work)
   cueing-searched {allowance} a = (
     a .answers ∙ ap (λ (l : List ℕ). answer-of (search.judge (flow-by cued ns) (cue-records l) allowance)) is
-        ∙ ap answer-of (cued-judge leaves other ns rs (passed .table) known Heard (events-heard rs known) (c .small) (c .right) allowance),
+        ∙ ap answer-of (cued-judge legend other ns rs (passed .table) known Heard (events-heard rs known) (c .small) (c .right) allowance),
     a .leaves ∙ ap (λ (n : ℕ). cleared (room-of (count ns) n) work) (ap length is ∙ as-long),
   )
 
 ---- Without names ----
 
-pub plain-cueing : (ns : List ℕ) → Cueing leaf itself ns
-plain-cueing ns = record {
+pub plain-cueing : (sets ns : List ℕ) → Cueing (plain sets) itself ns
+plain-cueing sets ns = record {
   small = λ a h. (h .1, h .1);
   right = λ i e w n a h. by (eqb a e);
 }
@@ -134,34 +134,34 @@ plain-cueing ns = record {
 
 ---- With names ----
 
-module _ (extent : Extent) (s ns rs : List ℕ) (lists : ListsPassed extent s ns rs) where
+module _ (extent : Extent) (s sets ns rs : List ℕ) (lists : ListsPassed extent s sets ns rs) where
   abbrev es : List Entry
   es = entries-in s
 
-  pub named-cueing : Cueing (named es) (other es) ns
+  pub named-cueing : Cueing (with-names es sets) (other es) ns
   named-cueing = record {
     small = λ a h. (h .1, section-other-small s (lists .section .is) a (h .1));
-    right = λ i e w n a h. let q = leaf-named (length es) ns (fine-table ns (lists .table)) i e w n (lists .contents .leaves i w) in section-takes s (lists .section .is) e a (q .0) (q .1) (h .0);
+    right = λ i e w n a h. let q = leaf-named (length es) ns (fine-table ns sets (lists .table)) i e w n (lists .contents .leaves i w) in section-takes s (lists .section .is) e a (q .0) (q .1) (h .0);
   }
 
 ---- As the code comes to it ----
 
 -- xs are the cues of the records, as they stand at the front of the code's own table
-module _ (ns rs work : List ℕ) {xs : List ℕ} where
-  module _ (e : judge-check ns rs (length work) ≡ Fine) (is : xs ≡ map (cue-of itself) rs) where
+module _ (sets ns rs work : List ℕ) {xs : List ℕ} where
+  module _ (e : judge-check sets ns rs (length work) ≡ Fine) (is : xs ≡ map (cue-of (masked (in-set sets)) itself) rs) where
     pub plain-ready : SearchReady ns xs work
-    plain-ready = cueing-ready work (judge-passed ns rs (length work) e) (plain-cueing ns) is
+    plain-ready = cueing-ready work (judge-passed sets ns rs (length work) e) (plain-cueing sets ns) is
 
-    pub plain-judged : {allowance : ℕ} {r : Answer} {after : List ℕ} → Answered ns xs allowance work r after → Judged ns rs allowance work r after
+    pub plain-judged : {allowance : ℕ} {r : Answer} {after : List ℕ} → Answered ns xs allowance work r after → Judged sets ns rs allowance work r after
     plain-judged {allowance} a =
-        let z = cueing-searched work (judge-passed ns rs (length work) e) (plain-cueing ns) is a in
-        judge-searches (flow-by leaf ns) ns rs allowance work e (z .0) (z .1)
+        let z = cueing-searched work (judge-passed sets ns rs (length work) e) (plain-cueing sets ns) is a in
+        judge-searches (flow-of sets ns) ns rs allowance work e (z .0) (z .1)
 
-  module _ (s : List ℕ) (e : named-judge-check s ns rs (length work) ≡ Fine) (is : xs ≡ map (cue-of (other (entries-in s))) rs) where
+  module _ (s : List ℕ) (e : named-judge-check s sets ns rs (length work) ≡ Fine) (is : xs ≡ map (cue-of (masked (in-set sets)) (other (entries-in s))) rs) where
     pub named-ready : SearchReady ns xs work
-    named-ready = cueing-ready work (named-passed ns rs (length work) s e) (named-cueing Whole s ns rs (named-lists ns rs (length work) s e)) is
+    named-ready = cueing-ready work (named-passed sets ns rs (length work) s e) (named-cueing Whole s sets ns rs (named-lists sets ns rs (length work) s e)) is
 
-    pub named-judged : {allowance : ℕ} {r : Answer} {after : List ℕ} → Answered ns xs allowance work r after → NamedJudged s ns rs allowance work r after
+    pub named-judged : {allowance : ℕ} {r : Answer} {after : List ℕ} → Answered ns xs allowance work r after → NamedJudged s sets ns rs allowance work r after
     named-judged {allowance} a =
-        let z = cueing-searched work (named-passed ns rs (length work) s e) (named-cueing Whole s ns rs (named-lists ns rs (length work) s e)) is a in
-        judge-searches (flow-by (named (entries-in s)) ns) ns rs allowance work e (z .0) (z .1)
+        let z = cueing-searched work (named-passed sets ns rs (length work) s e) (named-cueing Whole s sets ns rs (named-lists sets ns rs (length work) s e)) is a in
+        judge-searches (flow-by (with-names (entries-in s) sets) ns) ns rs allowance work e (z .0) (z .1)

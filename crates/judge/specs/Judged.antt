@@ -17,7 +17,7 @@ use Rattle.flow.specs.declared.Check.the-variants as check
 use Rattle.flow.specs.Records.{records}
 use Rattle.flow.specs.Checks.{first, grounds}
 use Rattle.flow.specs.Drawn.{flow-by, flow-of}
-use Rattle.format.specs.Matching.{named}
+use Rattle.format.specs.Matching.{with-names}
 use Rattle.format.specs.ListChecks.{entries-in, named-check}
 use Rattle.judge.specs.declared.Answer.{Answer}
 use Rattle.judge.specs.declared.Answer.the-variants.{Accepted, Rejected, Undecided, Refused}
@@ -27,13 +27,13 @@ unfoldable pub use Rattle.judge.specs.Told.{told, too-short}
 
 ---- The checks ----
 
-unfoldable pub judge-check : List ℕ → List ℕ → ℕ → Check
-judge-check ns rs room = first (grounds (judge-order ns rs room))
+unfoldable pub judge-check : List ℕ → List ℕ → List ℕ → ℕ → Check
+judge-check sets ns rs room = first (grounds (judge-order sets ns rs room))
 
 -- by the names section first
-unfoldable pub named-judge-check : List ℕ → List ℕ → List ℕ → ℕ → Check
+unfoldable pub named-judge-check : List ℕ → List ℕ → List ℕ → List ℕ → ℕ → Check
 unfolding named-check
-named-judge-check s ns rs room = named-check s (named-judge-order ns rs room)
+named-judge-check s sets ns rs room = named-check s (named-judge-order sets ns rs room)
 
 ---- What is answered ----
 
@@ -53,17 +53,17 @@ unfoldable pub judged-by : Check → State → List ℕ → ℕ → Answer
 unfolding unless-refused answer-of
 judged-by c flow rs allowance = unless-refused c Refused (answer-of (search.judge flow (records rs) allowance))
 
--- of `judge`, by the nodes, the records, how many work bytes are lent, and the allowance
-abbrev pub judged : List ℕ → List ℕ → ℕ → ℕ → Answer
-judged ns rs room allowance = judged-by (judge-check ns rs room) (flow-of ns) rs allowance
+-- of `judge`, by the sets, the nodes, the records, how many work bytes are lent, and the allowance
+abbrev pub judged : List ℕ → List ℕ → List ℕ → ℕ → ℕ → Answer
+judged sets ns rs room allowance = judged-by (judge-check sets ns rs room) (flow-of sets ns) rs allowance
 
 -- the flow that the nodes draw with the names of a section
-abbrev pub named-flow : List ℕ → List ℕ → State
-named-flow s ns = flow-by (named (entries-in s)) ns
+abbrev pub named-flow : List ℕ → List ℕ → List ℕ → State
+named-flow s sets ns = flow-by (with-names (entries-in s) sets) ns
 
 -- of `judge_named`
-abbrev pub judged-named : List ℕ → List ℕ → List ℕ → ℕ → ℕ → Answer
-judged-named s ns rs room allowance = judged-by (named-judge-check s ns rs room) (named-flow s ns) rs allowance
+abbrev pub judged-named : List ℕ → List ℕ → List ℕ → List ℕ → ℕ → ℕ → Answer
+judged-named s sets ns rs room allowance = judged-by (named-judge-check s sets ns rs room) (named-flow s sets ns) rs allowance
 
 ---- What becomes of the work bytes ----
 
@@ -72,11 +72,11 @@ unfoldable pub bytes-by : Check → ℕ → List ℕ → List ℕ
 unfolding unless-refused cleared
 bytes-by c room work = unless-refused c (λ r. work) (cleared room work)
 
-abbrev pub work-after : List ℕ → List ℕ → List ℕ → List ℕ
-work-after ns rs work = bytes-by (judge-check ns rs (length work)) (room-wanted ns rs) work
+abbrev pub work-after : List ℕ → List ℕ → List ℕ → List ℕ → List ℕ
+work-after sets ns rs work = bytes-by (judge-check sets ns rs (length work)) (room-wanted ns rs) work
 
-abbrev pub named-work-after : List ℕ → List ℕ → List ℕ → List ℕ → List ℕ
-named-work-after s ns rs work = bytes-by (named-judge-check s ns rs (length work)) (room-wanted ns rs) work
+abbrev pub named-work-after : List ℕ → List ℕ → List ℕ → List ℕ → List ℕ → List ℕ
+named-work-after s sets ns rs work = bytes-by (named-judge-check s sets ns rs (length work)) (room-wanted ns rs) work
 
 ---- The contracts ----
 
@@ -86,9 +86,9 @@ pub record JudgedBy (c : Check) (flow : State) (ns rs : List ℕ) (allowance : �
   pub leaves : after ≡ bytes-by c (room-wanted ns rs) work
 
 -- of `judge`
-abbrev pub Judged : List ℕ → List ℕ → ℕ → List ℕ → Answer → List ℕ → Type 0
-Judged ns rs allowance work r after = JudgedBy (judge-check ns rs (length work)) (flow-of ns) ns rs allowance work r after
+abbrev pub Judged : List ℕ → List ℕ → List ℕ → ℕ → List ℕ → Answer → List ℕ → Type 0
+Judged sets ns rs allowance work r after = JudgedBy (judge-check sets ns rs (length work)) (flow-of sets ns) ns rs allowance work r after
 
 -- of `judge_named`
-abbrev pub NamedJudged : List ℕ → List ℕ → List ℕ → ℕ → List ℕ → Answer → List ℕ → Type 0
-NamedJudged s ns rs allowance work r after = JudgedBy (named-judge-check s ns rs (length work)) (named-flow s ns) ns rs allowance work r after
+abbrev pub NamedJudged : List ℕ → List ℕ → List ℕ → List ℕ → ℕ → List ℕ → Answer → List ℕ → Type 0
+NamedJudged s sets ns rs allowance work r after = JudgedBy (named-judge-check s sets ns rs (length work)) (named-flow s sets ns) ns rs allowance work r after

@@ -19,7 +19,7 @@ use Rattle.flow.specs.Records.{records}
 use Rattle.flow.specs.Refusals.{ground, Round, table-order, records-order}
 use Rattle.flow.specs.Checks.{refused, first, grounds, or-else-check, table-check, records-check}
 use Rattle.flow.specs.FirstRefusal.{None, more, fine-exactly, orders-append, both-fine, or-else-refused, or-else-fine, single-held, single-passed}
-use Rattle.flow.specs.FineTable.{fine-table}
+use Rattle.flow.specs.FineTable.{FineTable, fine-table}
 use Rattle.flow.specs.RecordsFit.{fine-records}
 use Rattle.format.specs.ListChecks.{lists-check}
 use Rattle.format.specs.ListLaws.{ListsPassed, lists-passed, lists-then}
@@ -60,12 +60,12 @@ module _ {c : Check} (flow : State) (ns rs : List ℕ) (allowance : ℕ) (work :
 ---- The checks, as the code comes to them ----
 
 -- rounds behind those of nodes and records, of any extent
-pub plain-then : (extent : Extent) (ns rs : List ℕ) (order : List Round)
-    → first (grounds (table-order ns ++ (records-order extent ns rs ++ order))) ≡ or-else-check (table-check ns) (or-else-check (records-check extent ns rs) (first (grounds order)))
+pub plain-then : (extent : Extent) (sets ns rs : List ℕ) (order : List Round)
+    → first (grounds (table-order sets ns ++ (records-order extent ns rs ++ order))) ≡ or-else-check (table-check sets ns) (or-else-check (records-check extent ns rs) (first (grounds order)))
 unfolding table-check records-check
-plain-then extent ns rs order =
-    orders-append (table-order ns) (records-order extent ns rs ++ order)
-    ∙ ap (or-else-check (table-check ns)) (orders-append (records-order extent ns rs) order)
+plain-then extent sets ns rs order =
+    orders-append (table-order sets ns) (records-order extent ns rs ++ order)
+    ∙ ap (or-else-check (table-check sets ns)) (orders-append (records-order extent ns rs) order)
 
 module _ (ns rs : List ℕ) (room : ℕ) where
   -- 14
@@ -84,38 +84,39 @@ module _ (ns rs : List ℕ) (room : ℕ) where
       by : None (ground 14 0 (too-short ns rs room) ∷ []) → room-wanted ns rs ≤ room
       by (more t n) = ltb-false room (room-wanted ns rs) (is-false (too-short ns rs room) t)
 
-  pub check-parts : judge-check ns rs room ≡ or-else-check (table-check ns) (or-else-check (records-check Whole ns rs) (room-check ns rs room))
+module _ (sets ns rs : List ℕ) (room : ℕ) where
+  pub check-parts : judge-check sets ns rs room ≡ or-else-check (table-check sets ns) (or-else-check (records-check Whole ns rs) (room-check ns rs room))
   unfolding judge-check
-  check-parts = plain-then Whole ns rs (room-order ns rs room)
+  check-parts = plain-then Whole sets ns rs (room-order ns rs room)
 
-  pub table-refuses : {c : Check} {r : Refusal} → c ≡ table-check ns → c ≡ check.Refused r → c ≡ judge-check ns rs room
+  pub table-refuses : {c : Check} {r : Refusal} → c ≡ table-check sets ns → c ≡ check.Refused r → c ≡ judge-check sets ns rs room
   table-refuses q h = q ∙ or-else-refused _ (sym q ∙ h) ∙ sym check-parts
 
-  module _ (table : table-check ns ≡ Fine) where
-    pub records-refuse : {c : Check} {r : Refusal} → c ≡ records-check Whole ns rs → c ≡ check.Refused r → c ≡ judge-check ns rs room
+  module _ (table : table-check sets ns ≡ Fine) where
+    pub records-refuse : {c : Check} {r : Refusal} → c ≡ records-check Whole ns rs → c ≡ check.Refused r → c ≡ judge-check sets ns rs room
     records-refuse q h = q ∙ or-else-refused _ (sym q ∙ h) ∙ or-else-fine _ table ∙ sym check-parts
 
-    pub room-last : {c : Check} → records-check Whole ns rs ≡ Fine → c ≡ room-check ns rs room → c ≡ judge-check ns rs room
+    pub room-last : {c : Check} → records-check Whole ns rs ≡ Fine → c ≡ room-check ns rs room → c ≡ judge-check sets ns rs room
     room-last list q = q ∙ or-else-fine _ list ∙ or-else-fine _ table ∙ sym check-parts
 
   -- with names
   module _ (s : List ℕ) where
-    pub named-parts : named-judge-check s ns rs room ≡ or-else-check (lists-check Whole s ns rs) (room-check ns rs room)
+    pub named-parts : named-judge-check s sets ns rs room ≡ or-else-check (lists-check Whole s sets ns rs) (room-check ns rs room)
     unfolding named-judge-check
-    named-parts = lists-then Whole s ns rs (room-order ns rs room)
+    named-parts = lists-then Whole s sets ns rs (room-order ns rs room)
 
-    pub lists-refuse : {c : Check} {r : Refusal} → c ≡ lists-check Whole s ns rs → c ≡ check.Refused r → c ≡ named-judge-check s ns rs room
+    pub lists-refuse : {c : Check} {r : Refusal} → c ≡ lists-check Whole s sets ns rs → c ≡ check.Refused r → c ≡ named-judge-check s sets ns rs room
     lists-refuse q h = q ∙ or-else-refused _ (sym q ∙ h) ∙ sym named-parts
 
-    pub named-room-last : {c : Check} → lists-check Whole s ns rs ≡ Fine → c ≡ room-check ns rs room → c ≡ named-judge-check s ns rs room
+    pub named-room-last : {c : Check} → lists-check Whole s sets ns rs ≡ Fine → c ≡ room-check ns rs room → c ≡ named-judge-check s sets ns rs room
     named-room-last lists q = q ∙ or-else-fine _ lists ∙ sym named-parts
 
 -- how long lists are that pass
-pub table-few : (ns : List ℕ) → table-check ns ≡ Fine → length ns ≤ 192
-table-few ns e = omega (arith, fine-table ns e .few, fine-table ns e .whole)
+pub table-few : (ns : List ℕ) → FineTable ns → length ns ≤ 192
+table-few ns fine = omega (arith, fine .few, fine .whole)
 
-pub table-some : (ns : List ℕ) → table-check ns ≡ Fine → 3 ≤ length ns
-table-some ns e = omega (arith, fine-table ns e .some)
+pub table-some : (ns : List ℕ) → FineTable ns → 3 ≤ length ns
+table-some ns fine = omega (arith, fine .some)
 
 pub records-few : (extent : Extent) (ns rs : List ℕ) → records-check extent ns rs ≡ Fine → length rs ≤ 256
 records-few extent ns rs e = fine-records extent ns rs e .few
@@ -124,23 +125,23 @@ records-few extent ns rs e = fine-records extent ns rs e .few
 
 -- a table, records and room that pass
 pub record Passed (extent : Extent) (ns rs : List ℕ) (room : ℕ) : Type 0 where
-  pub table : table-check ns ≡ Fine
+  pub table : FineTable ns
   pub records : records-check extent ns rs ≡ Fine
   pub enough : room-wanted ns rs ≤ room
 
-module _ (ns rs : List ℕ) (room : ℕ) where
-  pub judge-passed : judge-check ns rs room ≡ Fine → Passed Whole ns rs room
+module _ (sets ns rs : List ℕ) (room : ℕ) where
+  pub judge-passed : judge-check sets ns rs room ≡ Fine → Passed Whole ns rs room
   judge-passed e =
-      let a = both-fine (table-check ns) (or-else-check (records-check Whole ns rs) (room-check ns rs room)) (sym (check-parts ns rs room) ∙ e) in
+      let a = both-fine (table-check sets ns) (or-else-check (records-check Whole ns rs) (room-check ns rs room)) (sym (check-parts sets ns rs room) ∙ e) in
       let b = both-fine (records-check Whole ns rs) (room-check ns rs room) (a .1) in
-      record { table = a .0; records = b .0; enough = room-enough ns rs room (b .1) }
+      record { table = fine-table ns sets (a .0); records = b .0; enough = room-enough ns rs room (b .1) }
 
-  module _ (s : List ℕ) (e : named-judge-check s ns rs room ≡ Fine) where
-    parts : (lists-check Whole s ns rs ≡ Fine) × (room-check ns rs room ≡ Fine)
-    parts = both-fine (lists-check Whole s ns rs) (room-check ns rs room) (sym (named-parts ns rs room s) ∙ e)
+  module _ (s : List ℕ) (e : named-judge-check s sets ns rs room ≡ Fine) where
+    parts : (lists-check Whole s sets ns rs ≡ Fine) × (room-check ns rs room ≡ Fine)
+    parts = both-fine (lists-check Whole s sets ns rs) (room-check ns rs room) (sym (named-parts sets ns rs room s) ∙ e)
 
-    pub named-lists : ListsPassed Whole s ns rs
-    named-lists = lists-passed Whole s ns rs (parts .0)
+    pub named-lists : ListsPassed Whole s sets ns rs
+    named-lists = lists-passed Whole s sets ns rs (parts .0)
 
     pub named-passed : Passed Whole ns rs room
-    named-passed = record { table = named-lists .table; records = named-lists .records; enough = room-enough ns rs room (parts .1) }
+    named-passed = record { table = fine-table ns sets (named-lists .table); records = named-lists .records; enough = room-enough ns rs room (parts .1) }

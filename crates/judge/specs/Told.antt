@@ -1,6 +1,6 @@
 -- What an answer of `judge` or `judge_named` tells in document 01's terms: its word, number, place and count for each case (`told`), of
--- which every promise is stated; and what is refused, in which order. `ns` are the numbers of the nodes, `rs` those of the records.
--- Definitions only: the promises about them are in the crate above (Demands, NamedDemands). Assumes nothing.
+-- which every promise is stated; and what is refused, in which order. `ns` are the numbers of the nodes, `rs` those of the records, `sets`
+-- the bytes of the lent sets. Definitions only: the promises about them are in the crate above (Demands, NamedDemands). Assumes nothing.
 use Prim.Native.Nat.{ℕ}
 use mathlib.Core.Bool.{Bool}
 use mathlib.Core.List.{List, [], _∷_, _++_}
@@ -55,10 +55,10 @@ too-short ns rs room = ltb room (room-wanted ns rs)
 abbrev pub room-order : List ℕ → List ℕ → ℕ → List Round
 room-order ns rs room = lone (ground 14 0 (too-short ns rs room)) ∷ []
 
--- 01: "Judging checks 1 to 3; then nodes from 0 up, each in the order 4 to 8; then 9 to 14."
-abbrev pub judge-order : List ℕ → List ℕ → ℕ → List Round
-judge-order ns rs room = table-order ns ++ (records-order Whole ns rs ++ room-order ns rs room)
+-- 01: "Judging checks 1 to 3; then nodes from 0 up, each in the order 4 to 8; then 9 to 14." 02, Four: 23 "just before the nodes"
+abbrev pub judge-order : List ℕ → List ℕ → List ℕ → ℕ → List Round
+judge-order sets ns rs room = table-order sets ns ++ (records-order Whole ns rs ++ room-order ns rs room)
 
 -- 02, Two: "with a names section, those of One in One's order"; 01: "14, place 0, comes last"
-abbrev pub named-judge-order : List ℕ → List ℕ → ℕ → List Entry → List Round
-named-judge-order ns rs room es = lists-order Whole (length es) ns rs ++ room-order ns rs room
+abbrev pub named-judge-order : List ℕ → List ℕ → List ℕ → ℕ → List Entry → List Round
+named-judge-order sets ns rs room es = lists-order Whole (length es) sets ns rs ++ room-order ns rs room

@@ -67,11 +67,11 @@ fn check_room(nodes: &[u16], records: &[u16], room: usize) -> Check
     Check::Fine
 }
 
-// 1 to 14.
-fn check_all(nodes: &[u16], records: &[u16], room: usize) -> Check
-    ensures { λ r. ⌜ r ≡ judge-check (now (nodes .entry)) (now (records .entry)) room ⌝ }
+// 1 to 14, with 22 and 23.
+fn check_all(nodes: &[u16], records: &[u16], sets: &[u8], room: usize) -> Check
+    ensures { λ r. ⌜ r ≡ judge-check (now (sets .entry)) (now (nodes .entry)) (now (records .entry)) room ⌝ }
 {
-    let table = flow::check_table(nodes);
+    let table = flow::check_table(nodes, sets);
     let Check::Fine = table else {
         return table;
     };
@@ -83,10 +83,10 @@ fn check_all(nodes: &[u16], records: &[u16], room: usize) -> Check
 }
 
 // With names: as the writer's lists, then 14.
-fn check_named(names: &[u8], nodes: &[u16], records: &[u16], room: usize) -> Check
-    ensures { λ r. ⌜ r ≡ named-judge-check (now (names .entry)) (now (nodes .entry)) (now (records .entry)) room ⌝ }
+fn check_named(names: &[u8], nodes: &[u16], records: &[u16], sets: &[u8], room: usize) -> Check
+    ensures { λ r. ⌜ r ≡ named-judge-check (now (names .entry)) (now (sets .entry)) (now (nodes .entry)) (now (records .entry)) room ⌝ }
 {
-    let lists = format::check_lists(names, nodes, records, Extent::Whole);
+    let lists = format::check_lists(names, nodes, records, sets, Extent::Whole);
     let Check::Fine = lists else {
         return lists;
     };
@@ -94,7 +94,7 @@ fn check_named(names: &[u8], nodes: &[u16], records: &[u16], room: usize) -> Che
 }
 
 // The search by these cues, and its answer.
-fn answer_by(nodes: &[u16], cues: &[u32], work: &mut [u8], allowance: u32) -> Answer
+fn answer_by(nodes: &[u16], cues: &[u64], work: &mut [u8], allowance: u32) -> Answer
     requires { ⌜ SearchReady (now nodes) (now cues) (now work) ⌝ }
     ensures { λ r. ⌜ Answered (now (nodes .entry)) (now (cues .entry)) allowance (now (work .entry)) r (now (work .exit)) ⌝ }
 {
@@ -102,17 +102,17 @@ fn answer_by(nodes: &[u16], cues: &[u32], work: &mut [u8], allowance: u32) -> An
     answer_of(out, cues.len(), allowance)
 }
 
-// Judges a record list against a flow: a refusal by document 01's numbers, or the verdict of the counted search. The work bytes
-// lent are left as they are by a refusal, else zero up to the room wanted.
-pub fn judge(nodes: &[u16], records: &[u16], work: &mut [u8], allowance: u32) -> Answer
-    ensures { λ r. ⌜ Judged (now (nodes .entry)) (now (records .entry)) allowance (now (work .entry)) r (now (work .exit)) ⌝ }
+// Judges a record list against a flow, whose joint events are in the lent sets, if there are any: a refusal by the documents' numbers, or
+// the verdict of the counted search. The work bytes lent are left as they are by a refusal, else zero up to the room wanted.
+pub fn judge(nodes: &[u16], records: &[u16], sets: &[u8], work: &mut [u8], allowance: u32) -> Answer
+    ensures { λ r. ⌜ Judged (now (sets .entry)) (now (nodes .entry)) (now (records .entry)) allowance (now (work .entry)) r (now (work .exit)) ⌝ }
 {
-    let found = check_all(nodes, records, work.len());
+    let found = check_all(nodes, records, sets, work.len());
     if let Check::Refused(refusal) = found {
         return Answer::Refused(refusal);
     }
-    let mut cues = [0u32; 256];
-    matching::plain_cues(records, &mut cues);
+    let mut cues = [0u64; 256];
+    matching::plain_cues(records, sets, &mut cues);
     let n = records.len();
     answer_by(nodes, &cues[..n], work, allowance)
 }
@@ -123,17 +123,18 @@ pub fn judge_named(
     names: &[u8],
     nodes: &[u16],
     records: &[u16],
+    sets: &[u8],
     work: &mut [u8],
     allowance: u32,
 ) -> Answer
-    ensures { λ r. ⌜ NamedJudged (now (names .entry)) (now (nodes .entry)) (now (records .entry)) allowance (now (work .entry)) r (now (work .exit)) ⌝ }
+    ensures { λ r. ⌜ NamedJudged (now (names .entry)) (now (sets .entry)) (now (nodes .entry)) (now (records .entry)) allowance (now (work .entry)) r (now (work .exit)) ⌝ }
 {
-    let found = check_named(names, nodes, records, work.len());
+    let found = check_named(names, nodes, records, sets, work.len());
     if let Check::Refused(refusal) = found {
         return Answer::Refused(refusal);
     }
-    let mut cues = [0u32; 256];
-    matching::named_cues(names, records, &mut cues);
+    let mut cues = [0u64; 256];
+    matching::named_cues(names, records, sets, &mut cues);
     let n = records.len();
     answer_by(nodes, &cues[..n], work, allowance)
 }

@@ -5,7 +5,7 @@ use Prim.Native.Nat.{ℕ, zero, suc, _<_, _≤_}
 use mathlib.Core.Bool.{Bool, false, _&&_, _||_, cond}
 use mathlib.Core.List.{List, map}
 use mathlib.Core.Path.{_≡_}
-use lib.Dec.{ltb}
+use lib.Dec.{eqb, ltb}
 use lib.ListN.{length, getD}
 use Rattle.flow.specs.Kinds.{form, node, one-of}
 use Rattle.flow.specs.Records.{most-events, all-numbers}
@@ -25,20 +25,24 @@ unfolding some-leaf takes-cue
 hears ns x = some-leaf (takes-cue x) ns (count ns)
 
 -- of a record's number: its cue, or 0, which is no cue, where it is an event's that no leaf takes
-unfoldable pub ask : (ℕ → ℕ) → List ℕ → ℕ → ℕ
+unfoldable pub ask : (ℕ → ℕ) → (ℕ → ℕ) → List ℕ → ℕ → ℕ
 unfolding hears cue-of
-ask other ns r = cond (ltb most-events r || hears ns (cue-of other r)) (cue-of other r) 0
+ask mask other ns r = cond (ltb most-events r || hears ns (cue-of mask other r)) (cue-of mask other r) 0
 
-unfoldable pub asks : (ℕ → ℕ) → List ℕ → List ℕ
+unfoldable pub asks : (ℕ → ℕ) → (ℕ → ℕ) → List ℕ → List ℕ
 unfolding ask all-numbers
-asks other ns = map (ask other ns) all-numbers
+asks mask other ns = map (ask mask other ns) all-numbers
 
 ---- As the code finds them ----
+
+-- whether a leaf of event e takes event a: by its cue it does the same, whatever sets have it (`takes-cue-is`, TakenLaws)
+abbrev pub takes-event : (ℕ → ℕ) → ℕ → ℕ → Bool
+takes-event other a e = eqb a e || eqb (other a) e
 
 -- the marks say which events a leaf among the first k nodes takes
 pub record HeardMarks (other : ℕ → ℕ) (ns : List ℕ) (k : ℕ) (marks : List Bool) : Type 0 where
   pub size : length marks ≡ 257
-  pub each : (a : ℕ) → a ≤ most-events → getD marks a false ≡ some-leaf (takes-cue (cue-of other a)) ns k
+  pub each : (a : ℕ) → a ≤ most-events → getD marks a false ≡ some-leaf (takes-event other a) ns k
 
 -- the events that pass a test are marked too
 pub record AlsoMarked (test : ℕ → Bool) (before after : List Bool) : Type 0 where
@@ -51,12 +55,12 @@ unfolding same-step
 has-step step es a = cond (ltb a 1 || ltb (length es) a) false (same-step step (entry-of es a .step))
 
 -- the same as `ask`, by the marks of all nodes
-unfoldable pub ask-by : (ℕ → ℕ) → List Bool → ℕ → ℕ
+unfoldable pub ask-by : (ℕ → ℕ) → (ℕ → ℕ) → List Bool → ℕ → ℕ
 unfolding cue-of
-ask-by other marks r = cond (ltb most-events r || getD marks r false) (cue-of other r) 0
+ask-by mask other marks r = cond (ltb most-events r || getD marks r false) (cue-of mask other r) 0
 
 -- what is asked for the first i numbers stands in a table
-pub record AskedTo (other : ℕ → ℕ) (ns : List ℕ) (i : ℕ) (table : List ℕ) : Type 0 where
+pub record AskedTo (mask other : ℕ → ℕ) (ns : List ℕ) (i : ℕ) (table : List ℕ) : Type 0 where
   pub within : i ≤ 259
   pub long : length table ≡ 259
-  pub each : (k : ℕ) → k < i → getD table k 0 ≡ ask other ns (getD all-numbers k 0)
+  pub each : (k : ℕ) → k < i → getD table k 0 ≡ ask mask other ns (getD all-numbers k 0)

@@ -4,6 +4,7 @@ pub mod Asks
 -- Theorems.
 pub mod OtherLaws
 pub mod NumberLaws
+pub mod SetLaws
 pub mod AskLaws
 -- Theorems on the way to the code.
 pub mod CueLaws

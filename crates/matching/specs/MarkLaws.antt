@@ -11,11 +11,12 @@ use borrow.Author.Tests.{eqb-true, eqb-false, ltb-false, eq-eqb, ne-eqb}
 use lib.Dec.{eqb, ltb}
 use lib.ListN.{length, getD, set, length-set, replicate, getD-replicate}
 use lib.Seq.{getD-set-same, getD-set-other, ext-getD}
+use Rattle.calculus.specs.Term.{Joint}
 use Rattle.flow.specs.declared.Form.{Form}
 use Rattle.flow.specs.Kinds.{form, node, one-of}
 use Rattle.flow.specs.Records.{most-events, all-numbers}
 use Rattle.flow.specs.Refusals.{count}
-use Rattle.flow.specs.Cues.{takes-cue, cue-of, itself}
+use Rattle.flow.specs.Cues.{cue-of, itself, masked}
 use Rattle.format.specs.Format.{Entry}
 use Rattle.format.specs.Matching.{same-step, no-machine}
 use Rattle.format.specs.ListChecks.{entries-in, Whole}
@@ -23,10 +24,11 @@ use Rattle.format.specs.Items.{number-at, name-at, entry-at, entries-at, entrie
 use Rattle.format.specs.SectionLaws.{entries-at-length, entries-at-more}
 use Rattle.format.specs.EntryLaws.{whole-there}
 use Rattle.matching.specs.Others.{other}
-use Rattle.matching.specs.Asks.{some-leaf, hears, ask, asks, HeardMarks, AlsoMarked, has-step, ask-by, AskedTo}
+use Rattle.matching.specs.Asks.{some-leaf, hears, ask, asks, takes-event, HeardMarks, AlsoMarked, has-step, ask-by, AskedTo}
+use Rattle.matching.specs.SetLaws.{mask-low}
 use Rattle.matching.specs.AskLaws.{asks-length, asks-at}
 use Rattle.matching.specs.CueLaws.{count-is, entries-are, entry-is}
-use Rattle.matching.specs.TakenLaws.{step-none, step-more, takes-own, taken-unnamed, taken-named}
+use Rattle.matching.specs.TakenLaws.{step-none, step-more, takes-cue-is, takes-own, taken-unnamed, taken-named}
 
 ---- Marks by tests ----
 
@@ -93,30 +95,29 @@ module _ (s step : List ℕ) where
 
 module _ (s : List ℕ) (w : Whole s) {n : ℕ} (counted : n ≡ number-at s 0) (event : ℕ) {before own : List Bool} (also-own : AlsoMarked (λ a. eqb a event) before own) where
   abbrev Taken : List Bool → Type 0
-  Taken after = AlsoMarked (λ a. takes-cue (cue-of (other (entries-in s)) a) event) before after
+  Taken after = AlsoMarked (λ a. takes-event (other (entries-in s)) a event) before after
 
   pub marked-unnamed : (ltb event 1 || ltb n event) ≡ true → Taken own
-  marked-unnamed t = also-as (λ a h. sym (taken-unnamed (entries-in s) event a h (rw (count-is s w counted event) at t))) also-own
+  marked-unnamed t = also-as (λ a h. sym (taken-unnamed (entries-in s) event a (rw (count-is s w counted event) at t))) also-own
 
   module _ (t : (ltb event 1 || ltb n event) ≡ false) {at : ℕ} (here : at ≡ entries-end s (event - 1) 2) where
-    named : (a : ℕ) → a ≤ most-events
-        → takes-cue (cue-of (other (entries-in s)) a) event ≡ (eqb a event || (no-machine (entry-at s at) && has-step (name-at s at) (entries-in s) a))
-    named a h =
-        taken-named (entries-in s) event a h (whole-there s w .apart) (rw (count-is s w counted event) at t)
+    named : (a : ℕ) → takes-event (other (entries-in s)) a event ≡ (eqb a event || (no-machine (entry-at s at) && has-step (name-at s at) (entries-in s) a))
+    named a =
+        taken-named (entries-in s) event a (whole-there s w .apart) (rw (count-is s w counted event) at t)
         ∙ ap (λ (e : Entry). eqb a event || (no-machine e && has-step (e .step) (entries-in s) a)) (entry-is s w counted event t ∙ ap (entry-at s) (sym here))
 
     pub marked-machine : no-machine (entry-at s at) ≡ false → Taken own
     marked-machine m =
-        also-as (λ a h. sym (named a h ∙ ap (λ (b : Bool). eqb a event || (b && has-step (name-at s at) (entries-in s) a)) m ∙ or-false (eqb a event))) also-own
+        also-as (λ a h. sym (named a ∙ ap (λ (b : Bool). eqb a event || (b && has-step (name-at s at) (entries-in s) a)) m ∙ or-false (eqb a event))) also-own
 
     pub marked-steps : {after : List Bool} → no-machine (entry-at s at) ≡ true → AlsoMarked (has-step (name-at s at) (entries-at s n 2)) own after → Taken after
     marked-steps m k =
-        also-as (λ a h. sym (named a h ∙ ap₂ (λ (b : Bool) (ds : List Entry). eqb a event || (b && has-step (name-at s at) ds a)) m (sym (entries-are s w counted event))))
+        also-as (λ a h. sym (named a ∙ ap₂ (λ (b : Bool) (ds : List Entry). eqb a event || (b && has-step (name-at s at) ds a)) m (sym (entries-are s w counted event))))
         (also-both also-own k)
 
 -- without names, its own alone
-pub marked-plain : (event : ℕ) {before after : List Bool} → AlsoMarked (λ a. eqb a event) before after → AlsoMarked (λ a. takes-cue (cue-of itself a) event) before after
-marked-plain event m = also-as (λ a h. sym (takes-own itself a event h refl)) m
+pub marked-plain : (event : ℕ) {before after : List Bool} → AlsoMarked (λ a. eqb a event) before after → AlsoMarked (λ a. takes-event itself a event) before after
+marked-plain event m = also-as (λ a h. sym (takes-own itself a event refl)) m
 
 ---- Node by node ----
 
@@ -127,16 +128,16 @@ module _ (other : ℕ → ℕ) (ns : List ℕ) where
 
   module _ {i : ℕ} {marks : List Bool} (m : HeardMarks other ns i marks) where
     pub heard-more : {f : Form} {event : ℕ} {after : List Bool} → f ≡ form (node ns i) → event ≡ one-of ns i → f .event ≡ true
-        → AlsoMarked (λ a. takes-cue (cue-of other a) event) marks after → HeardMarks other ns (i + 1) after
+        → AlsoMarked (λ a. takes-event other a event) marks after → HeardMarks other ns (i + 1) after
     unfolding some-leaf
     heard-more {f} {event} is one t k = record {
       size = k .size ∙ m .size;
       each = λ a h.
           let leaf : form (node ns i) .event ≡ true = ap (λ (g : Form). g .event) (sym is) ∙ t in
           k .each a h
-          ∙ ap₂ (λ (b : Bool) (e : ℕ). b || takes-cue (cue-of other a) e) (m .each a h) one
-          ∙ ap (λ (b : Bool). some-leaf (takes-cue (cue-of other a)) ns i || (b && takes-cue (cue-of other a) (one-of ns i))) (sym leaf)
-          ∙ ap (some-leaf (takes-cue (cue-of other a)) ns) (sym (add-one i));
+          ∙ ap₂ (λ (b : Bool) (e : ℕ). b || takes-event other a e) (m .each a h) one
+          ∙ ap (λ (b : Bool). some-leaf (takes-event other a) ns i || (b && takes-event other a (one-of ns i))) (sym leaf)
+          ∙ ap (some-leaf (takes-event other a) ns) (sym (add-one i));
     }
 
     pub heard-same : {f : Form} → f ≡ form (node ns i) → f .event ≡ false → HeardMarks other ns (i + 1) marks
@@ -146,34 +147,41 @@ module _ (other : ℕ → ℕ) (ns : List ℕ) where
       each = λ a h.
           let leaf : form (node ns i) .event ≡ false = ap (λ (g : Form). g .event) (sym is) ∙ t in
           m .each a h
-          ∙ sym (ap (λ (b : Bool). some-leaf (takes-cue (cue-of other a)) ns i || (b && takes-cue (cue-of other a) (one-of ns i))) leaf ∙ or-false _)
-          ∙ ap (some-leaf (takes-cue (cue-of other a)) ns) (sym (add-one i));
+          ∙ sym (ap (λ (b : Bool). some-leaf (takes-event other a) ns i || (b && takes-event other a (one-of ns i))) leaf ∙ or-false _)
+          ∙ ap (some-leaf (takes-event other a) ns) (sym (add-one i));
     }
 
-  -- by the marks of all nodes
-  pub ask-is : {marks : List Bool} → HeardMarks other ns (count ns) marks → (r : ℕ) → ask-by other marks r ≡ ask other ns r
+---- What is asked, by the marks of all nodes ----
+
+module _ (sets : ℕ → Joint) (other : ℕ → ℕ) (ns : List ℕ) where
+  pub ask-is : {marks : List Bool} → HeardMarks other ns (count ns) marks → (r : ℕ) → ask-by (masked sets) other marks r ≡ ask (masked sets) other ns r
   unfolding ask-by ask hears
   ask-is {marks} m r = by (ltb most-events r) refl
     where
-      by : (b : Bool) → ltb most-events r ≡ b → cond (b || getD marks r false) (cue-of other r) 0 ≡ cond (b || hears ns (cue-of other r)) (cue-of other r) 0
+      x : ℕ
+      x = cue-of (masked sets) other r
+
+      by : (b : Bool) → ltb most-events r ≡ b → cond (b || getD marks r false) x 0 ≡ cond (b || hears ns x) x 0
       by true q = refl
-      by false q = ap (λ (b : Bool). cond b (cue-of other r) 0) (m .each r (ltb-false most-events r q))
+      by false q =
+          let few = ltb-false most-events r q in
+          ap (λ (b : Bool). cond b x 0) (m .each r few ∙ (λ i. some-leaf (λ e. sym (takes-cue-is (masked sets) other r e few (mask-low sets r)) i) ns (count ns)))
 
 ---- The table of what is asked ----
 
-module _ (other : ℕ → ℕ) (ns : List ℕ) where
-  pub asked-none : (table : List ℕ) → length table ≡ 259 → AskedTo other ns 0 table
+module _ (mask other : ℕ → ℕ) (ns : List ℕ) where
+  pub asked-none : (table : List ℕ) → length table ≡ 259 → AskedTo mask other ns 0 table
   asked-none table l = record { within = omega arith; long = l; each = λ k h. absurd (omega arith) }
 
-  pub asked-more : {i : ℕ} {table : List ℕ} (v : ℕ) → AskedTo other ns i table → i < 259 → v ≡ ask other ns (getD all-numbers i 0) → AskedTo other ns (i + 1) (set table i v)
+  pub asked-more : {i : ℕ} {table : List ℕ} (v : ℕ) → AskedTo mask other ns i table → i < 259 → v ≡ ask mask other ns (getD all-numbers i 0) → AskedTo mask other ns (i + 1) (set table i v)
   asked-more {i} {table} v t l e = record { within = omega arith; long = length-set table i v ∙ t .long; each = λ k h. by k h (eqb k i) refl }
     where
-      by : (k : ℕ) → k < i + 1 → (b : Bool) → eqb k i ≡ b → getD (set table i v) k 0 ≡ ask other ns (getD all-numbers k 0)
+      by : (k : ℕ) → k < i + 1 → (b : Bool) → eqb k i ≡ b → getD (set table i v) k 0 ≡ ask mask other ns (getD all-numbers k 0)
       by k h true q =
           let d : k ≡ i = eqb-true k i q in
-          ap (λ (j : ℕ). getD (set table i v) j 0) d ∙ getD-set-same table i v 0 (omega (arith, t .long)) ∙ e ∙ ap (λ (j : ℕ). ask other ns (getD all-numbers j 0)) (sym d)
+          ap (λ (j : ℕ). getD (set table i v) j 0) d ∙ getD-set-same table i v 0 (omega (arith, t .long)) ∙ e ∙ ap (λ (j : ℕ). ask mask other ns (getD all-numbers j 0)) (sym d)
       by k h false q = let d = eqb-false k i q in getD-set-other table i k v 0 d ∙ t .each k (omega (arith, d))
 
-  pub asked-all : {i : ℕ} {table : List ℕ} → AskedTo other ns i table → 259 ≤ i → table ≡ asks other ns
+  pub asked-all : {i : ℕ} {table : List ℕ} → AskedTo mask other ns i table → 259 ≤ i → table ≡ asks mask other ns
   asked-all {i} {table} t l =
-      ext-getD 0 table (asks other ns) (t .long ∙ sym (asks-length other ns)) (λ k h. t .each k (omega (arith, t .long)) ∙ sym (asks-at other ns k (omega (arith, t .long))))
+      ext-getD 0 table (asks mask other ns) (t .long ∙ sym (asks-length mask other ns)) (λ k h. t .each k (omega (arith, t .long)) ∙ sym (asks-at mask other ns k (omega (arith, t .long))))

@@ -1,5 +1,5 @@
 -- Which events a leaf takes by the names (`taken-unnamed`, `taken-named`): its own, and if its entry has no machine, those whose entries have
--- its step name; and how these are found entry by entry (`step-more`). Assumes nothing.
+-- its step name; and how these are found entry by entry (`step-more`). By their cues it takes the same (`takes-cue-is`). Assumes nothing.
 use Prim.Native.Nat.{ℕ, zero, suc, _+_, _/_, _%_, _<_, _≤_}
 use mathlib.Core.Bool.{Bool, true, false, _&&_, _||_, cond, or-false, and-false, false≢true}
 use mathlib.Core.List.{List, [], _∷_, _++_}
@@ -17,7 +17,7 @@ use Rattle.format.specs.Matching.{same-step, nobody, entry-of, no-machine, matc
 use Rattle.format.specs.EntryLaws.{Apart}
 use Rattle.matching.specs.Others.{other}
 use Rattle.matching.specs.OtherLaws.{other-some, other-small, other-takes}
-use Rattle.matching.specs.Asks.{has-step}
+use Rattle.matching.specs.Asks.{takes-event, has-step}
 
 ---- The entries that have a step name ----
 
@@ -72,12 +72,12 @@ step-more step es e (suc i) = by (ltb i (length es)) (eqb i (length es)) refl re
 
 ---- What a leaf takes ----
 
--- both numbers of a cue are read back
-pub takes-cue-is : (other : ℕ → ℕ) (a e : ℕ) → a ≤ most-events → takes-cue (cue-of other a) e ≡ (eqb a e || eqb (other a) e)
+-- the numbers of a cue are read back, whatever its mask is
+pub takes-cue-is : (mask other : ℕ → ℕ) (a e : ℕ) → a ≤ most-events → mask a < 65536 → takes-cue (cue-of mask other a) e ≡ takes-event other a e
 unfolding takes-cue cue-of
-takes-cue-is other a e h =
-    let one : cue a (other a) % 65536 ≡ a = omega arith in
-    let two : cue a (other a) / 65536 ≡ other a = omega arith in
+takes-cue-is mask other a e h l =
+    let one : cue a (mask a) (other a) % 65536 ≡ a = omega arith in
+    let two : cue a (mask a) (other a) / 4294967296 ≡ other a = omega arith in
     rw (le-leb a most-events h) (ap₂ (λ (x y : ℕ). eqb x e || eqb y e) one two)
 
 twice : (b : Bool) → (b || b) ≡ b
@@ -85,10 +85,10 @@ twice true = refl
 twice false = refl
 
 -- an event beside itself
-pub takes-own : (other : ℕ → ℕ) (a e : ℕ) → a ≤ most-events → other a ≡ a → takes-cue (cue-of other a) e ≡ eqb a e
-takes-own other a e h d = takes-cue-is other a e h ∙ ap (λ (b : ℕ). eqb a e || eqb b e) d ∙ twice (eqb a e)
+pub takes-own : (other : ℕ → ℕ) (a e : ℕ) → other a ≡ a → takes-event other a e ≡ eqb a e
+takes-own other a e d = ap (λ (b : ℕ). eqb a e || eqb b e) d ∙ twice (eqb a e)
 
-module _ (es : List Entry) (e a : ℕ) (few : a ≤ most-events) where
+module _ (es : List Entry) (e a : ℕ) where
   -- whether an event has no entry
   abbrev out : ℕ → Bool
   out r = ltb r 1 || ltb (length es) r
@@ -104,7 +104,7 @@ module _ (es : List Entry) (e a : ℕ) (few : a ≤ most-events) where
   in-high r t = ltb-false (length es) r (neither-two (ltb r 1) (ltb (length es) r) t)
 
   -- a leaf whose event has no entry takes it alone
-  pub taken-unnamed : out e ≡ true → takes-cue (cue-of (other es) a) e ≡ eqb a e
+  pub taken-unnamed : out e ≡ true → takes-event (other es) a e ≡ eqb a e
   taken-unnamed t = by (out a) refl
     where
       apart : out a ≡ false → other es a ≡ e → ⊥
@@ -114,15 +114,15 @@ module _ (es : List Entry) (e a : ℕ) (few : a ≤ most-events) where
           let inside : out e ≡ false = rw (le-ltb e 1 low, le-ltb (length es) e high) in
           false≢true (sym inside ∙ t)
 
-      by : (b : Bool) → out a ≡ b → takes-cue (cue-of (other es) a) e ≡ eqb a e
-      by true u = takes-own (other es) a e few (other-out u)
-      by false u = takes-cue-is (other es) a e few ∙ ap (λ (b : Bool). eqb a e || b) (ne-eqb (other es a) e (apart u)) ∙ or-false (eqb a e)
+      by : (b : Bool) → out a ≡ b → takes-event (other es) a e ≡ eqb a e
+      by true u = takes-own (other es) a e (other-out u)
+      by false u = ap (λ (b : Bool). eqb a e || b) (ne-eqb (other es a) e (apart u)) ∙ or-false (eqb a e)
 
   pub taken-named : Apart es → out e ≡ false
-      → takes-cue (cue-of (other es) a) e ≡ (eqb a e || (no-machine (entry-of es e) && has-step (entry-of es e .step) es a))
+      → takes-event (other es) a e ≡ (eqb a e || (no-machine (entry-of es e) && has-step (entry-of es e .step) es a))
   unfolding has-step matches
   taken-named apart t = by (out a) refl
     where
-      by : (b : Bool) → out a ≡ b → takes-cue (cue-of (other es) a) e ≡ (eqb a e || (no-machine (entry-of es e) && cond b false (same-step (entry-of es e .step) (entry-of es a .step))))
-      by true u = takes-own (other es) a e few (other-out u) ∙ sym (ap (λ (c : Bool). eqb a e || c) (and-false (no-machine (entry-of es e))) ∙ or-false (eqb a e))
-      by false u = takes-cue-is (other es) a e few ∙ sym (other-takes es apart e a (in-low e t) (in-high e t) (in-low a u) (in-high a u))
+      by : (b : Bool) → out a ≡ b → takes-event (other es) a e ≡ (eqb a e || (no-machine (entry-of es e) && cond b false (same-step (entry-of es e .step) (entry-of es a .step))))
+      by true u = takes-own (other es) a e (other-out u) ∙ sym (ap (λ (c : Bool). eqb a e || c) (and-false (no-machine (entry-of es e))) ∙ or-false (eqb a e))
+      by false u = sym (other-takes es apart e a (in-low e t) (in-high e t) (in-low a u) (in-high a u))

@@ -1,5 +1,5 @@
 -- What the program answers to the bytes of a file, and the bytes that it prints, computed: the reader's refusal, or what the judge makes of
--- the file's own names section, nodes and records.
+-- the file's own names section, nodes, records and sets.
 -- A reader need not believe how it is computed: promises/specs/Files tells of each answer when it is given. Definitions only. Assumes
 -- nothing.
 use Prim.Native.Nat.{ℕ}
@@ -14,14 +14,14 @@ use Rattle.judge.specs.Judged.{judged-named}
 use Rattle.line.specs.declared.Line.{Line}
 use Rattle.line.specs.Line.{line-of, Put}
 use Rattle.program.specs.Program.{states-allowed, work-lent, line-for}
-use Rattle.program.specs.FileNames.{names-of}
+use Rattle.program.specs.FileParts.{names-of, sets-of}
 
 ---- The answer ----
 
--- a file that the reader refuses is refused so; any other is judged by its names, nodes and records
+-- a file that the reader refuses is refused so; any other is judged by its names, nodes, records and sets
 unfoldable pub answered : List ℕ → Reading → List ℕ → List ℕ → Answer
 unfolding names-of
-answered file (read.Read c) ns rs = judged-named (names-of file) ns rs work-lent states-allowed
+answered file (read.Read c) ns rs = judged-named (names-of file) (sets-of c file) ns rs work-lent states-allowed
 answered file (read.Refused r) ns rs = Refused r
 
 unfoldable pub answer-of-file : List ℕ → Answer

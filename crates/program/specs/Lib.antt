@@ -2,7 +2,7 @@
 pub mod Program
 pub mod Listing
 -- Definitions that need not be believed.
-pub mod FileNames
+pub mod FileParts
 pub mod Answering
 pub mod Rewriting
 pub mod Copying

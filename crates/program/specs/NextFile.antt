@@ -1,5 +1,5 @@
 -- What the program `next` prints for the bytes of a file and a number of records, computed: the reader's refusal, or what `next_named` makes of
--- the file's own names section, nodes and first records.
+-- the file's own names section, nodes, first records and sets.
 -- A reader need not believe how it is computed: promises tells of each text when it is printed. Definitions only. Assumes nothing.
 use Prim.Native.Nat.{ℕ, _≤_, _<_}
 use mathlib.Core.List.{List}
@@ -16,23 +16,23 @@ use Rattle.ahead.specs.declared.answer.Next.{Next}
 use Rattle.ahead.specs.Told.{following, numbers-wanted}
 use Rattle.ahead.specs.Outcome.{named-next-check, next-by}
 use Rattle.program.specs.Program.{states-allowed, work-lent, line-for}
-use Rattle.program.specs.FileNames.{names-of}
+use Rattle.program.specs.FileParts.{names-of, sets-of}
 use Rattle.program.specs.Listing.{beginning, answer-text}
 
 ---- The text ----
 
--- what is answered for a names section, nodes and a beginning, with room for every number and for the largest flow
-abbrev pub next-answer : List ℕ → List ℕ → List ℕ → Next
-next-answer s ns rs = next-by (named-next-check s ns rs numbers-wanted work-lent) (named-flow s ns) rs states-allowed
+-- what is answered for a names section, sets, nodes and a beginning, with room for every number and for the largest flow
+abbrev pub next-answer : List ℕ → List ℕ → List ℕ → List ℕ → Next
+next-answer s sets ns rs = next-by (named-next-check s sets ns rs numbers-wanted work-lent) (named-flow s sets ns) rs states-allowed
 
-unfoldable pub tables-text : List ℕ → List ℕ → List ℕ → List ℕ
+unfoldable pub tables-text : List ℕ → List ℕ → List ℕ → List ℕ → List ℕ
 unfolding entries-in following next-by answer-text
-tables-text s ns rs = answer-text (entries-in s) (following (named-flow s ns) rs) (next-answer s ns rs)
+tables-text s sets ns rs = answer-text (entries-in s) (following (named-flow s sets ns) rs) (next-answer s sets ns rs)
 
 -- a file that the reader refuses is refused so; of any other it is what may follow its first k records
 unfoldable pub text-by : List ℕ → ℕ → Reading → List ℕ → List ℕ → List ℕ
 unfolding names-of tables-text beginning
-text-by file k (read.Read c) ns rs = tables-text (names-of file) ns (beginning k rs)
+text-by file k (read.Read c) ns rs = tables-text (names-of file) (sets-of c file) ns (beginning k rs)
 text-by file k (read.Refused r) ns rs = line-of (line-for (answer.Refused r))
 
 unfoldable pub file-text : List ℕ → ℕ → List ℕ

@@ -1,5 +1,6 @@
 -- What may follow can be shown by the names that are lent (`listed-showable`). Then what is known where a list is answered (`listed-so`), the
--- text by the answer (`listed-printed`, `undecided-printed`, `refused-printed`), and that of a file by what the reader answered (`refused-file`, `held-file`). Assumes nothing.
+-- text by the answer (`listed-printed`, `undecided-printed`, `refused-printed`), and that of a file by what the reader answered
+-- (`refused-file`, `held-file`). Assumes nothing.
 use Prim.Native.Nat.{ℕ, zero, suc, _+_, _-_, _*_, _≤_, _<_}
 use native.Mathlib.Omega.{arith}
 use mathlib.Core.Bool.{Bool, true, false, _&&_, _||_, cond, false≢true}
@@ -12,6 +13,7 @@ use lib.ListN.{length, getD, take, drop, length-append, List·getD-eq-default}
 use lib.Seq.{take-at, take-take, length-take-le}
 use Rattle.calculus.specs.Records.{State, event}
 use Rattle.calculus.specs.Ahead.{may-follow, entered}
+use Rattle.calculus.specs.Leaves.{AnySet}
 use Rattle.calculus.specs.Deaf.{DeafLeaf}
 use Rattle.calculus.specs.DeafLaws.{deaf-passes}
 use Rattle.flow.specs.declared.Refusal.{Refusal}
@@ -24,9 +26,9 @@ use Rattle.flow.specs.Checks.{first, grounds, or-else-check}
 use Rattle.flow.specs.FirstRefusal.{both-fine}
 use Rattle.flow.specs.FineTable.{fine-table}
 use Rattle.flow.specs.Drawn.{flow-by}
-use Rattle.flow.specs.DrawnLeaves.{flow-leaves}
+use Rattle.flow.specs.DrawnLeaves.{flow-each}
 use Rattle.format.specs.Format.{Entry}
-use Rattle.format.specs.Matching.{matches, named}
+use Rattle.format.specs.Matching.{matches, with-names}
 use Rattle.format.specs.Told.{at-front}
 use Rattle.format.specs.ListChecks.{entries-in, Whole, lists-check}
 use Rattle.format.specs.ItemLaws.{le-or-lt}
@@ -44,14 +46,15 @@ use Rattle.ahead.specs.CheckLaws.{named-next-lists}
 use Rattle.ahead.specs.Outcome.{named-next-check, allowed, next-by, list-by, NextBy}
 use Rattle.judge.specs.declared.Answer.the-variants as answer
 use Rattle.line.specs.Line.{line-of}
+use Rattle.reader.specs.declared.Counts.{Counts}
 use Rattle.reader.specs.declared.Reading.{Reading}
 use Rattle.reader.specs.declared.Reading.the-variants as read
 use Rattle.reader.specs.Reading.{Outcome, reading}
 use Rattle.program.specs.Program.{states-allowed, work-lent, line-for}
-use Rattle.program.specs.FileNames.{names-of}
+use Rattle.program.specs.FileParts.{names-of, sets-of}
 use Rattle.program.specs.Listing.{all-but-last, so-many, beginning, list-text, answer-text}
 use Rattle.program.specs.NextFile.{tables-text, text-by, file-text, Showable, ListShowable}
-use Rattle.program.specs.ProgramLaws.{Held}
+use Rattle.program.specs.ProgramLaws.{Held, sets-all}
 use Rattle.program.specs.ListingLaws.{entry-here}
 
 -- the record of an event's number
@@ -88,37 +91,39 @@ no-entry-taken s w n r low high over =
     section-beyond s (w .is) n r low high over
     ∙ rw (other-beyond (entries-in s) r over, ne-eqb r n (λ e. omega arith))
 
-module _ (s ns rs : List ℕ) (passed : named-next-check s ns rs numbers-wanted work-lent ≡ Fine) where
-  lists : ListsPassed Beginning s ns rs
-  lists = named-next-lists s ns rs numbers-wanted work-lent passed
+module _ (s sets ns rs : List ℕ) (passed : named-next-check s sets ns rs numbers-wanted work-lent ≡ Fine) where
+  lists : ListsPassed Beginning s sets ns rs
+  lists = named-next-lists s sets ns rs numbers-wanted work-lent passed
 
   -- an event without an entry follows nothing
-  unnamed-never : (r : ℕ) → length (entries-in s) < r → may-follow (records rs) (named-flow s ns) (event r) ≡ false
+  unnamed-never : (r : ℕ) → length (entries-in s) < r → may-follow (records rs) (named-flow s sets ns) (event r) ≡ false
   unnamed-never r over =
       let es = entries-in s in
       let l = lists in
-      deaf-passes r (records rs) (named-flow s ns)
-      (flow-leaves (DeafLeaf r) (named es) ns (l .table) (λ i e h n.
-      let own = leaf-named (length es) ns (fine-table ns (l .table)) i e h n (l .contents .leaves i h) in
-      no-entry-taken s (l .section) e r (own .0) (own .1) over))
+      deaf-passes r (records rs) (named-flow s sets ns)
+      (flow-each (DeafLeaf r) AnySet (with-names es sets) ns (fine-table ns sets (l .table))
+      (λ i e h n.
+      let own = leaf-named (length es) ns (fine-table ns sets (l .table)) i e h n (l .contents .leaves i h) in
+      no-entry-taken s (l .section) e r (own .0) (own .1) over)
+      (λ k. tt))
 
   -- so what may follow can be shown
-  pub listed-showable : ListShowable s (following (named-flow s ns) rs)
+  pub listed-showable : ListShowable s (following (named-flow s sets ns) rs)
   unfolding following
   listed-showable =
       record {
         section = lists .section;
-        few = following-few (named-flow s ns) rs;
+        few = following-few (named-flow s sets ns) rs;
         each = those-each (Showable s) test all-numbers (λ i h t. each-number (λ r. test r ≡ true → Showable s r) events ends i (subst (λ (n : ℕ). i < n) numbers-length h) t);
       }
     where
       test : ℕ → Bool
-      test r = may-follow (records rs) (named-flow s ns) (record-of r)
+      test r = may-follow (records rs) (named-flow s sets ns) (record-of r)
 
       with-entry : (r : ℕ) → test r ≡ true → r ≤ most-events → (r ≤ length (entries-in s)) ⊎ (length (entries-in s) < r) → r ≤ length (entries-in s)
       with-entry r t h (inl l) = l
       with-entry r t h (inr l) =
-          absurd (false≢true (sym (ap (may-follow (records rs) (named-flow s ns)) (event-number r h) ∙ unnamed-never r l) ∙ t))
+          absurd (false≢true (sym (ap (may-follow (records rs) (named-flow s sets ns)) (event-number r h) ∙ unnamed-never r l) ∙ t))
 
       events : (r : ℕ) → 1 ≤ r → r ≤ most-events → test r ≡ true → Showable s r
       events r low high t = record { some = low; named = λ h. with-entry r t h (le-or-lt r (length (entries-in s))) }
@@ -168,24 +173,24 @@ module _ {c : Check} {flow : State} {rs : List ℕ} {f : Found} {list list′ : 
 ---- The text, by the answer ----
 
 -- of `next_named`, lent room for every number and for the largest flow
-module _ (s ns rs : List ℕ) {a : Next} {list work list′ after : List ℕ}
-    (h : NextBy (named-next-check s ns rs numbers-wanted work-lent) (named-flow s ns) ns rs states-allowed list work a list′ after) where
-  pub table-listed : {f : Found} → a ≡ Listed f → ListedSo (named-next-check s ns rs numbers-wanted work-lent) (named-flow s ns) rs f list list′
-  table-listed e = listed-so (named-flow s ns) rs states-allowed (named-next-check s ns rs numbers-wanted work-lent) (sym e ∙ h .answers) (h .lists)
+module _ (s sets ns rs : List ℕ) {a : Next} {list work list′ after : List ℕ}
+    (h : NextBy (named-next-check s sets ns rs numbers-wanted work-lent) (named-flow s sets ns) ns rs states-allowed list work a list′ after) where
+  pub table-listed : {f : Found} → a ≡ Listed f → ListedSo (named-next-check s sets ns rs numbers-wanted work-lent) (named-flow s sets ns) rs f list list′
+  table-listed e = listed-so (named-flow s sets ns) rs states-allowed (named-next-check s sets ns rs numbers-wanted work-lent) (sym e ∙ h .answers) (h .lists)
 
-  text-is : {b : Next} → a ≡ b → answer-text (entries-in s) (following (named-flow s ns) rs) b ≡ tables-text s ns rs
+  text-is : {b : Next} → a ≡ b → answer-text (entries-in s) (following (named-flow s sets ns) rs) b ≡ tables-text s sets ns rs
   unfolding tables-text
-  text-is e = ap (answer-text (entries-in s) (following (named-flow s ns) rs)) (sym e ∙ h .answers)
+  text-is e = ap (answer-text (entries-in s) (following (named-flow s sets ns) rs)) (sym e ∙ h .answers)
 
-  pub listed-printed : {f : Found} → a ≡ Listed f → list-text (entries-in s) (take (f .length) list′) (f .count) ≡ tables-text s ns rs
+  pub listed-printed : {f : Found} → a ≡ Listed f → list-text (entries-in s) (take (f .length) list′) (f .count) ≡ tables-text s sets ns rs
   unfolding answer-text
   listed-printed {f} e = ap (λ (l : List ℕ). list-text (entries-in s) l (f .count)) (listed-first (table-listed e)) ∙ text-is e
 
-  pub undecided-printed : {f : Found} → a ≡ Undecided f → line-of (line-for (answer.Undecided (record { place = 0; count = f .count }))) ≡ tables-text s ns rs
+  pub undecided-printed : {f : Found} → a ≡ Undecided f → line-of (line-for (answer.Undecided (record { place = 0; count = f .count }))) ≡ tables-text s sets ns rs
   unfolding answer-text
   undecided-printed e = text-is e
 
-  pub refused-printed : {r : Refusal} → a ≡ Refused r → line-of (line-for (answer.Refused r)) ≡ tables-text s ns rs
+  pub refused-printed : {r : Refusal} → a ≡ Refused r → line-of (line-for (answer.Refused r)) ≡ tables-text s sets ns rs
   unfolding answer-text
   refused-printed e = text-is e
 
@@ -205,7 +210,7 @@ module _ (file : List ℕ) (first : ℕ) where
   unfolding file-text text-by
   refused-file e = sym (ap (λ (a : Reading). text-by file first a (reading file 192 256 .nodes) (reading file 192 256 .records)) e)
 
-  module _ {nodes′ records′ : List ℕ} {n k : ℕ} (h : Held file nodes′ records′ n k) where
+  module _ {nodes′ records′ : List ℕ} {c : Counts} {n k : ℕ} (h : Held file nodes′ records′ c n k) where
     pub beginning-inside : so-many first k ≤ length records′
     beginning-inside = omega (arith, so-many-within first k, h .records-inside)
 
@@ -215,8 +220,9 @@ module _ (file : List ℕ) (first : ℕ) where
         sym (take-take (so-many first k) k records′ (so-many-within first k))
         ∙ ap (λ (m : ℕ). take (so-many first m) (take k records′)) (sym (length-take-le k records′ (h .records-inside)))
 
-    pub held-file : {s : List ℕ} → s ≡ names-of file → tables-text s (take n nodes′) (take (so-many first k) records′) ≡ file-text file first
+    pub held-file : {s : List ℕ} → s ≡ names-of file → tables-text s (take (length file - c .«sets_at») (sets-of c file)) (take n nodes′) (take (so-many first k) records′) ≡ file-text file first
     unfolding file-text text-by
     held-file e =
-        ap₂ (λ (s rs : List ℕ). tables-text s (take n nodes′) rs) e beginning-is
+        ap₂ (λ (s sets : List ℕ). tables-text s sets (take n nodes′) (take (so-many first k) records′)) e (sets-all c file)
+        ∙ ap (λ (rs : List ℕ). tables-text (names-of file) (sets-of c file) (take n nodes′) rs) beginning-is
         ∙ sym (ap (λ (p : Outcome). text-by file first (p .answer) (p .nodes) (p .records)) (h .outcome))

@@ -1,5 +1,5 @@
 -- What comes of a flow file that is read and written again, computed: the reader's refusal, or what the writer makes of the file's own
--- names section, nodes and records. A reader need not believe this file, but only that `FileRewritten` is what `rewrite_file` ensures:
+-- names section, nodes, records and sets. A reader need not believe this file, but only that `FileRewritten` is what `rewrite_file` ensures:
 -- promises/specs/Rewritten proves that a file that is read comes out as it was. Definitions only. Assumes nothing.
 use Prim.Native.Nat.{ℕ}
 use mathlib.Core.List.{List, []}
@@ -13,7 +13,7 @@ use Rattle.reader.specs.Reading.{reading}
 use Rattle.writer.specs.declared.Writing.{Writing}
 use Rattle.writer.specs.declared.Writing.the-variants.{Refused}
 use Rattle.writer.specs.Writing.{writing, bytes-first}
-use Rattle.program.specs.FileNames.{names-of}
+use Rattle.program.specs.FileParts.{names-of, sets-of}
 
 -- the answer, and the bytes that stand first in the lent ones then
 pub record Copy : Type 0 where
@@ -27,7 +27,7 @@ module _ (file : List ℕ) (room : ℕ) where
   unfoldable pub copied : Reading → List ℕ → List ℕ → Copy
   unfolding names-of
   copied (read.Refused r) ns rs = refused-copy r
-  copied (read.Read c) ns rs = record { answer = writing (names-of file) ns rs room; bytes = bytes-first (names-of file) ns rs room }
+  copied (read.Read c) ns rs = record { answer = writing (names-of file) ns rs (sets-of c file) room; bytes = bytes-first (names-of file) ns rs (sets-of c file) room }
 
   unfoldable pub rewriting : Copy
   unfolding copied reading

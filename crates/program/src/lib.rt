@@ -16,7 +16,7 @@ ghost use Rattle.io.specs.Counts.{Counts};
 ghost use Rattle.judge.specs.Judged.{judged-named};
 ghost use Rattle.line.specs.Line.{Put};
 ghost use Rattle.program.specs.Program.{states-allowed, work-lent};
-ghost use Rattle.program.specs.FileNames.{names-of};
+ghost use Rattle.program.specs.FileParts.{names-of};
 ghost use Rattle.program.specs.Answering.{FileAnswered, AnswerTold, FilePrinted};
 ghost use Rattle.program.specs.Rewriting.{FileRewritten};
 ghost use Rattle.program.specs.Copying.{WithinRoom};
@@ -50,12 +50,12 @@ fn names_of(file: &[u8]) -> &[u8]
     &file[..at]
 }
 
-// The tables judged by these names, with work bytes for the largest flow.
-fn judge_tables(names: &[u8], nodes: &[u16], records: &[u16]) -> Answer
-    ensures { λ r. ⌜ r ≡ judged-named (now (names .entry)) (now (nodes .entry)) (now (records .entry)) work-lent states-allowed ⌝ }
+// The tables judged by these names and sets, with work bytes for the largest flow.
+fn judge_tables(names: &[u8], nodes: &[u16], records: &[u16], sets: &[u8]) -> Answer
+    ensures { λ r. ⌜ r ≡ judged-named (now (names .entry)) (now (sets .entry)) (now (nodes .entry)) (now (records .entry)) work-lent states-allowed ⌝ }
 {
     let mut work = [0u8; WORK];
-    judge::judge_named(names, nodes, records, &mut work, ALLOWANCE)
+    judge::judge_named(names, nodes, records, sets, &mut work, ALLOWANCE)
 }
 
 // Reads the file, and judges what it holds.
@@ -68,7 +68,8 @@ pub fn judge_file(file: &[u8]) -> Answer
         Reading::Read(counts) => {
             let n = 3 * wide(counts.nodes);
             let k = wide(counts.records);
-            judge_tables(names_of(file), &nodes[..n], &records[..k])
+            let at = counts.sets_at;
+            judge_tables(names_of(file), &nodes[..n], &records[..k], &file[at..])
         }
         Reading::Refused(r) => Answer::Refused(r),
     }
@@ -125,7 +126,8 @@ pub fn rewrite_file(file: &[u8], out: &mut [u8]) -> Writing
         Reading::Read(counts) => {
             let n = 3 * wide(counts.nodes);
             let k = wide(counts.records);
-            writer::write(names_of(file), &nodes[..n], &records[..k], out)
+            let at = counts.sets_at;
+            writer::write(names_of(file), &nodes[..n], &records[..k], &file[at..], out)
         }
         Reading::Refused(r) => Writing::Refused(r),
     }
@@ -147,15 +149,29 @@ fn so_many(first: u16, records: u16) -> usize
     wide(records)
 }
 
-// Writes what may follow a beginning, by these names, at the start of the room, leaves the rest, and answers the text's length. There is
+// Writes what may follow a beginning, by these names and sets, at the start of the room, leaves the rest, and answers the text's length. There is
 // room for every number and for the largest flow.
-fn next_tables(names: &[u8], nodes: &[u16], beginning: &[u16], out: &mut [u8; 90000]) -> usize
-    ensures { λ r. ⌜ Put (tables-text (now (names .entry)) (now (nodes .entry)) (now (beginning .entry))) (now (out .entry)) 0 (now (out .exit)) r ⌝ }
+fn next_tables(
+    names: &[u8],
+    nodes: &[u16],
+    beginning: &[u16],
+    sets: &[u8],
+    out: &mut [u8; 90000],
+) -> usize
+    ensures { λ r. ⌜ Put (tables-text (now (names .entry)) (now (sets .entry)) (now (nodes .entry)) (now (beginning .entry))) (now (out .entry)) 0 (now (out .exit)) r ⌝ }
     ensures { λ r. ⌜ Counts r (now (out .exit)) ⌝ }
 {
     let mut list = [0u16; 259];
     let mut work = [0u8; WORK];
-    match ahead::next_named(names, nodes, beginning, &mut list, &mut work, ALLOWANCE) {
+    match ahead::next_named(
+        names,
+        nodes,
+        beginning,
+        sets,
+        &mut list,
+        &mut work,
+        ALLOWANCE,
+    ) {
         Next::Listed(found) => {
             let n = found.length as usize;
             listing::put_list(names, &list[..n], found.count, out)
@@ -183,7 +199,8 @@ pub fn next_file(file: &[u8], first: u16, out: &mut [u8; 90000]) -> usize
         Reading::Read(counts) => {
             let n = 3 * wide(counts.nodes);
             let k = so_many(first, counts.records);
-            next_tables(names_of(file), &nodes[..n], &records[..k], out)
+            let at = counts.sets_at;
+            next_tables(names_of(file), &nodes[..n], &records[..k], &file[at..], out)
         }
         Reading::Refused(r) => listing::put_answer(Answer::Refused(r), out),
     }

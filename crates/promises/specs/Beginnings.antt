@@ -18,8 +18,9 @@ use Rattle.flow.specs.declared.Check.the-variants.{Fine}
 use Rattle.flow.specs.declared.Extent.{Extent}
 use Rattle.flow.specs.declared.Extent.the-variants.{Whole, Beginning}
 use Rattle.flow.specs.Tests.{is-true, is-false}
+use Rattle.flow.specs.Legends.{set-count}
 use Rattle.flow.specs.Records.{done-number, withdrawn-number, failed-number, most-events, is-event-number, is-closing-number}
-use Rattle.flow.specs.Refusals.{count, ground, Round, most-records, too-many-records, no-record, closings-wanted, closed, closings-allowed, too-many-closings, wrong-closings, value-grounds, nodes-order, table-length-order, table-order, values-order, closing-order, records-length-order, records-order}
+use Rattle.flow.specs.Refusals.{count, ground, Round, most-records, too-many-records, no-record, closings-wanted, closed, closings-allowed, too-many-closings, wrong-closings, value-grounds, nodes-order, table-length-order, sets-order, table-order, values-order, closing-order, records-length-order, records-order}
 use Rattle.flow.specs.Checks.{first, grounds, table-check, records-check}
 use Rattle.flow.specs.Earliest.{None, more, Nowhere, end, not-lone, not-sweep}
 use Rattle.flow.specs.RecordsFit.{fine-records}
@@ -57,47 +58,51 @@ module _ (extent : Extent) (ns rs : List ℕ) where
   records-pass n = nowhere-exactly (records-order extent ns rs) .1 n
 
 -- and with names
-record ListParts (extent : Extent) (names : ℕ) (ns rs : List ℕ) : Type 0 where
+record ListParts (extent : Extent) (names : ℕ) (sets ns rs : List ℕ) : Type 0 where
   table-counted : Nowhere (table-length-order ns)
-  nodes : Nowhere (nodes-order ns)
+  sets-lent : Nowhere (sets-order sets)
+  nodes : Nowhere (nodes-order (set-count sets) ns)
   records : RecordParts extent ns rs
   named : Nowhere (names-order names ns rs)
 
-module _ (extent : Extent) (names : ℕ) (ns rs : List ℕ) where
-  list-parts : Nowhere (lists-order extent names ns rs) → ListParts extent names ns rs
+module _ (extent : Extent) (names : ℕ) (sets ns rs : List ℕ) where
+  list-parts : Nowhere (lists-order extent names sets ns rs) → ListParts extent names sets ns rs
   list-parts n =
-      let a = nowhere-parts (table-length-order ns) (records-length-order extent rs ++ content-order extent names ns rs) n in
-      let b = nowhere-parts (records-length-order extent rs) (content-order extent names ns rs) (a .1) in
-      let c = nowhere-parts (nodes-order ns) (values-order rs ++ (closing-order extent ns rs ++ names-order names ns rs)) (b .1) in
-      let d = nowhere-parts (values-order rs) (closing-order extent ns rs ++ names-order names ns rs) (c .1) in
-      let e = nowhere-parts (closing-order extent ns rs) (names-order names ns rs) (d .1) in
-      record { table-counted = a .0; nodes = c .0; records = record { counted = b .0; values = d .0; closings = e .0 }; named = e .1 }
+      let many = set-count sets in
+      let a = nowhere-parts (table-length-order ns) (records-length-order extent rs ++ (sets-order sets ++ content-order extent names many ns rs)) n in
+      let b = nowhere-parts (records-length-order extent rs) (sets-order sets ++ content-order extent names many ns rs) (a .1) in
+      let c = nowhere-parts (sets-order sets) (content-order extent names many ns rs) (b .1) in
+      let d = nowhere-parts (nodes-order many ns) (values-order rs ++ (closing-order extent ns rs ++ names-order names ns rs)) (c .1) in
+      let e = nowhere-parts (values-order rs) (closing-order extent ns rs ++ names-order names ns rs) (d .1) in
+      let f = nowhere-parts (closing-order extent ns rs) (names-order names ns rs) (e .1) in
+      record { table-counted = a .0; sets-lent = c .0; nodes = d .0; records = record { counted = b .0; values = e .0; closings = f .0 }; named = f .1 }
 
-  list-whole : ListParts extent names ns rs → Nowhere (lists-order extent names ns rs)
+  list-whole : ListParts extent names sets ns rs → Nowhere (lists-order extent names sets ns rs)
   list-whole p =
       nowhere-both (p .table-counted)
-      (nowhere-both (p .records .counted) (nowhere-both (p .nodes) (nowhere-both (p .records .values) (nowhere-both (p .records .closings) (p .named)))))
+      (nowhere-both (p .records .counted)
+      (nowhere-both (p .sets-lent) (nowhere-both (p .nodes) (nowhere-both (p .records .values) (nowhere-both (p .records .closings) (p .named))))))
 
 ---- The table and the records pass by themselves ----
 
-module _ (extent : Extent) (ns rs : List ℕ) where
+module _ (extent : Extent) (sets ns rs : List ℕ) where
   -- without names, whatever stands behind them
-  pub plain-parts : (order : List Round) → Nowhere (table-order ns ++ (records-order extent ns rs ++ order)) → (table-check ns ≡ Fine) × (records-check extent ns rs ≡ Fine)
+  pub plain-parts : (order : List Round) → Nowhere (table-order sets ns ++ (records-order extent ns rs ++ order)) → (table-check sets ns ≡ Fine) × (records-check extent ns rs ≡ Fine)
   plain-parts order n =
-      let a = nowhere-parts (table-order ns) (records-order extent ns rs ++ order) n in
+      let a = nowhere-parts (table-order sets ns) (records-order extent ns rs ++ order) n in
       let b = nowhere-parts (records-order extent ns rs) order (a .1) in
-      (table-passes-exactly ns .1 (a .0), records-pass extent ns rs (b .0))
+      (table-passes-exactly sets ns .1 (a .0), records-pass extent ns rs (b .0))
 
   -- with them
-  pub lists-parts : (names : ℕ) (order : List Round) → Nowhere (lists-order extent names ns rs ++ order) → (table-check ns ≡ Fine) × (records-check extent ns rs ≡ Fine)
+  pub lists-parts : (names : ℕ) (order : List Round) → Nowhere (lists-order extent names sets ns rs ++ order) → (table-check sets ns ≡ Fine) × (records-check extent ns rs ≡ Fine)
   lists-parts names order n =
-      let p = list-parts extent names ns rs (nowhere-parts (lists-order extent names ns rs) order n .0) in
-      (table-passes-exactly ns .1 (nowhere-both (p .table-counted) (p .nodes)), records-pass extent ns rs (record-whole extent ns rs (p .records)))
+      let p = list-parts extent names sets ns rs (nowhere-parts (lists-order extent names sets ns rs) order n .0) in
+      (table-passes-exactly sets ns .1 (nowhere-both (p .table-counted) (nowhere-both (p .sets-lent) (p .nodes))), records-pass extent ns rs (record-whole extent ns rs (p .records)))
 
 -- then every event leaf has an entry
-pub lists-named : (extent : Extent) (names : ℕ) (ns rs : List ℕ) (order : List Round) → Nowhere (lists-order extent names ns rs ++ order)
+pub lists-named : (extent : Extent) (names : ℕ) (sets ns rs : List ℕ) (order : List Round) → Nowhere (lists-order extent names sets ns rs ++ order)
     → (i : ℕ) → i < count ns → T (not (unnamed-leaf names ns i))
-lists-named extent names ns rs order n i h = by (list-parts extent names ns rs (nowhere-parts (lists-order extent names ns rs) order n .0) .named)
+lists-named extent names sets ns rs order n i h = by (list-parts extent names sets ns rs (nowhere-parts (lists-order extent names sets ns rs) order n .0) .named)
   where
     at-node : None (leaf-grounds names ns i) → T (not (unnamed-leaf names ns i))
     at-node (more t m) = t
@@ -191,23 +196,31 @@ module _ (ns rs : List ℕ) (k : ℕ) (inside : k < length rs) where
   first-records : RecordParts Whole ns rs → RecordParts Beginning ns (take k rs)
   first-records p = record { counted = first-counted (p .counted); values = first-values (p .values); closings = first-closings (p .closings) }
 
-  first-lists : (names : ℕ) → ListParts Whole names ns rs → ListParts Beginning names ns (take k rs)
-  first-lists names p = record { table-counted = p .table-counted; nodes = p .nodes; records = first-records (p .records); named = first-named names (p .named) }
+module _ (sets ns rs : List ℕ) (k : ℕ) (inside : k < length rs) where
+  first-lists : (names : ℕ) → ListParts Whole names sets ns rs → ListParts Beginning names sets ns (take k rs)
+  first-lists names p = record {
+    table-counted = p .table-counted;
+    sets-lent = p .sets-lent;
+    nodes = p .nodes;
+    records = first-records ns rs k inside (p .records);
+    named = first-named ns rs k inside names (p .named);
+  }
 
   -- without names, whatever stands behind the records
-  pub plain-first : (order order′ : List Round) → Nowhere order′ → Nowhere (table-order ns ++ (records-order Whole ns rs ++ order))
-      → Nowhere (table-order ns ++ (records-order Beginning ns (take k rs) ++ order′))
+  pub plain-first : (order order′ : List Round) → Nowhere order′ → Nowhere (table-order sets ns ++ (records-order Whole ns rs ++ order))
+      → Nowhere (table-order sets ns ++ (records-order Beginning ns (take k rs) ++ order′))
   plain-first order order′ m n =
-      let a = nowhere-parts (table-order ns) (records-order Whole ns rs ++ order) n in
+      let a = nowhere-parts (table-order sets ns) (records-order Whole ns rs ++ order) n in
       let b = nowhere-parts (records-order Whole ns rs) order (a .1) in
-      nowhere-both (a .0) (nowhere-both (record-whole Beginning ns (take k rs) (first-records (record-parts Whole ns rs (b .0)))) m)
+      nowhere-both (a .0) (nowhere-both (record-whole Beginning ns (take k rs) (first-records ns rs k inside (record-parts Whole ns rs (b .0)))) m)
 
   -- with them
-  pub lists-first : (names : ℕ) (order order′ : List Round) → Nowhere order′ → Nowhere (lists-order Whole names ns rs ++ order) → Nowhere (lists-order Beginning names ns (take k rs) ++ order′)
+  pub lists-first : (names : ℕ) (order order′ : List Round) → Nowhere order′ → Nowhere (lists-order Whole names sets ns rs ++ order)
+      → Nowhere (lists-order Beginning names sets ns (take k rs) ++ order′)
   lists-first names order order′ m n =
-      let a = nowhere-parts (lists-order Whole names ns rs) order n in
-      let p = list-parts Whole names ns rs (a .0) in
-      nowhere-both (list-whole Beginning names ns (take k rs) (first-lists names p)) m
+      let a = nowhere-parts (lists-order Whole names sets ns rs) order n in
+      let p = list-parts Whole names sets ns rs (a .0) in
+      nowhere-both (list-whole Beginning names sets ns (take k rs) (first-lists names p)) m
 
 ---- Room ----
 
@@ -228,13 +241,15 @@ room-enough ns rs numbers room (not-lone t end) = ltb-false numbers numbers-want
     first-off true b h = absurd h
     first-off false b h = refl
 
-pub plain-room : (ns rs : List ℕ) (numbers room : ℕ) → Nowhere (next-order ns rs numbers room) → numbers-wanted ≤ numbers
-plain-room ns rs numbers room n =
-    let a = nowhere-parts (table-order ns) (records-order Beginning ns rs ++ next-room-order ns rs numbers room) n in
+pub plain-room : (sets ns rs : List ℕ) (numbers room : ℕ) → Nowhere (next-order sets ns rs numbers room) → numbers-wanted ≤ numbers
+plain-room sets ns rs numbers room n =
+    let a = nowhere-parts (table-order sets ns) (records-order Beginning ns rs ++ next-room-order ns rs numbers room) n in
     room-enough ns rs numbers room (nowhere-parts (records-order Beginning ns rs) (next-room-order ns rs numbers room) (a .1) .1)
 
-pub lists-room : (names : ℕ) (ns rs : List ℕ) (numbers room : ℕ) → Nowhere (lists-order Beginning names ns rs ++ next-room-order ns rs numbers room) → numbers-wanted ≤ numbers
-lists-room names ns rs numbers room n = room-enough ns rs numbers room (nowhere-parts (lists-order Beginning names ns rs) (next-room-order ns rs numbers room) n .1)
+pub lists-room : (names : ℕ) (sets ns rs : List ℕ) (numbers room : ℕ) → Nowhere (lists-order Beginning names sets ns rs ++ next-room-order ns rs numbers room)
+    → numbers-wanted ≤ numbers
+lists-room names sets ns rs numbers room n =
+    room-enough ns rs numbers room (nowhere-parts (lists-order Beginning names sets ns rs) (next-room-order ns rs numbers room) n .1)
 
 ---- Behind a names section ----
 

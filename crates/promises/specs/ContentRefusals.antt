@@ -1,8 +1,9 @@
--- The refusals of a file's numbers, 4 to 9, 12, 13, 19 and 20, exactly when: their order is one like any other (ExactlyWhen), and the
--- reader reports just these of a file of the format. What 19 and 20 say in plain words is in PlainRows. Assumes nothing.
+-- The refusals of a file's numbers, 4 to 9, with 22, 12, 13, 19 and 20, exactly when: their order is one like any other (ExactlyWhen),
+-- and the reader reports just these of a file of the format. What 19 and 20 say in plain words is in PlainRows. Assumes nothing.
 use Prim.Native.Nat.{ℕ, _≤_}
-use mathlib.Core.Logic.{_↔_}
+use mathlib.Core.Logic.{inr, _↔_}
 use mathlib.Core.Path.{_≡_, refl, ap, sym, _∙_}
+use native.Mathlib.Omega.{arith}
 use Rattle.flow.specs.declared.Refusal.{Refusal}
 use Rattle.flow.specs.declared.Check.{Check}
 use Rattle.flow.specs.declared.Check.the-variants as check
@@ -38,7 +39,7 @@ contents-refused-when f nr rr k p w h l = (
 )
   where
     is : reading (encode f) nr rr ≡ checked f (content-check f)
-    is = reading-laid (encode f) nr rr h l ∙ laid-checked (encode f) (run (encode f) 0 layout) (layout-reads (encode f) f w (stands-all (encode f)))
+    is = reading-laid (encode f) nr rr h l ∙ laid-checked (encode f) (run (encode f) 0 layout) (layout-reads (encode f) f w (stands-all (encode f)) (inr (omega arith)))
 
     by : (c : Check) → content-check f ≡ c → checked f c .answer ≡ Refused (refusal-of k p) → Earliest (refusal-of k p) (file-order f)
     by check.Fine q a = read-not-refused a

@@ -7,19 +7,21 @@ use mathlib.Core.Path.{_≡_, sym, ap, _∙_}
 use mathlib.Core.List.{List}
 use mathlib.Core.Logic.{_↔_, Iff·symm, Iff·trans}
 use lib.ListN.{length, length-map}
-use Rattle.calculus.specs.Term.{Leaf, leaf}
 use Rattle.calculus.specs.Records.{Record, State, Complete, InTraces}
 use Rattle.calculus.specs.Search.{visit}
 use Rattle.calculus.specs.Laws.{Redrawn}
-use Rattle.calculus.specs.Redrawn.{complete-traces, redrawn-flip, redrawn-complete}
+use Rattle.calculus.specs.Completes.{complete-traces}
+use Rattle.calculus.specs.Redrawn.{redrawn-flip, redrawn-complete}
 use Rattle.flow.specs.declared.Check.the-variants.{Fine}
 use Rattle.flow.specs.declared.Extent.the-variants.{Whole}
 use Rattle.flow.specs.Records.{record-of, records}
 use Rattle.flow.specs.Refusals.{root}
 use Rattle.flow.specs.Checks.{table-check, records-check}
 use Rattle.flow.specs.Earliest.{Earliest, Nowhere}
+use Rattle.flow.specs.Legends.{Legend, plain}
 use Rattle.flow.specs.Draws.{Draws}
 use Rattle.flow.specs.Drawn.{flow-by, flow-of}
+use Rattle.flow.specs.FineTable.{fine-table}
 use Rattle.flow.specs.OneFlow.{flow-drawn, flow-only}
 use Rattle.judge.specs.declared.Answer.{Answer}
 use Rattle.judge.specs.Judged.{VerdictWord, Told, told, verdict, refusal, room-wanted, judge-order, judge-check, judged, cleared, work-after, Judged}
@@ -32,50 +34,50 @@ use Rattle.promises.specs.Verdicts.{not-refused-fine, decided-told, told
 -- "The judge takes every flow, record list and file, damaged ones included, and always ends. It refuses bad input itself, by the
 -- numbers and in the order of document 01. A refusal gives the number and the place and changes no byte it was lent."
 
-module _ (ns rs : List ℕ) where
+module _ (sets ns rs : List ℕ) where
   -- a number is given at a place exactly when its condition holds there and, in the order of 01, no earlier one holds at its place
   pub refused-when : (room allowance number place : ℕ)
-      → (told (judged ns rs room allowance) ≡ refusal number place) ↔ Earliest (record { number = number; place = place }) (judge-order ns rs room)
+      → (told (judged sets ns rs room allowance) ≡ refusal number place) ↔ Earliest (record { number = number; place = place }) (judge-order sets ns rs room)
   refused-when room allowance number place =
-      Iff·trans (refusal-told (judge-check ns rs room) (flow-of ns) rs allowance number place) (given-exactly ns rs room (record { number = number; place = place }))
+      Iff·trans (refusal-told (judge-check sets ns rs room) (flow-of sets ns) rs allowance number place) (given-exactly sets ns rs room (record { number = number; place = place }))
 
   -- and nothing is refused exactly when no condition of the table holds anywhere
-  pub judged-when : (room allowance : ℕ) → (told (judged ns rs room allowance) .word ≡ VerdictWord.refused → ⊥) ↔ Nowhere (judge-order ns rs room)
+  pub judged-when : (room allowance : ℕ) → (told (judged sets ns rs room allowance) .word ≡ VerdictWord.refused → ⊥) ↔ Nowhere (judge-order sets ns rs room)
   judged-when room allowance = (
-    λ n. passes-exactly ns rs room .0 (not-refused-fine (judge-check ns rs room) (flow-of ns) rs allowance n),
-    λ p. fine-not-refused (judge-check ns rs room) (flow-of ns) rs allowance (passes-exactly ns rs room .1 p),
+    λ n. passes-exactly sets ns rs room .0 (not-refused-fine (judge-check sets ns rs room) (flow-of sets ns) rs allowance n),
+    λ p. fine-not-refused (judge-check sets ns rs room) (flow-of sets ns) rs allowance (passes-exactly sets ns rs room .1 p),
   )
 
   -- "changes no byte"
-  pub refusal-keeps : (allowance : ℕ) (work : List ℕ) → told (judged ns rs (length work) allowance) .word ≡ VerdictWord.refused → work-after ns rs work ≡ work
+  pub refusal-keeps : (allowance : ℕ) (work : List ℕ) → told (judged sets ns rs (length work) allowance) .word ≡ VerdictWord.refused → work-after sets ns rs work ≡ work
   refusal-keeps allowance work w =
-      let q = told-refused (judge-check ns rs (length work)) (flow-of ns) rs allowance w in refused-bytes (room-wanted ns rs) work (q .0) (q .1)
+      let q = told-refused (judge-check sets ns rs (length work)) (flow-of sets ns) rs allowance w in refused-bytes (room-wanted ns rs) work (q .0) (q .1)
 
   -- 01: "After any verdict but a refusal the first 2 × nodes × (records + 1) are zero and the others unchanged."
-  pub verdict-clears : (allowance : ℕ) (work : List ℕ) → (told (judged ns rs (length work) allowance) .word ≡ VerdictWord.refused → ⊥)
-      → work-after ns rs work ≡ cleared (room-wanted ns rs) work
-  verdict-clears allowance work n = fine-bytes (room-wanted ns rs) work (not-refused-fine (judge-check ns rs (length work)) (flow-of ns) rs allowance n)
+  pub verdict-clears : (allowance : ℕ) (work : List ℕ) → (told (judged sets ns rs (length work) allowance) .word ≡ VerdictWord.refused → ⊥)
+      → work-after sets ns rs work ≡ cleared (room-wanted ns rs) work
+  verdict-clears allowance work n = fine-bytes (room-wanted ns rs) work (not-refused-fine (judge-check sets ns rs (length work)) (flow-of sets ns) rs allowance n)
 
--- a table that is not refused means exactly one flow, whatever records its leaves take
-pub one-flow-by : (leaves : ℕ → Leaf) (ns : List ℕ) → table-check ns ≡ Fine
-    → Draws leaves ns (root ns) (flow-by leaves ns) × ((s : State) → Draws leaves ns (root ns) s → s ≡ flow-by leaves ns)
-one-flow-by leaves ns e = (flow-drawn leaves ns e, flow-only leaves ns e)
+-- a table that is not refused means exactly one flow, whatever records its leaves take and whichever events are joint
+pub one-flow-by : (legend : Legend) (sets ns : List ℕ) → table-check sets ns ≡ Fine
+    → Draws legend ns (root ns) (flow-by legend ns) × ((s : State) → Draws legend ns (root ns) s → s ≡ flow-by legend ns)
+one-flow-by legend sets ns e = let fine = fine-table ns sets e in (flow-drawn legend ns fine, flow-only legend ns fine)
 
--- where no names are lent, a node takes its own event
-pub one-flow : (ns : List ℕ) → table-check ns ≡ Fine → Draws leaf ns (root ns) (flow-of ns) × ((s : State) → Draws leaf ns (root ns) s → s ≡ flow-of ns)
-one-flow ns e = one-flow-by leaf ns e
+-- where no names are lent, a node takes its own event, and the sets are those that are lent
+pub one-flow : (sets ns : List ℕ) → table-check sets ns ≡ Fine → Draws (plain sets) ns (root ns) (flow-of sets ns) × ((s : State) → Draws (plain sets) ns (root ns) s → s ≡ flow-of sets ns)
+one-flow sets ns e = one-flow-by (plain sets) sets ns e
 
 ---- Demand 2 ----
 -- "A batch that isn't refused is undecided exactly if the search that document 01 defines enters more states than the caller
 -- allowed. If not undecided, it is accepted exactly if its records are a complete run of the flow under the published transition
 -- rules, and equally if they are one of its traces under the published trace semantics. Else it is rejected."
 
-module _ (ns rs : List ℕ) (room allowance : ℕ) (judged-so : told (judged ns rs room allowance) .word ≡ VerdictWord.refused → ⊥) where
+module _ (sets ns rs : List ℕ) (room allowance : ℕ) (judged-so : told (judged sets ns rs room allowance) .word ≡ VerdictWord.refused → ⊥) where
   abbrev answer : Told
-  answer = told (judged ns rs room allowance)
+  answer = told (judged sets ns rs room allowance)
 
   abbrev flow : State
-  flow = flow-of ns
+  flow = flow-of sets ns
 
   abbrev batch : List Record
   batch = records rs
@@ -85,7 +87,7 @@ module _ (ns rs : List ℕ) (room allowance : ℕ) (judged-so : told (judged ns 
 
   -- all of it, in one record (Stated)
   pub judge-decides : Decides flow batch allowance answer
-  judge-decides = decided-told (judge-check ns rs room) flow rs allowance judged-so
+  judge-decides = decided-told (judge-check sets ns rs room) flow rs allowance judged-so
 
   pub undecided-exactly : (answer .word ≡ VerdictWord.undecided) ↔ (allowance < entered)
   undecided-exactly = judge-decides .undecided-exactly
@@ -119,6 +121,7 @@ module _ (ns rs : List ℕ) (room allowance : ℕ) (judged-so : told (judged ns 
 -- "Redrawing changes nothing. If one flow becomes another by any number of exchanges from document 01's list of laws, at any
 -- depth, and both are within the limits, then for every record list, with room enough lent to each, both are refused or both get
 -- the same verdict by demand 2, unless either is undecided. Place and count may differ."
+-- 02, Four: "The laws stay for flows whose set numbers are all present, both judged with the same sets."
 
 -- over demand 2's runs: the complete runs of the one are those of the other, and so are the traces
 module _ {flow flow′ : State} (redrawn : Redrawn flow flow′) where
@@ -129,37 +132,37 @@ module _ {flow flow′ : State} (redrawn : Redrawn flow flow′) where
   redrawn-flow-traces batch =
       Iff·trans (Iff·symm (complete-traces flow batch)) (Iff·trans (redrawn-flow-runs batch) (complete-traces flow′ batch))
 
-module _ (ns ns′ : List ℕ) (redrawn : Redrawn (flow-of ns) (flow-of ns′)) (within : table-check ns ≡ Fine) (within′ : table-check ns′ ≡ Fine) where
+module _ (sets ns ns′ : List ℕ) (redrawn : Redrawn (flow-of sets ns) (flow-of sets ns′)) (within : table-check sets ns ≡ Fine) (within′ : table-check sets ns′ ≡ Fine) where
   -- of tables
-  pub redrawn-runs : (batch : List Record) → Complete (flow-of ns) batch ↔ Complete (flow-of ns′) batch
+  pub redrawn-runs : (batch : List Record) → Complete (flow-of sets ns) batch ↔ Complete (flow-of sets ns′) batch
   redrawn-runs = redrawn-flow-runs redrawn
 
-  pub redrawn-traces : (batch : List Record) → InTraces (flow-of ns) batch ↔ InTraces (flow-of ns′) batch
+  pub redrawn-traces : (batch : List Record) → InTraces (flow-of sets ns) batch ↔ InTraces (flow-of sets ns′) batch
   redrawn-traces = redrawn-flow-traces redrawn
 
   -- hence the verdicts: both accepted or neither, where both are decided
   pub redrawn-accepted : (rs : List ℕ) (room room′ allowance allowance′ : ℕ)
-      (judged-so : told (judged ns rs room allowance) .word ≡ VerdictWord.refused → ⊥) (judged-so′ : told (judged ns′ rs room′ allowance′) .word ≡ VerdictWord.refused → ⊥)
-      → (told (judged ns rs room allowance) .word ≡ VerdictWord.undecided → ⊥) → (told (judged ns′ rs room′ allowance′) .word ≡ VerdictWord.undecided → ⊥)
-      → (told (judged ns rs room allowance) .word ≡ VerdictWord.accepted) ↔ (told (judged ns′ rs room′ allowance′) .word ≡ VerdictWord.accepted)
+      (judged-so : told (judged sets ns rs room allowance) .word ≡ VerdictWord.refused → ⊥) (judged-so′ : told (judged sets ns′ rs room′ allowance′) .word ≡ VerdictWord.refused → ⊥)
+      → (told (judged sets ns rs room allowance) .word ≡ VerdictWord.undecided → ⊥) → (told (judged sets ns′ rs room′ allowance′) .word ≡ VerdictWord.undecided → ⊥)
+      → (told (judged sets ns rs room allowance) .word ≡ VerdictWord.accepted) ↔ (told (judged sets ns′ rs room′ allowance′) .word ≡ VerdictWord.accepted)
   redrawn-accepted rs room room′ allowance allowance′ j j′ d d′ =
-      Iff·trans (accepted-exactly ns rs room allowance j d) (Iff·trans (redrawn-runs (records rs)) (Iff·symm (accepted-exactly ns′ rs room′ allowance′ j′ d′)))
+      Iff·trans (accepted-exactly sets ns rs room allowance j d) (Iff·trans (redrawn-runs (records rs)) (Iff·symm (accepted-exactly sets ns′ rs room′ allowance′ j′ d′)))
 
   -- and in all: the same refusal, or the same word and, where both are rejected, the same place
   pub redrawn-same : (rs : List ℕ) (room room′ allowance allowance′ : ℕ) → room-wanted ns rs ≤ room → room-wanted ns′ rs ≤ room′
-      → SameAnswer (told (judged ns rs room allowance)) (told (judged ns′ rs room′ allowance′))
+      → SameAnswer (told (judged sets ns rs room allowance)) (told (judged sets ns′ rs room′ allowance′))
   redrawn-same rs room room′ allowance allowance′ enough enough′ = redrawn-answers (one ∙ sym two) redrawn rs allowance allowance′
     where
-      one : judge-check ns rs room ≡ records-check Whole ns rs
-      one = records-decide ns rs room within enough
+      one : judge-check sets ns rs room ≡ records-check Whole ns rs
+      one = records-decide sets ns rs room within enough
 
-      two : judge-check ns′ rs room′ ≡ records-check Whole ns rs
-      two = records-decide ns′ rs room′ within′ enough′ ∙ sym (redrawn-records leaf ns ns′ within within′ redrawn Whole rs)
+      two : judge-check sets ns′ rs room′ ≡ records-check Whole ns rs
+      two = records-decide sets ns′ rs room′ within′ enough′ ∙ sym (redrawn-records (plain sets) ns ns′ (fine-table ns sets within) (fine-table ns′ sets within′) redrawn Whole rs)
 
 ---- One outcome ----
 -- 01: "For each public function and every input, refused ones too, the contract leaves one possible outcome: the result and each
 -- lent byte. That uniqueness is itself a proved fact."
 
-pub judge-unique : {ns rs : List ℕ} {allowance : ℕ} {work : List ℕ} {r r′ : Answer} {after after′ : List ℕ}
-    → Judged ns rs allowance work r after → Judged ns rs allowance work r′ after′ → (r ≡ r′) × (after ≡ after′)
-judge-unique p q = (p .answers ∙ sym (q .answers), p .leaves ∙ sym (q .leaves))
+pub judge-unique : (sets : List ℕ) {ns rs : List ℕ} {allowance : ℕ} {work : List ℕ} {r r′ : Answer} {after after′ : List ℕ}
+    → Judged sets ns rs allowance work r after → Judged sets ns rs allowance work r′ after′ → (r ≡ r′) × (after ≡ after′)
+judge-unique sets p q = (p .answers ∙ sym (q .answers), p .leaves ∙ sym (q .leaves))

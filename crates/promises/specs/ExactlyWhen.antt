@@ -117,26 +117,26 @@ nowhere-exactly order = (fine-nowhere order, λ x. fine-exactly (grounds order) 
 
 ---- The orders ----
 
--- 1 to 9
-pub table-exactly : (ns : List ℕ) (r : Refusal) → (table-check ns ≡ Refused r) ↔ Earliest r (table-order ns)
+-- 1 to 9, with 22 and 23
+pub table-exactly : (sets ns : List ℕ) (r : Refusal) → (table-check sets ns ≡ Refused r) ↔ Earliest r (table-order sets ns)
 unfolding table-check
-table-exactly ns r = earliest-exactly (table-order ns) r
+table-exactly sets ns r = earliest-exactly (table-order sets ns) r
 
-pub table-passes-exactly : (ns : List ℕ) → (table-check ns ≡ Fine) ↔ Nowhere (table-order ns)
+pub table-passes-exactly : (sets ns : List ℕ) → (table-check sets ns ≡ Fine) ↔ Nowhere (table-order sets ns)
 unfolding table-check
-table-passes-exactly ns = nowhere-exactly (table-order ns)
+table-passes-exactly sets ns = nowhere-exactly (table-order sets ns)
 
 -- 10 to 13
 pub records-exactly : (extent : Extent) (ns rs : List ℕ) (r : Refusal) → (records-check extent ns rs ≡ Refused r) ↔ Earliest r (records-order extent ns rs)
 unfolding records-check
 records-exactly extent ns rs r = earliest-exactly (records-order extent ns rs) r
 
--- 1 to 14
-module _ (ns rs : List ℕ) (room : ℕ) where
-  pub given-exactly : (r : Refusal) → (judge-check ns rs room ≡ Refused r) ↔ Earliest r (judge-order ns rs room)
+-- 1 to 14, with 22 and 23
+module _ (sets ns rs : List ℕ) (room : ℕ) where
+  pub given-exactly : (r : Refusal) → (judge-check sets ns rs room ≡ Refused r) ↔ Earliest r (judge-order sets ns rs room)
   unfolding judge-check
-  given-exactly r = earliest-exactly (judge-order ns rs room) r
+  given-exactly r = earliest-exactly (judge-order sets ns rs room) r
 
-  pub passes-exactly : (judge-check ns rs room ≡ Fine) ↔ Nowhere (judge-order ns rs room)
+  pub passes-exactly : (judge-check sets ns rs room ≡ Fine) ↔ Nowhere (judge-order sets ns rs room)
   unfolding judge-check
-  passes-exactly = nowhere-exactly (judge-order ns rs room)
+  passes-exactly = nowhere-exactly (judge-order sets ns rs room)

@@ -1,22 +1,52 @@
 -- The plan of the flow file reads exactly the files of the format that are within the limits, and finds what they hold: sections
 -- that stand in a file are read back, and what is read stands there. Assumes nothing.
-use Prim.Native.Nat.{ℕ, zero, suc, _+_, _*_, _/_, _≤_}
+use Prim.Native.Nat.{ℕ, zero, suc, _+_, _*_, _/_, _%_, _≤_, _<_}
 use mathlib.Core.List.{List, [], _∷_, _++_, append-assoc, append-nil}
+use mathlib.Core.Logic.{_⊎_, inl, inr}
 use mathlib.Core.Path.{_≡_, refl, ap, ap₂, sym, _∙_, subst}
 use native.Mathlib.Omega.{arith}
-use lib.ListN.{length, length-append}
+use lib.ListN.{length, take, drop, length-append}
+use Rattle.flow.specs.Legends.{set-bytes, set-count}
 use Rattle.format.specs.declared.Range.{Range}
-use Rattle.format.specs.Format.{number-bytes, numbers-bytes, Entry, entry-bytes, entries-bytes, names-section, numbers-section, File, encode}
+use Rattle.format.specs.Format.{number-bytes, numbers-bytes, Entry, entry-bytes, entries-bytes, names-section, numbers-section, sets-section, File, encode}
 use Rattle.format.specs.Plan.{Ran, got, bad, run}
-use Rattle.format.specs.Sections.{number, ranged, name-count, node-count, record-count, new-entry, entries, names, numbers, section, layout}
-use Rattle.format.specs.Lengths.{number-bytes-length, numbers-bytes-length}
-use Rattle.format.specs.Limits.{InRange, GoodEntries, no-entries, one-entry, GoodNames, GoodNumbers, WithinLimits, Bytes, Stands}
+use Rattle.format.specs.Sections.{number, ranged, name-count, node-count, record-count, sets-count, new-entry, entries, names, items, item-section, numbers-of, section, joint-sets, layout}
+use Rattle.format.specs.Lengths.{number-bytes-length, numbers-bytes-length, section-of-some, sets-length}
+use Rattle.format.specs.Limits.{InRange, GoodEntries, no-entries, one-entry, GoodNames, GoodNumbers, GoodSets, no-sets, some-sets, WithinLimits, Bytes, Stands}
 use Rattle.format.specs.Items.{numbers-at, number-at}
-use Rattle.format.specs.ItemLaws.{got-value, got-next, got-not-bad, number-got, number-there, NumberThere, ranged-got, ranged-there}
-use Rattle.format.specs.SectionLaws.{names-bad, names-from, numbers-got, new-entry-got, new-entry-there, entries-bad, entries-more, section-from, section-there}
+use Rattle.format.specs.ItemLaws.{le-or-lt, got-value, got-next, got-not-bad, number-there, NumberThere, ranged-got, ranged-there}
+use Rattle.format.specs.RunLaws.{items-got, items-from, item-section-there, sets-none, sets-some}
+use Rattle.format.specs.SectionLaws.{names-bad, names-from, new-entry-got, new-entry-there, entries-bad, entries-more, section-got, section-there}
 use Rattle.reader.specs.LayoutLaws.{layout-got, layout-runs}
 use Rattle.promises.specs.SameNames.{not-among, not-met}
-use Rattle.promises.specs.FileStands.{stands-nil, stands-move, stands-left, stands-right, stands-join, number-reads, number-stands, entry-reads, entry-stands}
+use Rattle.promises.specs.FileStands.{stands-nil, stands-move, stands-left, stands-right, stands-join, stands-take, taken-stands, stands-bytes, number-reads, number-stands, entry-reads, entry-stands}
+
+-- the numbers that so many bytes are
+numbers-are : (ns : List ℕ) → numbers-of (numbers-bytes ns) ≡ ns
+unfolding numbers-of numbers-bytes number-bytes
+numbers-are [] = refl
+numbers-are (n ∷ ns) = let e : n % 256 + 256 * (n / 256) ≡ n = omega arith in ap₂ _∷_ e (numbers-are ns)
+
+-- what is known of good sets, where there are some
+pub sets-whole : {sets : List ℕ} → GoodNumbers sets-count set-bytes sets
+    → (length sets ≡ set-bytes * (1 * set-count sets)) × InRange sets-count (set-count sets) × (1 ≤ length sets)
+sets-whole {sets} w =
+    let d : w .n ≡ set-count sets = omega (arith, w .whole) in
+    (omega (arith, w .whole), subst (InRange sets-count) d (w .counted), omega (arith, w .whole, w .counted .low))
+
+-- a file that ends after its records
+abbrev pub without-sets : File → File
+without-sets f = record { names = f .names; nodes = f .nodes; records = f .records; sets = [] }
+
+pub encode-sets : (f : File) → encode f ≡ encode (without-sets f) ++ sets-section (f .sets)
+unfolding encode sets-section
+encode-sets f =
+    let es = names-section (f .names) in
+    let ns = numbers-section 3 (f .nodes) in
+    let rs = numbers-section 1 (f .records) in
+    let xs = sets-section (f .sets) in
+    ap (λ (ys : List ℕ). es ++ (ns ++ (ys ++ xs))) (sym (append-nil rs)) ∙ ap (λ (ys : List ℕ). es ++ ys) (sym (append-assoc ns (rs ++ []) xs))
+    ∙ sym (append-assoc es (ns ++ (rs ++ [])) xs)
 
 module _ (s : List ℕ) where
   ---- Entries ----
@@ -87,17 +117,11 @@ module _ (s : List ℕ) where
 
   ---- Numbers ----
 
-  values-are : (at : ℕ) (ns : List ℕ) → Stands s at (numbers-bytes ns) → numbers-at s (length ns) at ≡ ns
-  unfolding numbers-at numbers-bytes number-bytes
-  values-are at [] h = refl
-  values-are at (n ∷ ns) h =
-      let a = stands-left s at (number-bytes n) (numbers-bytes ns) h in
-      ap₂ _∷_ (got-value (sym (number-got s at (a .inside)) ∙ number-reads s at n a)) (values-are (at + 2) ns (stands-right s at (number-bytes n) (numbers-bytes ns) h))
-
-  pub numbers-read : (at : ℕ) (ns : List ℕ) → Stands s at (numbers-bytes ns) → run s at (numbers (length ns)) ≡ got ns (at + length (numbers-bytes ns))
-  numbers-read at ns h =
-      let l : at + 2 * length ns ≡ at + length (numbers-bytes ns) = omega (arith, numbers-bytes-length ns) in
-      numbers-got s (length ns) at (omega (arith, h .inside, numbers-bytes-length ns)) ∙ ap₂ got (values-are at ns h) l
+  -- items that stand in s are read
+  pub items-read : (size k at : ℕ) (xs : List ℕ) → length xs ≡ size * k → Stands s at xs → run s at (items size k) ≡ got xs (at + length xs)
+  items-read size k at xs l h =
+      items-got s size k at (omega (arith, h .inside))
+      ∙ ap₂ (λ (n m : ℕ). got (take n (drop at s)) m) (sym l) (omega arith) ∙ ap (λ (ys : List ℕ). got ys (at + length xs)) (stands-take s at xs h)
 
   values-stand : Bytes s → (k at : ℕ) → at + 2 * k ≤ length s → Stands s at (numbers-bytes (numbers-at s k at))
   unfolding numbers-at numbers-bytes number-bytes
@@ -113,17 +137,25 @@ module _ (s : List ℕ) where
   pub count-reads : (at : ℕ) (g : Range) (v : ℕ) → Stands s at (number-bytes v) → InRange g v → run s at (ranged g number) ≡ got v (at + 2)
   count-reads at g v h r = ranged-got s at g number (number-reads s at v h) (r .low) (r .high)
 
+  -- a section of items: that so many stand behind their count
+  pub item-section-reads : (at : ℕ) (g : Range) (size each n : ℕ) (xs : List ℕ) → length xs ≡ size * (each * n) → InRange g n
+      → Stands s at (number-bytes n ++ xs) → run s at (item-section g size each) ≡ got xs (at + length (number-bytes n ++ xs))
+  item-section-reads at g size each n xs w r h =
+      let l = number-bytes-length n in
+      let a = stands-left s at (number-bytes n) xs h in
+      let b = stands-move s xs (ap (λ (k : ℕ). at + k) l) (stands-right s at (number-bytes n) xs h) in
+      items-from s at g size each (count-reads at g n a r) ∙ items-read size (each * n) (at + 2) xs w b
+      ∙ ap (got xs) (omega (arith, length-append (number-bytes n) xs))
+
   -- a section of numbers: how many there are, and that they stand behind their count
   pub section-reads : (at : ℕ) (g : Range) (each : ℕ) (ns : List ℕ) → length ns ≡ each * (length ns / each) → InRange g (length ns / each)
       → Stands s at (numbers-section each ns) → run s at (section g each) ≡ got ns (at + length (numbers-section each ns))
   unfolding numbers-section
   section-reads at g each ns w r h =
       let n = length ns / each in
-      let l = number-bytes-length n in
-      let a = stands-left s at (number-bytes n) (numbers-bytes ns) h in
-      let b = stands-move s (numbers-bytes ns) (ap (λ (k : ℕ). at + k) l) (stands-right s at (number-bytes n) (numbers-bytes ns) h) in
-      section-from s at g each (count-reads at g n a r) ∙ ap (λ (k : ℕ). run s (at + 2) (numbers k)) (sym w) ∙ numbers-read (at + 2) ns b
-      ∙ ap (got ns) (omega (arith, length-append (number-bytes n) (numbers-bytes ns)))
+      let l : length (numbers-bytes ns) ≡ 2 * (each * n) = numbers-bytes-length ns ∙ ap (λ (k : ℕ). 2 * k) w in
+      section-got s at g each (item-section-reads at g 2 each n (numbers-bytes ns) l r h)
+      ∙ ap (λ (xs : List ℕ). got xs (at + length (number-bytes n ++ numbers-bytes ns))) (numbers-are ns)
 
   pub record SectionStands (g : Range) (each at : ℕ) (ns : List ℕ) (next : ℕ) : Type 0 where
     pub n : ℕ
@@ -158,6 +190,49 @@ module _ (s : List ℕ) where
         stands-join s at (number-bytes n) (numbers-bytes ns) (omega arith) c (t .numbers-stand),
         omega (arith, length-append (number-bytes n) (numbers-bytes ns), numbers-bytes-length ns),
       )
+
+  -- the sets, where there are some or the file ends
+  pub sets-read : (at : ℕ) {sets : List ℕ} → GoodSets sets → Stands s at (sets-section sets) → (1 ≤ length sets) ⊎ (length s ≤ at + length (sets-section sets))
+      → run s at joint-sets ≡ got sets (at + length (sets-section sets))
+  unfolding sets-section
+  sets-read at no-sets h (inl c) = absurd (omega arith)
+  sets-read at no-sets h (inr c) = sets-none s at (omega arith) ∙ ap (got []) (omega arith)
+  sets-read at (some-sets {sets} g b) h c =
+      let w = sets-whole g in
+      let e = section-of-some sets (w .2) in
+      sets-some s at (omega (arith, h .inside, sets-length sets (w .2)))
+      ∙ item-section-reads at sets-count set-bytes 1 (set-count sets) sets (w .0) (w .1) (subst (λ (xs : List ℕ). Stands s at xs) e h)
+      ∙ ap (λ (xs : List ℕ). got sets (at + length xs)) (sym e)
+
+  pub record SetsStand (at : ℕ) (sets : List ℕ) (next : ℕ) : Type 0 where
+    pub good : GoodSets sets
+    pub stands : Stands s at (sets-section sets)
+    pub ends : next ≡ at + length (sets-section sets)
+
+  pub sets-stand : Bytes s → (at : ℕ) {sets : List ℕ} {next : ℕ} → at ≤ length s → run s at joint-sets ≡ got sets next → SetsStand at sets next
+  unfolding sets-section
+  sets-stand b at {sets} {next} l e = by (le-or-lt (length s) at)
+    where
+      by : (length s ≤ at) ⊎ (at < length s) → SetsStand at sets next
+      by (inl h) =
+          let g = sym (sets-none s at h) ∙ e in
+          let none : SetsStand at [] next = record { good = no-sets; stands = stands-nil s l; ends = omega (arith, got-next g) } in
+          subst (λ (xs : List ℕ). SetsStand at xs next) (got-value g) none
+      by (inr h) =
+          let t = item-section-there s at sets-count set-bytes 1 (sym (sets-some s at h) ∙ e) in
+          let some : 1 ≤ length sets = omega (arith, t .sized, t .low) in
+          let d : t .n ≡ set-count sets = omega (arith, t .sized) in
+          let u : NumberThere s at (t .n) (at + 2) = record { is = t .counted; ends = refl; inside = omega (arith, t .ends, t .inside) } in
+          let v : Stands s (at + 2) sets =
+          subst (λ (xs : List ℕ). Stands s (at + 2) xs) (sym (t .is)) (taken-stands s (at + 2) (32 * (1 * t .n)) (omega (arith, t .ends, t .inside))) in
+          let c : Stands s at (number-bytes (set-count sets)) = subst (λ (k : ℕ). Stands s at (number-bytes k)) d (number-stands s b at (t .n) (at + 2) u) in
+          record {
+            good = some-sets {sets = sets} (record { n = t .n; whole = omega (arith, t .sized); counted = record { low = t .low; high = t .high } }) (stands-bytes s b (at + 2) sets v);
+            stands =
+                subst (λ (xs : List ℕ). Stands s at xs) (sym (section-of-some sets some))
+                (stands-join s at (number-bytes (set-count sets)) sets (omega (arith, number-bytes-length (set-count sets))) c v);
+            ends = omega (arith, t .ends, t .sized, sets-length sets some);
+          }
 
   pub names-read : {es : List Entry} → GoodNames es → Stands s 0 (names-section es) → run s 0 names ≡ got es (length (names-section es))
   unfolding names-section number-bytes
@@ -255,12 +330,15 @@ module _ (s : List ℕ) where
   pub record Parts (f : File) : Type 0 where
     pub from : ℕ
     pub mid : ℕ
+    pub last : ℕ
     pub names-stand-at : Stands s 0 (names-section (f .names))
     pub names-run : run s 0 names ≡ got (f .names) from
     pub nodes-stand-at : Stands s from (numbers-section 3 (f .nodes))
     pub nodes-run : run s from (section node-count 3) ≡ got (f .nodes) mid
     pub records-stand-at : Stands s mid (numbers-section 1 (f .records))
-    pub records-run : run s mid (section record-count 1) ≡ got (f .records) (length (encode f))
+    pub records-run : run s mid (section record-count 1) ≡ got (f .records) last
+    pub sets-stand-at : Stands s last (sets-section (f .sets))
+    pub ends : last + length (sets-section (f .sets)) ≡ length (encode f)
 
   pub layout-parts : (f : File) → WithinLimits f → Stands s 0 (encode f) → Parts f
   unfolding encode
@@ -268,44 +346,70 @@ module _ (s : List ℕ) where
       let es = names-section (f .names) in
       let ns = numbers-section 3 (f .nodes) in
       let rs = numbers-section 1 (f .records) in
-      let a = stands-left s 0 (es ++ ns) rs (subst (λ (xs : List ℕ). Stands s 0 xs) (sym (append-assoc es ns rs)) h) in
-      let c = stands-right s 0 (es ++ ns) rs (subst (λ (xs : List ℕ). Stands s 0 xs) (sym (append-assoc es ns rs)) h) in
+      let xs = sets-section (f .sets) in
+      let a = stands-left s 0 (es ++ ns) (rs ++ xs) (subst (λ (ys : List ℕ). Stands s 0 ys) (sym (append-assoc es ns (rs ++ xs))) h) in
+      let c = stands-right s 0 (es ++ ns) (rs ++ xs) (subst (λ (ys : List ℕ). Stands s 0 ys) (sym (append-assoc es ns (rs ++ xs))) h) in
       let r = nodes-read (w .names) (w .nodes) a in
       let v = records-whole (w .records) in
       let e1 : 0 + length es ≡ length es = omega arith in
       let e2 : 0 + length (es ++ ns) ≡ length (es ++ ns) = omega arith in
-      let records = stands-move s rs e2 c in
+      let behind = stands-move s (rs ++ xs) e2 c in
+      let records = stands-left s (length (es ++ ns)) rs xs behind in
       record {
         from = length es;
         mid = length (es ++ ns);
+        last = length (es ++ ns) + length rs;
         names-stand-at = stands-left s 0 es ns a;
         names-run = r .0;
         nodes-stand-at = stands-move s ns e1 (stands-right s 0 es ns a);
         nodes-run = r .1;
         records-stand-at = records;
-        records-run =
-            section-reads (length (es ++ ns)) record-count 1 (f .records) (v .0) (v .1) records
-            ∙ ap (got (f .records)) (sym (length-append (es ++ ns) rs) ∙ ap length (append-assoc es ns rs));
+        records-run = section-reads (length (es ++ ns)) record-count 1 (f .records) (v .0) (v .1) records;
+        sets-stand-at = stands-right s (length (es ++ ns)) rs xs behind;
+        ends = omega (arith, length-append es ns, length-append rs xs, length-append ns (rs ++ xs), length-append es (ns ++ (rs ++ xs)));
       }
 
-  -- a file that stands in s is read
-  pub layout-reads : (f : File) → WithinLimits f → Stands s 0 (encode f) → run s 0 layout ≡ got f (length (encode f))
-  layout-reads f w h = let p = layout-parts f w h in layout-got s (p .names-run) (p .nodes-run) (p .records-run)
+  -- a file that stands in s is read, if it has sets or nothing follows: behind the records of one without, a fourth section is looked for
+  pub layout-reads : (f : File) → WithinLimits f → Stands s 0 (encode f) → (1 ≤ length (f .sets)) ⊎ (length s ≤ length (encode f))
+      → run s 0 layout ≡ got f (length (encode f))
+  layout-reads f w h c =
+      let p = layout-parts f w h in
+      layout-got s (p .names-run) (p .nodes-run) (p .records-run) (sets-read (p .last) (w .sets) (p .sets-stand-at) (by p c)) ∙ ap (got f) (p .ends)
+    where
+      by : (p : Parts f) → (1 ≤ length (f .sets)) ⊎ (length s ≤ length (encode f)) → (1 ≤ length (f .sets)) ⊎ (length s ≤ p .last + length (sets-section (f .sets)))
+      by p (inl a) = inl a
+      by p (inr a) = inr (omega (arith, p .ends))
+
+  -- names, nodes and records that are read are a file without sets that stands in s
+  pub records-stand : Bytes s → {es : List Entry} {ns rs : List ℕ} {from mid last : ℕ} → run s 0 names ≡ got es from
+      → run s from (section node-count 3) ≡ got ns mid → run s mid (section record-count 1) ≡ got rs last
+      → FileStands (record { names = es; nodes = ns; records = rs; sets = [] }) last
+  unfolding encode sets-section
+  records-stand b {es} {ns} {rs} {from} {mid} {last} p q r =
+      let xs = names-section es in
+      let ys = numbers-section 3 ns in
+      let zs = numbers-section 1 rs in
+      let a = nodes-stand b p q in
+      let t = section-stands b mid record-count 1 r in
+      let c = section-whole t (omega (arith, t .whole)) in
+      let d : mid ≡ 0 + length (xs ++ ys) = omega (arith, a .ends) in
+      let e : (xs ++ ys) ++ zs ≡ xs ++ (ys ++ (zs ++ [])) = append-assoc xs ys zs ∙ ap (λ (us : List ℕ). xs ++ (ys ++ us)) (sym (append-nil zs)) in
+      record {
+        within = record { names = a .names-good; nodes = a .nodes-good; records = record { n = t .n; whole = t .whole; counted = t .counted }; sets = no-sets };
+        stands = subst (λ (us : List ℕ). Stands s 0 us) e (stands-join s 0 (xs ++ ys) zs d (a .stands) (c .0));
+        ends = omega (arith, a .ends, c .1, length-append (xs ++ ys) zs, ap length e);
+      }
 
   -- a file that is read stands in s
   pub layout-stands : Bytes s → {f : File} {end : ℕ} → run s 0 layout ≡ got f end → FileStands f end
-  unfolding encode
   layout-stands b {f} {end} e =
       let l = layout-runs s e in
-      let es = names-section (f .names) in
-      let ns = numbers-section 3 (f .nodes) in
-      let rs = numbers-section 1 (f .records) in
-      let a = nodes-stand b (l .names-run) (l .nodes-run) in
-      let t = section-stands b (l .mid) record-count 1 (l .records-run) in
-      let c = section-whole t (omega (arith, t .whole)) in
-      let q : l .mid ≡ 0 + length (es ++ ns) = omega (arith, a .ends) in
+      let a = records-stand b (l .names-run) (l .nodes-run) (l .records-run) in
+      let t = sets-stand b (l .last) (omega (arith, a .ends, a .stands .inside)) (l .sets-run) in
+      let d = encode-sets f in
+      let q : l .last ≡ 0 + length (encode (without-sets f)) = omega (arith, a .ends) in
       record {
-        within = record { names = a .names-good; nodes = a .nodes-good; records = record { n = t .n; whole = t .whole; counted = t .counted } };
-        stands = subst (λ (xs : List ℕ). Stands s 0 xs) (append-assoc es ns rs) (stands-join s 0 (es ++ ns) rs q (a .stands) (c .0));
-        ends = omega (arith, a .ends, c .1, length-append (es ++ ns) rs, ap length (append-assoc es ns rs));
+        within = record { names = a .within .names; nodes = a .within .nodes; records = a .within .records; sets = t .good };
+        stands = subst (λ (xs : List ℕ). Stands s 0 xs) (sym d) (stands-join s 0 (encode (without-sets f)) (sets-section (f .sets)) q (a .stands) (t .stands));
+        ends = omega (arith, a .ends, t .ends, length-append (encode (without-sets f)) (sets-section (f .sets)), ap length d);
       }

@@ -1,20 +1,21 @@
 -- Bytes that stand at an offset: split and joined, and read as items, numbers, names and entries. Each piece of the format is read
 -- back as what it encodes, and what is read is a piece of the format. Assumes nothing.
-use Prim.Native.Nat.{ℕ, suc, _+_, _/_, _%_, _≤_}
+use Prim.Native.Nat.{ℕ, suc, _+_, _/_, _%_, _≤_, _<_}
 use mathlib.Core.List.{List, [], _∷_, _++_, append-assoc, append-nil}
+use mathlib.Core.Logic.{_⊎_, inl, inr}
 use mathlib.Core.Path.{_≡_, refl, ap, ap₂, sym, _∙_, subst}
 use native.Mathlib.Nat.{add-zero}
 use native.Mathlib.Numerals.{add-one}
 use native.Mathlib.Omega.{arith}
-use lib.ListN.{length, getD, take, drop, length-append, take-append-drop}
-use lib.Seq.{take-at, drop-at, drop-drop, drop-cons, drop-length, getD-drop}
+use lib.ListN.{length, getD, take, drop, length-append, length-drop, take-append-drop, List·getD-append, List·getD-eq-default}
+use lib.Seq.{take-at, drop-at, drop-drop, drop-cons, drop-length, getD-drop, length-take-le}
 use Rattle.format.specs.declared.Range.{Range}
 use Rattle.format.specs.Format.{number-bytes, Entry, name-bytes, entry-bytes}
 use Rattle.format.specs.Plan.{got, run}
 use Rattle.format.specs.Sections.{number, step-length, machine-length, name, entry}
 use Rattle.format.specs.Limits.{InRange, GoodEntry, Bytes, Stands}
 use Rattle.format.specs.Items.{number-at, name-at, name-end}
-use Rattle.format.specs.ItemLaws.{number-got, NumberThere, name-got, NameThere, name-there, name-length, entry-got, entry-runs}
+use Rattle.format.specs.ItemLaws.{le-or-lt, number-got, NumberThere, name-got, NameThere, name-there, name-length, entry-got, entry-runs}
 
 ---- Split and joined ----
 
@@ -60,6 +61,28 @@ module _ (s : List ℕ) where
   -- the bytes themselves
   pub stands-take : (at : ℕ) (xs : List ℕ) → Stands s at xs → take (length xs) (drop at s) ≡ xs
   stands-take at xs h = ap (take (length xs)) (h .begins) ∙ take-at xs _ (length xs) refl
+
+  -- so many bytes that are there
+  pub taken-stands : (at k : ℕ) → at + k ≤ length s → Stands s at (take k (drop at s))
+  taken-stands at k h =
+      let l : length (take k (drop at s)) ≡ k = length-take-le k (drop at s) (rw length-drop (omega arith)) in
+      record {
+        begins =
+            sym (take-append-drop k (drop at s))
+            ∙ ap (λ (ys : List ℕ). take k (drop at s) ++ ys) (drop-drop k at s ∙ ap (λ (n : ℕ). drop (at + n) s) (sym l));
+        inside = omega arith;
+      }
+
+  -- they are bytes, as those of the file are
+  pub stands-bytes : Bytes s → (at : ℕ) (xs : List ℕ) → Stands s at xs → Bytes xs
+  stands-bytes b at xs h i = by (le-or-lt (length xs) i)
+    where
+      by : (length xs ≤ i) ⊎ (i < length xs) → getD xs i 0 < 256
+      by (inl l) = omega (arith, List·getD-eq-default xs 0 l)
+      by (inr l) =
+          let e : getD xs i 0 ≡ getD s (at + i) 0 =
+          sym (List·getD-append xs _ 0 i l) ∙ ap (λ (ys : List ℕ). getD ys i 0) (sym (h .begins)) ∙ getD-drop at s i 0 in
+          omega (arith, b (at + i))
 
   pub stands-head : (at x : ℕ) (xs : List ℕ) → Stands s at (x ∷ xs) → getD s at 0 ≡ x
   stands-head at x xs h =

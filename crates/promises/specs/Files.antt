@@ -1,14 +1,14 @@
 -- The file as a whole, over what the program answers to its bytes (`answer-of-file`), told in 01's words. A file that is read is never
 -- refused by the judge: the reader's checks are the judge's, and the program lends work bytes enough. So the program refuses exactly
--- what the reader refuses; and demand 2 for files, of the flow that the file's nodes draw with its names, and the records that it holds.
--- Theorems only. Assumes nothing.
+-- what the reader refuses; and demand 2 for files, of the flow that the file's nodes draw with its names and sets, and the records that it
+-- holds. Theorems only. Assumes nothing.
 use Prim.Native.Nat.{ℕ, _+_, _*_, _<_, _≤_}
 use native.Mathlib.Nat.{mul-le-mul}
 use native.Mathlib.Omega.{arith}
 use mathlib.Core.Bool.{not}
 use mathlib.Core.List.{List}
 use mathlib.Core.Logic.{_↔_}
-use mathlib.Core.Path.{_≡_, refl, sym, ap, _∙_, subst}
+use mathlib.Core.Path.{_≡_, refl, sym, ap, ap₂, _∙_, subst}
 use lib.Dec.{T}
 use lib.ListN.{length, length-map}
 use borrow.Author.Tests.{le-ltb}
@@ -22,7 +22,7 @@ use Rattle.flow.specs.Earliest.{Nowhere, end, not-lone}
 use Rattle.flow.specs.Drawn.{flow-by}
 use Rattle.format.specs.Format.{names-section, File}
 use Rattle.format.specs.Limits.{WithinLimits, Bytes}
-use Rattle.format.specs.Matching.{named}
+use Rattle.format.specs.Matching.{with-names}
 use Rattle.format.specs.Contents.{file-order}
 use Rattle.format.specs.Items.{refusal-of}
 use Rattle.reader.specs.declared.Reading.{Reading}
@@ -36,8 +36,8 @@ use Rattle.program.specs.Answering.{answered, answer-of-file}
 use Rattle.promises.specs.Stated.{Rejection, Decides}
 use Rattle.promises.specs.Verdicts.{fine-not-refused}
 use Rattle.promises.specs.ListRefusals.{nowhere-both, named-passes}
-use Rattle.promises.specs.Writer.{writable-lists}
-use Rattle.promises.specs.RoundTrip.{names-handed}
+use Rattle.promises.specs.Writer.{good-sets-bytes, writable-lists}
+use Rattle.promises.specs.RoundTrip.{names-handed, sets-handed}
 use Rattle.promises.specs.NamedDemands.{named-decides}
 use Rattle.promises.specs.Reader.{Readable, readable-read, read-readable, report-refused}
 use Rattle.promises.specs.ReaderRefusals.{refused-when}
@@ -51,6 +51,9 @@ module _ (f : File) (within : WithinLimits f) (fine : Nowhere (file-order f)) wh
   abbrev rs : List ℕ
   rs = f .records
 
+  abbrev sets : List ℕ
+  sets = f .sets
+
   -- 14: the largest flow wants 2 × 64 × (256 + 1)
   enough : room-wanted ns rs ≤ work-lent
   unfolding room-of
@@ -63,12 +66,12 @@ module _ (f : File) (within : WithinLimits f) (fine : Nowhere (file-order f)) wh
   unfolding too-short
   roomy = rw (le-ltb work-lent (room-wanted ns rs) enough) tt
 
-  -- 1 to 3, 10 and 11 by the two counts of the file, then its contents
-  pub contents-judged : named-judge-check (names-section (f .names)) ns rs work-lent ≡ Fine
+  -- 1 to 3, 10, 11 and 23 by the counts of the file, then its contents
+  pub contents-judged : named-judge-check (names-section (f .names)) sets ns rs work-lent ≡ Fine
   unfolding named-judge-check
   contents-judged =
-      named-passes (names-section (f .names)) (named-judge-order ns rs work-lent) (f .names) (within .names) refl
-      (nowhere-both (writable-lists (length (f .names)) ns rs .1 (within .nodes, within .records, fine)) (not-lone roomy end))
+      named-passes (names-section (f .names)) (named-judge-order sets ns rs work-lent) (f .names) (within .names) refl
+      (nowhere-both (writable-lists (length (f .names)) ns rs sets (good-sets-bytes (within .sets)) .1 (within .nodes, within .records, within .sets, fine)) (not-lone roomy end))
 
 ---- A file that is read ----
 
@@ -76,20 +79,20 @@ module _ (s : List ℕ) (f : File) (readable : Readable s 192 256 f) where
   abbrev section : List ℕ
   section = names-section (f .names)
 
-  -- it is judged by its names, nodes and records
-  pub file-judged : answer-of-file s ≡ judged-named section (f .nodes) (f .records) work-lent states-allowed
+  -- it is judged by its names, sets, nodes and records
+  pub file-judged : answer-of-file s ≡ judged-named section (f .sets) (f .nodes) (f .records) work-lent states-allowed
   unfolding answer-of-file answered
   file-judged =
       ap (λ (o : Outcome). answered s (o .answer) (o .nodes) (o .records)) (readable-read s 192 256 f readable)
-      ∙ ap (λ (part : List ℕ). judged-named part (f .nodes) (f .records) work-lent states-allowed) (names-handed s readable)
+      ∙ ap₂ (λ (part sets : List ℕ). judged-named part sets (f .nodes) (f .records) work-lent states-allowed) (names-handed s readable) (sets-handed s readable)
 
-  judged-so : told (judged-named section (f .nodes) (f .records) work-lent states-allowed) .word ≡ VerdictWord.refused → ⊥
+  judged-so : told (judged-named section (f .sets) (f .nodes) (f .records) work-lent states-allowed) .word ≡ VerdictWord.refused → ⊥
   judged-so =
-      fine-not-refused (named-judge-check section (f .nodes) (f .records) work-lent) (named-flow section (f .nodes)) (f .records) states-allowed
+      fine-not-refused (named-judge-check section (f .sets) (f .nodes) (f .records) work-lent) (named-flow section (f .sets) (f .nodes)) (f .records) states-allowed
       (contents-judged f (readable .within) (readable .fine))
 
   -- what holds of the judge's answer holds of the program's
-  moved : (P : Told → Type 0) → P (told (judged-named section (f .nodes) (f .records) work-lent states-allowed)) → P (told (answer-of-file s))
+  moved : (P : Told → Type 0) → P (told (judged-named section (f .sets) (f .nodes) (f .records) work-lent states-allowed)) → P (told (answer-of-file s))
   moved P = subst P (sym (ap told file-judged))
 
   -- and never refused
@@ -144,9 +147,9 @@ module _ (s : List ℕ) (f : File) (readable : Readable s 192 256 f) where
   abbrev answer : Told
   answer = told (answer-of-file s)
 
-  -- what the file holds: the flow that its nodes draw with its names, and its records
+  -- what the file holds: the flow that its nodes draw with its names and sets, and its records
   abbrev flow : State
-  flow = flow-by (named (f .names)) (f .nodes)
+  flow = flow-by (with-names (f .names) (f .sets)) (f .nodes)
 
   abbrev batch : List Record
   batch = records (f .records)
@@ -158,7 +161,7 @@ module _ (s : List ℕ) (f : File) (readable : Readable s 192 256 f) where
   pub file-decides : Decides flow batch states-allowed answer
   file-decides =
       moved s f readable (Decides flow batch states-allowed)
-      (named-decides (f .names) (readable .within .names) (f .nodes) (f .records) work-lent states-allowed (judged-so s f readable))
+      (named-decides (f .names) (readable .within .names) (f .sets) (f .nodes) (f .records) work-lent states-allowed (judged-so s f readable))
 
   -- "allows 1,000,000 states"
   pub file-undecided-exactly : (answer .word ≡ VerdictWord.undecided) ↔ (states-allowed < entered)

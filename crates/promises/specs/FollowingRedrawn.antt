@@ -8,21 +8,23 @@ use mathlib.Core.Path.{_≡_, refl, sym, ap, _∙_, subst, subst₂}
 use native.Mathlib.Omega.{arith}
 use native.Mathlib.Decide.{decLe}
 use lib.ListN.{length}
-use Rattle.calculus.specs.Term.{leaf}
 use Rattle.calculus.specs.Records.{Record, State}
 use Rattle.calculus.specs.Ahead.{entered}
 use Rattle.calculus.specs.Laws.{Redrawn}
+use Rattle.calculus.specs.Redrawn.{redrawn-flip, redrawn-follows}
 use Rattle.flow.specs.declared.Check.{Check}
 use Rattle.flow.specs.declared.Check.the-variants.{Fine}
 use Rattle.flow.specs.declared.Check.the-variants as check
 use Rattle.flow.specs.declared.Extent.the-variants.{Beginning}
 use Rattle.flow.specs.Refusals.{wrong-closings, closings-place, closings-allowed}
-use Rattle.flow.specs.Checks.{first, grounds, or-else-check, table-length-check, nodes-check, table-check, records-length-check, values-check, closings-check, records-check}
+use Rattle.flow.specs.Checks.{first, grounds, or-else-check, table-length-check, sets-check, nodes-check, table-check, records-length-check, values-check, closings-check, records-check}
 use Rattle.flow.specs.FirstRefusal.{both-fine, or-else-fine, table-parts}
+use Rattle.flow.specs.Legends.{set-count, plain}
 use Rattle.flow.specs.Drawn.{flow-by, flow-of}
+use Rattle.flow.specs.FineTable.{fine-table}
 use Rattle.format.specs.Format.{Entry, names-section}
 use Rattle.format.specs.Limits.{GoodNames}
-use Rattle.format.specs.Matching.{named}
+use Rattle.format.specs.Matching.{with-names}
 use Rattle.format.specs.Told.{at-front}
 use Rattle.format.specs.ContentChecks.{events-grounds}
 use Rattle.format.specs.ContentLaws.{contents-is}
@@ -37,7 +39,6 @@ use Rattle.promises.specs.Stated.{EventsNamed}
 use Rattle.promises.specs.FollowingStated.{Listing, Lists, SameList}
 use Rattle.promises.specs.ExactlyWhen.{nowhere-exactly}
 use Rattle.promises.specs.Verdicts.{redrawn-closings, redrawn-records}
-use Rattle.promises.specs.Demands.{redrawn-flow-runs}
 use Rattle.promises.specs.NamedDemands.{or-else-last, events-pass, alone-is}
 use Rattle.promises.specs.Listings.{same-runs-listing, call-refusal, call-not-refused, call-lists}
 use Rattle.promises.specs.Beginnings.{room-passes}
@@ -47,7 +48,7 @@ use Rattle.promises.specs.Following.{named-next-call}
 
 module _ {flow flow′ : State} (redrawn : Redrawn flow flow′) where
   pub redrawn-listing : {beginning : List Record} {listed other : List ℕ} → Listing flow beginning listed → Listing flow′ beginning other → listed ≡ other
-  redrawn-listing f g = same-runs-listing flow flow′ (redrawn-flow-runs redrawn) f g
+  redrawn-listing f g = same-runs-listing flow flow′ (λ batch n. (redrawn-follows redrawn, redrawn-follows (redrawn-flip redrawn))) f g
 
   -- what two calls come to that are not refused
   redrawn-lists : {beginning : List Record} {allowance allowance′ : ℕ} {t u : NextTold} {list list′ other other′ : List ℕ}
@@ -96,57 +97,59 @@ room-fine : (ns rs : List ℕ) (numbers room : ℕ) → numbers-wanted ≤ numbe
 room-fine ns rs numbers room h l = nowhere-exactly (next-room-order ns rs numbers room) .1 (room-passes ns rs numbers room h l)
 
 -- a fine table with enough lent is refused as its records are
-next-decide : (ns rs : List ℕ) (numbers room : ℕ) → table-check ns ≡ Fine → numbers-wanted ≤ numbers → room-wanted ns rs ≤ room → next-check ns rs numbers room ≡ records-check Beginning ns rs
+next-decide : (sets ns rs : List ℕ) (numbers room : ℕ) → table-check sets ns ≡ Fine → numbers-wanted ≤ numbers → room-wanted ns rs ≤ room → next-check sets ns rs numbers room ≡ records-check Beginning ns rs
 unfolding next-check
-next-decide ns rs numbers room fine h l =
-    plain-then Beginning ns rs (next-room-order ns rs numbers room)
+next-decide sets ns rs numbers room fine h l =
+    plain-then Beginning sets ns rs (next-room-order ns rs numbers room)
     ∙ sym (or-else-fine _ fine)
     ∙ or-else-last (records-check Beginning ns rs) _ (room-fine ns rs numbers room h l)
 
-module _ (ns ns′ : List ℕ) (redrawn : Redrawn (flow-of ns) (flow-of ns′)) (within : table-check ns ≡ Fine) (within′ : table-check ns′ ≡ Fine) where
+-- 02, Four: "both judged with the same sets"
+module _ (sets ns ns′ : List ℕ) (redrawn : Redrawn (flow-of sets ns) (flow-of sets ns′)) (within : table-check sets ns ≡ Fine) (within′ : table-check sets ns′ ≡ Fine) where
   pub redrawn-next : {rs : List ℕ} {allowance allowance′ : ℕ} {list work list′ after other work′ other′ after′ : List ℕ} {r q : Next}
-      → NextOf ns rs allowance list work r list′ after → NextOf ns′ rs allowance′ other work′ q other′ after′
+      → NextOf sets ns rs allowance list work r list′ after → NextOf sets ns′ rs allowance′ other work′ q other′ after′
       → numbers-wanted ≤ length list → numbers-wanted ≤ length other → room-wanted ns rs ≤ length work → room-wanted ns′ rs ≤ length work′
       → SameList list list′ other other′ (told r) (told q)
   redrawn-next {rs} {list} {work} {other} {work′} call call′ h h′ l l′ =
       redrawn-calls
-      (next-decide ns rs (length list) (length work) within h l
-      ∙ redrawn-records leaf ns ns′ within within′ redrawn Beginning rs
-      ∙ sym (next-decide ns′ rs (length other) (length work′) within′ h′ l′))
+      (next-decide sets ns rs (length list) (length work) within h l
+      ∙ redrawn-records (plain sets) ns ns′ (fine-table ns sets within) (fine-table ns′ sets within′) redrawn Beginning rs
+      ∙ sym (next-decide sets ns′ rs (length other) (length work′) within′ h′ l′))
       redrawn call call′
 
 ---- `next_named` ----
 
 module _ (es : List Entry) (good : GoodNames es) where
   -- what is refused then depends on the records alone, and on the closings that may come
-  named-next-decide : (ns rs : List ℕ) (numbers room : ℕ) → table-check ns ≡ Fine → EventsNamed es ns → numbers-wanted ≤ numbers → room-wanted ns rs ≤ room
-      → named-next-check (names-section es) ns rs numbers room
+  named-next-decide : (sets ns rs : List ℕ) (numbers room : ℕ) → table-check sets ns ≡ Fine → EventsNamed es ns → numbers-wanted ≤ numbers → room-wanted ns rs ≤ room
+      → named-next-check (names-section es) sets ns rs numbers room
       ≡ or-else-check (records-length-check Beginning rs) (or-else-check (values-check rs) (or-else-check (closings-check Beginning ns rs) (first (events-grounds (length es) rs))))
   unfolding named-next-check
-  named-next-decide ns rs numbers room within events h l =
+  named-next-decide sets ns rs numbers room within events h l =
       let s = names-section es in
-      let t = both-fine (table-length-check ns) (nodes-check ns) (sym (table-parts ns) ∙ within) in
-      lists-then Beginning s ns rs (next-room-order ns rs numbers room)
-      ∙ or-else-last (lists-check Beginning s ns rs) _ (room-fine ns rs numbers room h l)
-      ∙ lists-is Beginning s ns rs (alone-is es good)
+      let t = both-fine (table-length-check ns) (or-else-check (sets-check sets) (nodes-check (set-count sets) ns)) (sym (table-parts sets ns) ∙ within) in
+      let u = both-fine (sets-check sets) (nodes-check (set-count sets) ns) (t .1) in
+      lists-then Beginning s sets ns rs (next-room-order ns rs numbers room)
+      ∙ or-else-last (lists-check Beginning s sets ns rs) _ (room-fine ns rs numbers room h l)
+      ∙ lists-is Beginning s sets ns rs (alone-is es good)
       ∙ sym (or-else-fine _ (t .0))
       ∙ ap (or-else-check (records-length-check Beginning rs))
-      (contents-is Beginning (length es) ns rs ∙ sym (or-else-fine _ (t .1))
+      (sym (or-else-fine _ (u .0)) ∙ contents-is Beginning (length es) (set-count sets) ns rs ∙ sym (or-else-fine _ (u .1))
       ∙ ap (λ (c : Check). or-else-check (values-check rs) (or-else-check (closings-check Beginning ns rs) c)) (sym (or-else-fine _ (events-pass es ns events))))
 
-  module _ (ns ns′ : List ℕ) (redrawn : Redrawn (flow-by (named es) ns) (flow-by (named es) ns′)) (within : table-check ns ≡ Fine) (within′ : table-check ns′ ≡ Fine)
+  module _ (sets ns ns′ : List ℕ) (redrawn : Redrawn (flow-by (with-names es sets) ns) (flow-by (with-names es sets) ns′)) (within : table-check sets ns ≡ Fine) (within′ : table-check sets ns′ ≡ Fine)
       (events : EventsNamed es ns) (events′ : EventsNamed es ns′) where
     same-closings : (rs : List ℕ) → closings-check Beginning ns rs ≡ closings-check Beginning ns′ rs
     unfolding closings-check wrong-closings closings-place closings-allowed
-    same-closings rs = rw (redrawn-closings (named es) ns ns′ within within′ redrawn)
+    same-closings rs = rw (redrawn-closings (with-names es sets) ns ns′ (fine-table ns sets within) (fine-table ns′ sets within′) redrawn)
 
     pub named-redrawn-next : {rs : List ℕ} {allowance allowance′ : ℕ} {list work list′ after other work′ other′ after′ : List ℕ} {r q : Next}
-        → NamedNextOf (names-section es) ns rs allowance list work r list′ after → NamedNextOf (names-section es) ns′ rs allowance′ other work′ q other′ after′
+        → NamedNextOf (names-section es) sets ns rs allowance list work r list′ after → NamedNextOf (names-section es) sets ns′ rs allowance′ other work′ q other′ after′
         → numbers-wanted ≤ length list → numbers-wanted ≤ length other → room-wanted ns rs ≤ length work → room-wanted ns′ rs ≤ length work′
         → SameList list list′ other other′ (told r) (told q)
     named-redrawn-next {rs} {list} {work} {other} {work′} call call′ h h′ l l′ =
         redrawn-calls
-        (named-next-decide ns rs (length list) (length work) within events h l
+        (named-next-decide sets ns rs (length list) (length work) within events h l
         ∙ ap (λ (c : Check). or-else-check (records-length-check Beginning rs) (or-else-check (values-check rs) (or-else-check c (first (events-grounds (length es) rs))))) (same-closings rs)
-        ∙ sym (named-next-decide ns′ rs (length other) (length work′) within′ events′ h′ l′))
-        redrawn (named-next-call es good call) (named-next-call es good call′)
+        ∙ sym (named-next-decide sets ns′ rs (length other) (length work′) within′ events′ h′ l′))
+        redrawn (named-next-call es good sets call) (named-next-call es good sets call′)

@@ -6,10 +6,12 @@ use mathlib.Core.List.{List, [], _∷_, _++_, map}
 use mathlib.Core.Path.{_≡_, refl}
 use lib.ListN.{take, replicate}
 use Rattle.calculus.specs.Ahead.{passes}
+use Rattle.flow.specs.Kinds.{joint-kind, set-of}
 use Rattle.flow.specs.Trees.{descend}
 use Rattle.flow.specs.Records.{record-of, is-event-number, is-closing-number}
-use Rattle.flow.specs.Refusals.{no-nodes, not-whole, too-many-nodes, unknown-kind, wrong-field, not-lower, is-child, taken, wrong-sort, child-taken, nobodys-child, too-many-records, no-record, closings-wanted, closings-allowed, too-many-closings, extra-closing, wrong-closings, closings-place, node-grounds, child-grounds, value-grounds}
+use Rattle.flow.specs.Refusals.{no-nodes, not-whole, too-many-nodes, unknown-kind, no-such-set, wrong-field, not-lower, is-child, taken, wrong-sort, child-taken, nobodys-child, wrong-sets, too-many-records, no-record, closings-wanted, closings-allowed, too-many-closings, extra-closing, wrong-closings, closings-place, node-grounds, child-grounds, value-grounds}
 use Rattle.flow.specs.Checks.{or-else-check, answer, first, each}
+use Rattle.flow.specs.Legends.{in-set}
 use Rattle.flow.specs.Drawn.{made, drawn, flow-by, flow-of}
 use Rattle.format.specs.Format.{Entry, number-bytes, name-bytes, entry-bytes, entries-bytes, names-section}
 use Rattle.format.specs.Plan.{_>>=_, run}
@@ -46,9 +48,18 @@ throw-node = 3 ∷ 0 ∷ 0 ∷ []
 abbrev block-nodes : List ℕ
 block-nodes = 1 ∷ 1 ∷ 0 ∷ 1 ∷ 2 ∷ 0 ∷ 10 ∷ 0 ∷ 1 ∷ 15 ∷ 0 ∷ 0 ∷ 11 ∷ 2 ∷ 3 ∷ 9 ∷ 4 ∷ 0 ∷ []
 
--- the nodes, the beginning, how many numbers and work bytes are lent, the allowance; what is told, and the first numbers of the table, which
--- was filled with 9
+-- two leaves in parallel, with set 0
+abbrev meeting : ℕ → ℕ → List ℕ
+meeting e g = 1 ∷ e ∷ 0 ∷ 1 ∷ g ∷ 0 ∷ 256 ∷ 0 ∷ 1 ∷ []
+
+-- the set of event 1 alone
+abbrev first-event : List ℕ
+first-event = 1 ∷ replicate 31 0
+
+-- the sets, the nodes, the beginning, how many numbers and work bytes are lent, the allowance; what is told, and the first numbers of the
+-- table, which was filled with 9
 pub record NextLine : Type 0 where
+  pub sets : List ℕ
   pub nodes : List ℕ
   pub beginning : List ℕ
   pub numbers : ℕ
@@ -57,9 +68,17 @@ pub record NextLine : Type 0 where
   pub answer : NextTold
   pub front : List ℕ
 
+abbrev line-of : List ℕ → List ℕ → List ℕ → ℕ → ℕ → ℕ → NextTold → List ℕ → NextLine
+line-of sets nodes beginning numbers room allowance answer front =
+    record { sets = sets; nodes = nodes; beginning = beginning; numbers = numbers; room = room; allowance = allowance; answer = answer; front = front }
+
+-- without sets
 abbrev line : List ℕ → List ℕ → ℕ → ℕ → ℕ → NextTold → List ℕ → NextLine
-line nodes beginning numbers room allowance answer front =
-    record { nodes = nodes; beginning = beginning; numbers = numbers; room = room; allowance = allowance; answer = answer; front = front }
+line nodes beginning numbers room allowance answer front = line-of [] nodes beginning numbers room allowance answer front
+
+-- with them, a table and an allowance enough
+abbrev joint-line : List ℕ → List ℕ → List ℕ → ℕ → NextTold → List ℕ → NextLine
+joint-line sets nodes beginning room answer front = line-of sets nodes beginning 259 room 1_000_000 answer front
 
 abbrev untouched : List ℕ
 untouched = 9 ∷ 9 ∷ 9 ∷ 9 ∷ []
@@ -107,34 +126,58 @@ next-lines =
     ∷ line (one-leaf 2) (replicate 257 1) 259 516 1_000_000 (refusal 11 0) untouched
     ∷ []
 
+-- The same of joint events (02, Four).
+unfoldable pub joint-lines : List NextLine
+joint-lines =
+    -- list a joint event that one side alone can take; or leave out what strands before its end
+    joint-line first-event (meeting 1 2) [] 6 (found NextWord.listed 1 1) (2 ∷ 9 ∷ 9 ∷ 9 ∷ [])
+    -- close where a side still waits
+    ∷ joint-line first-event (meeting 1 2) (2 ∷ []) 12 (found NextWord.listed 0 2) untouched
+    -- step one side alone by a joint event, or each in turn
+    ∷ joint-line first-event (meeting 1 1) (1 ∷ []) 12 (found NextWord.listed 1 2) (61441 ∷ 9 ∷ 9 ∷ 9 ∷ [])
+    -- take an event for joint that is not in the set
+    ∷ joint-line first-event (meeting 2 2) (2 ∷ []) 12 (found NextWord.listed 1 3) (2 ∷ 9 ∷ 9 ∷ 9 ∷ [])
+    -- not look for the set, or at the sets' length, or in another order
+    ∷ joint-line [] (meeting 1 2) [] 6 (refusal 22 2) untouched
+    ∷ joint-line (1 ∷ []) (meeting 1 2) (2 ∷ 61441 ∷ []) 6 (refusal 23 0) untouched
+    ∷ []
+
 abbrev told-of : NextLine → NextTold
-told-of l = told (next-by (next-check (l .nodes) (l .beginning) (l .numbers) (l .room)) (flow-of (l .nodes)) (l .beginning) (l .allowance))
+told-of l = told (next-by (next-check (l .sets) (l .nodes) (l .beginning) (l .numbers) (l .room)) (flow-of (l .sets) (l .nodes)) (l .beginning) (l .allowance))
 
 abbrev front-of : NextLine → List ℕ
-front-of l = take 4 (list-by (next-check (l .nodes) (l .beginning) (l .numbers) (l .room)) (flow-of (l .nodes)) (l .beginning) (l .allowance) (replicate (l .numbers) 9))
+front-of l = take 4 (list-by (next-check (l .sets) (l .nodes) (l .beginning) (l .numbers) (l .room)) (flow-of (l .sets) (l .nodes)) (l .beginning) (l .allowance) (replicate (l .numbers) 9))
 
 pub next-lines-told : map told-of next-lines ≡ map (λ l. l .answer) next-lines
-unfolding next-lines told next-by next-check no-room too-short room-of passes flow-by drawn made descend first answer or-else-check each no-nodes not-whole too-many-nodes unknown-kind wrong-field not-lower is-child taken wrong-sort child-taken nobodys-child too-many-records no-record closings-wanted closings-allowed too-many-closings extra-closing wrong-closings closings-place node-grounds child-grounds value-grounds record-of is-event-number is-closing-number xor
+unfolding next-lines told next-by next-check no-room too-short room-of passes flow-by drawn made descend first answer or-else-check each no-nodes not-whole too-many-nodes unknown-kind no-such-set wrong-field not-lower is-child taken wrong-sort child-taken nobodys-child wrong-sets too-many-records no-record closings-wanted closings-allowed too-many-closings extra-closing wrong-closings closings-place node-grounds child-grounds value-grounds record-of is-event-number is-closing-number xor
 next-lines-told = refl
 
 pub next-lines-listed : map front-of next-lines ≡ map (λ l. l .front) next-lines
-unfolding next-lines list-by next-check no-room too-short room-of passes flow-by drawn made descend first answer or-else-check each no-nodes not-whole too-many-nodes unknown-kind wrong-field not-lower is-child taken wrong-sort child-taken nobodys-child too-many-records no-record closings-wanted closings-allowed too-many-closings extra-closing wrong-closings closings-place node-grounds child-grounds value-grounds record-of is-event-number is-closing-number xor
+unfolding next-lines list-by next-check no-room too-short room-of passes flow-by drawn made descend first answer or-else-check each no-nodes not-whole too-many-nodes unknown-kind no-such-set wrong-field not-lower is-child taken wrong-sort child-taken nobodys-child wrong-sets too-many-records no-record closings-wanted closings-allowed too-many-closings extra-closing wrong-closings closings-place node-grounds child-grounds value-grounds record-of is-event-number is-closing-number xor
 next-lines-listed = refl
 
+pub joint-lines-told : map told-of joint-lines ≡ map (λ l. l .answer) joint-lines
+unfolding joint-lines told next-by next-check no-room too-short room-of passes flow-by drawn made joint-kind set-of in-set descend first answer or-else-check each no-nodes not-whole too-many-nodes unknown-kind no-such-set wrong-field not-lower is-child taken wrong-sort child-taken nobodys-child wrong-sets too-many-records no-record closings-wanted closings-allowed too-many-closings extra-closing wrong-closings closings-place node-grounds child-grounds value-grounds record-of is-event-number is-closing-number xor
+joint-lines-told = refl
+
+pub joint-lines-listed : map front-of joint-lines ≡ map (λ l. l .front) joint-lines
+unfolding joint-lines list-by next-check no-room too-short room-of passes flow-by drawn made joint-kind set-of in-set descend first answer or-else-check each no-nodes not-whole too-many-nodes unknown-kind no-such-set wrong-field not-lower is-child taken wrong-sort child-taken nobodys-child wrong-sets too-many-records no-record closings-wanted closings-allowed too-many-closings extra-closing wrong-closings closings-place node-grounds child-grounds value-grounds record-of is-event-number is-closing-number xor
+joint-lines-listed = refl
+
 -- what stands behind the numbers written stays, to the end of a longer table: that rules out one that clears or fills it
-pub table-kept : list-by (next-check two-runs (1 ∷ []) 300 28) (flow-of two-runs) (1 ∷ []) 1_000_000 (replicate 300 9) ≡ 2 ∷ 3 ∷ replicate 298 9
-unfolding list-by next-check no-room too-short room-of passes flow-by drawn made descend first answer or-else-check each no-nodes not-whole too-many-nodes unknown-kind wrong-field not-lower is-child taken wrong-sort child-taken nobodys-child too-many-records no-record closings-wanted closings-allowed too-many-closings extra-closing wrong-closings closings-place node-grounds child-grounds value-grounds record-of is-event-number is-closing-number xor
+pub table-kept : list-by (next-check [] two-runs (1 ∷ []) 300 28) (flow-of [] two-runs) (1 ∷ []) 1_000_000 (replicate 300 9) ≡ 2 ∷ 3 ∷ replicate 298 9
+unfolding list-by next-check no-room too-short room-of passes flow-by drawn made descend first answer or-else-check each no-nodes not-whole too-many-nodes unknown-kind no-such-set wrong-field not-lower is-child taken wrong-sort child-taken nobodys-child wrong-sets too-many-records no-record closings-wanted closings-allowed too-many-closings extra-closing wrong-closings closings-place node-grounds child-grounds value-grounds record-of is-event-number is-closing-number xor
 table-kept = refl
 
 ---- What is left in the work bytes ----
 
 abbrev bytes-of : List ℕ → List ℕ → ℕ → ℕ → List ℕ
-bytes-of nodes beginning numbers room = bytes-by (next-check nodes beginning numbers room) (room-wanted nodes beginning) (replicate room 7)
+bytes-of nodes beginning numbers room = bytes-by (next-check [] nodes beginning numbers room) (room-wanted nodes beginning) (replicate room 7)
 
 -- Of 8 bytes lent the first 4 are cleared; a refusal, of the table, of the room and of a closing, clears none.
 pub next-bytes : bytes-of (one-leaf 1) (1 ∷ []) 259 8 ∷ bytes-of (one-leaf 1) (1 ∷ []) 258 8 ∷ bytes-of (one-leaf 1) (1 ∷ []) 259 3 ∷ bytes-of (one-leaf 1) (61441 ∷ []) 259 8 ∷ []
     ≡ (replicate 4 0 ++ replicate 4 7) ∷ replicate 8 7 ∷ replicate 3 7 ∷ replicate 8 7 ∷ []
-unfolding bytes-by unless-refused cleared next-check no-room too-short room-of first answer or-else-check each no-nodes not-whole too-many-nodes unknown-kind wrong-field not-lower is-child taken wrong-sort child-taken nobodys-child too-many-records no-record closings-wanted closings-allowed too-many-closings extra-closing wrong-closings closings-place node-grounds child-grounds value-grounds is-event-number is-closing-number xor
+unfolding bytes-by unless-refused cleared next-check no-room too-short room-of first answer or-else-check each no-nodes not-whole too-many-nodes unknown-kind no-such-set wrong-field not-lower is-child taken wrong-sort child-taken nobodys-child wrong-sets too-many-records no-record closings-wanted closings-allowed too-many-closings extra-closing wrong-closings closings-place node-grounds child-grounds value-grounds is-event-number is-closing-number xor
 next-bytes = refl
 
 ---- With names ----
@@ -191,16 +234,16 @@ named-next-lines =
     ∷ []
 
 abbrev named-told-by : List ℕ → NextLine → NextTold
-named-told-by s l = told (next-by (named-next-check s (l .nodes) (l .beginning) (l .numbers) (l .room)) (named-flow s (l .nodes)) (l .beginning) (l .allowance))
+named-told-by s l = told (next-by (named-next-check s (l .sets) (l .nodes) (l .beginning) (l .numbers) (l .room)) (named-flow s (l .sets) (l .nodes)) (l .beginning) (l .allowance))
 
 abbrev named-front-by : List ℕ → NextLine → List ℕ
 named-front-by s l =
-    take 4 (list-by (named-next-check s (l .nodes) (l .beginning) (l .numbers) (l .room)) (named-flow s (l .nodes)) (l .beginning) (l .allowance) (replicate (l .numbers) 9))
+    take 4 (list-by (named-next-check s (l .sets) (l .nodes) (l .beginning) (l .numbers) (l .room)) (named-flow s (l .sets) (l .nodes)) (l .beginning) (l .allowance) (replicate (l .numbers) 9))
 
 pub named-next-lines-told : map (λ n. named-told-by (n .names) (n .lent)) named-next-lines ≡ map (λ n. n .lent .answer) named-next-lines
-unfolding named-next-lines names-section entries-bytes entry-bytes name-bytes number-bytes run _>>=_ byte number ranged name entry same-bytes same-step same-entry met new-entry entries names nothing-behind section-alone by-entries named-check unnamed-leaf unnamed-event entries-of entries-in no-machine matches told next-by named-next-check no-room too-short room-of passes flow-by drawn made descend first answer or-else-check each no-nodes not-whole too-many-nodes unknown-kind wrong-field not-lower is-child taken wrong-sort child-taken nobodys-child too-many-records no-record closings-wanted closings-allowed too-many-closings extra-closing wrong-closings closings-place node-grounds child-grounds value-grounds record-of is-event-number is-closing-number xor
+unfolding named-next-lines names-section entries-bytes entry-bytes name-bytes number-bytes run _>>=_ byte number ranged name entry same-bytes same-step same-entry met new-entry entries names nothing-behind section-alone by-entries named-check unnamed-leaf unnamed-event entries-of entries-in no-machine matches told next-by named-next-check no-room too-short room-of passes flow-by drawn made descend first answer or-else-check each no-nodes not-whole too-many-nodes unknown-kind no-such-set wrong-field not-lower is-child taken wrong-sort child-taken nobodys-child wrong-sets too-many-records no-record closings-wanted closings-allowed too-many-closings extra-closing wrong-closings closings-place node-grounds child-grounds value-grounds record-of is-event-number is-closing-number xor
 named-next-lines-told = refl
 
 pub named-next-lines-listed : map (λ n. named-front-by (n .names) (n .lent)) named-next-lines ≡ map (λ n. n .lent .front) named-next-lines
-unfolding named-next-lines names-section entries-bytes entry-bytes name-bytes number-bytes run _>>=_ byte number ranged name entry same-bytes same-step same-entry met new-entry entries names nothing-behind section-alone by-entries named-check unnamed-leaf unnamed-event entries-of entries-in no-machine matches list-by named-next-check no-room too-short room-of passes flow-by drawn made descend first answer or-else-check each no-nodes not-whole too-many-nodes unknown-kind wrong-field not-lower is-child taken wrong-sort child-taken nobodys-child too-many-records no-record closings-wanted closings-allowed too-many-closings extra-closing wrong-closings closings-place node-grounds child-grounds value-grounds record-of is-event-number is-closing-number xor
+unfolding named-next-lines names-section entries-bytes entry-bytes name-bytes number-bytes run _>>=_ byte number ranged name entry same-bytes same-step same-entry met new-entry entries names nothing-behind section-alone by-entries named-check unnamed-leaf unnamed-event entries-of entries-in no-machine matches list-by named-next-check no-room too-short room-of passes flow-by drawn made descend first answer or-else-check each no-nodes not-whole too-many-nodes unknown-kind no-such-set wrong-field not-lower is-child taken wrong-sort child-taken nobodys-child wrong-sets too-many-records no-record closings-wanted closings-allowed too-many-closings extra-closing wrong-closings closings-place node-grounds child-grounds value-grounds record-of is-event-number is-closing-number xor
 named-next-lines-listed = refl

@@ -7,6 +7,7 @@ use mathlib.Core.Logic.{_↔_}
 use mathlib.Core.Path.{_≡_}
 use lib.ListN.{length}
 use Rattle.calculus.specs.Records.{Record, State, Follows, Complete, InTraces}
+use Rattle.calculus.specs.Leaves.{FreeState}
 use Rattle.calculus.specs.Ahead.{entered}
 use Rattle.flow.specs.Records.{done-number, withdrawn-number, failed-number, most-events, record-of}
 use Rattle.format.specs.Told.{at-front}
@@ -29,10 +30,12 @@ pub record Listing (flow : State) (beginning : List Record) (listed : List ℕ) 
   pub rises : Rising listed
   -- "A number is listed exactly if some run follows the beginning and then that record."
   pub exactly : (r : ℕ) → List·Memᴰ r listed ↔ (EventOrClosing r × Follows flow (beginning ++ (record-of r ∷ [])) (suc (length beginning)))
-  -- a run that goes on to its end, under the published transition rules
-  pub exactly-runs : (r : ℕ) → List·Memᴰ r listed ↔ (EventOrClosing r × ((rest : List Record) × Complete flow (beginning ++ (record-of r ∷ rest))))
-  -- and equally a trace under the published trace semantics
-  pub exactly-traces : (r : ℕ) → List·Memᴰ r listed ↔ (EventOrClosing r × ((rest : List Record) × InTraces flow (beginning ++ (record-of r ∷ rest))))
+  -- a run that goes on to its end takes a listed number next, under the published transition rules
+  pub runs-listed : (r : ℕ) → EventOrClosing r → (rest : List Record) → Complete flow (beginning ++ (record-of r ∷ rest)) → List·Memᴰ r listed
+  -- where no event is joint, each listed number is on the way of such a run. Where one is, a run may strand before its end
+  pub exactly-runs : FreeState flow → (r : ℕ) → List·Memᴰ r listed ↔ (EventOrClosing r × ((rest : List Record) × Complete flow (beginning ++ (record-of r ∷ rest))))
+  -- and equally of a trace under the published trace semantics
+  pub exactly-traces : FreeState flow → (r : ℕ) → List·Memᴰ r listed ↔ (EventOrClosing r × ((rest : List Record) × InTraces flow (beginning ++ (record-of r ∷ rest))))
 
 -- what is told, and the table before and after, where the numbers `listed` are written
 pub record WritesList (flow : State) (beginning : List Record) (t : NextTold) (list list′ listed : List ℕ) : Type 0 where

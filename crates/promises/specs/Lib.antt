@@ -5,6 +5,7 @@ pub mod FileItems
 pub mod Returned
 pub mod Takers
 pub mod FollowingStated
+pub mod MeetingStated
 -- Theorems about the contracts of the crates below.
 -- Tables and the judge.
 pub mod ExactlyWhen
@@ -14,6 +15,8 @@ pub mod Demands
 pub mod RuledOut
 pub mod Machines
 pub mod NamedRuledOut
+-- Where no sets are lent.
+pub mod Unmet
 -- The flow file.
 pub mod SameNames
 pub mod FileStands
@@ -27,6 +30,7 @@ pub mod NamedDemands
 pub mod SpelledFlows
 pub mod Writer
 pub mod RoundTrip
+pub mod CutPlans
 pub mod Cuts
 pub mod Collide
 pub mod Worked
@@ -38,8 +42,11 @@ pub mod Following
 pub mod NeverTen
 pub mod NextAndJudge
 pub mod FollowingRedrawn
+pub mod SpelledSteps
 pub mod FollowingSpelled
 pub mod FollowingRuledOut
+-- Two lines that meet.
+pub mod Meeting
 -- The program.
 pub mod Once
 pub mod Files

@@ -1,6 +1,6 @@
 -- What is refused of a names section that is lent by itself, with lists that an order of rounds looks at: exactly the ways of
 -- NamedRefuses (`named-exactly`), and nothing exactly if the section is a good one, with nothing behind it, and no ground of the order
--- holds (`named-fine`). Said once, of any order; then of the nodes and records that are lent with it. Assumes nothing.
+-- holds (`named-fine`). Said once, of any order; then of the sets, nodes and records that are lent with it. Assumes nothing.
 use Prim.Native.Nat.{ℕ, _≤_, _<_}
 use mathlib.Core.List.{List, [], _∷_, _++_}
 use mathlib.Core.Logic.{_⊎_, inl, inr, _↔_}
@@ -140,14 +140,14 @@ named-order same (in-section f) = in-section f
 named-order same (after-section es g h l) = after-section es g h l
 named-order same (in-order {k} {p} es g e h) = in-order es g e (subst (Earliest (refusal-of k p)) (same es e) h)
 
----- Nodes and records ----
+---- Sets, nodes and records ----
 
-module _ (extent : Extent) (s ns rs : List ℕ) (bytes : Bytes s) where
-  -- 15 to 18, 21, 1 to 3, 10, 11, 4 to 9, 12, 13, 19, 20
-  pub lists-exactly : (k p : ℕ) → (lists-check extent s ns rs ≡ Refused (refusal-of k p)) ↔ NamedRefuses s (λ es. lists-order extent (length es) ns rs) k p
+module _ (extent : Extent) (s sets ns rs : List ℕ) (bytes : Bytes s) where
+  -- 15 to 18, 21, 1 to 3, 10, 11, 23, 4 to 9, with 22, 12, 13, 19, 20
+  pub lists-exactly : (k p : ℕ) → (lists-check extent s sets ns rs ≡ Refused (refusal-of k p)) ↔ NamedRefuses s (λ es. lists-order extent (length es) sets ns rs) k p
   unfolding lists-check
-  lists-exactly = named-exactly s (λ es. lists-order extent (length es) ns rs) bytes
+  lists-exactly = named-exactly s (λ es. lists-order extent (length es) sets ns rs) bytes
 
-  pub lists-fine : (lists-check extent s ns rs ≡ Fine) ↔ ((es : List Entry) × GoodNames es × (s ≡ names-section es) × Nowhere (lists-order extent (length es) ns rs))
+  pub lists-fine : (lists-check extent s sets ns rs ≡ Fine) ↔ ((es : List Entry) × GoodNames es × (s ≡ names-section es) × Nowhere (lists-order extent (length es) sets ns rs))
   unfolding lists-check
-  lists-fine = named-fine s (λ es. lists-order extent (length es) ns rs) bytes
+  lists-fine = named-fine s (λ es. lists-order extent (length es) sets ns rs) bytes

@@ -1,6 +1,6 @@
 -- What request Three rests on, whatever entry point lists: the numbers that are computed are a list of all that can follow (`following-all`),
--- and the only one (`listing-once`, `lists-once`), of any flow with the same runs (`same-runs-listing`); they fit a table of 259
--- (`following-few`). A call, by its contract, is refused exactly if
+-- and the only one (`listing-once`, `lists-once`), of any flow whose runs follow the same records (`same-runs-listing`); they fit a table of
+-- 259 (`following-few`). A call, by its contract, is refused exactly if
 -- its check refuses (`call-refusal`, `call-not-refused`), and else comes to what request Three says (`call-lists`); what is kept, cleared and
 -- left alone (`call-keeps`, `call-clears`, `call-length`), and that there is one outcome (`call-once`). Assumes nothing.
 use Prim.Native.Nat.{ℕ, zero, suc, _+_, _≤_, _<_}
@@ -15,10 +15,11 @@ use lib.Dec.{T, leb}
 use lib.ListN.{length, drop, length-append, length-drop}
 use lib.Seq.{append-snoc}
 use borrow.Author.Tests.{leb-true, leb-false}
-use Rattle.calculus.specs.Records.{Record, State, Complete, InTraces}
+use Rattle.calculus.specs.Records.{Record, State, Follows, Complete, InTraces}
 use Rattle.calculus.specs.Members.{cond-both}
 use Rattle.calculus.specs.Ahead.{may-follow, entered}
-use Rattle.calculus.specs.AheadLaws.{may-follow-follows, passes-complete, passes-traces}
+use Rattle.calculus.specs.AheadLaws.{may-follow-follows}
+use Rattle.calculus.specs.AheadRuns.{passes-complete, passes-traces, complete-passes}
 use Rattle.flow.specs.declared.Refusal.{Refusal}
 use Rattle.flow.specs.declared.Check.{Check}
 use Rattle.flow.specs.declared.Check.the-variants.{Fine}
@@ -199,8 +200,9 @@ module _ (flow : State) (rs : List ℕ) where
   following-all = record {
     rises = those-rise test all-rises;
     exactly = λ r. Iff·trans (following-exactly r) (same-second (may-follow-follows (records rs) flow (record-of r) [] refl));
-    exactly-runs = λ r. Iff·trans (following-exactly r) (same-second (Iff·trans (passes-complete (on r) flow) (more-after (records rs) (record-of r) (Complete flow))));
-    exactly-traces = λ r. Iff·trans (following-exactly r) (same-second (Iff·trans (passes-traces (on r) flow) (more-after (records rs) (record-of r) (InTraces flow))));
+    runs-listed = λ r value rest c. following-exactly r .1 (value, complete-passes (on r) rest flow (subst (Complete flow) (sym (append-snoc (records rs) (record-of r) rest)) c));
+    exactly-runs = λ free r. Iff·trans (following-exactly r) (same-second (Iff·trans (passes-complete (on r) flow free) (more-after (records rs) (record-of r) (Complete flow))));
+    exactly-traces = λ free r. Iff·trans (following-exactly r) (same-second (Iff·trans (passes-traces (on r) flow free) (more-after (records rs) (record-of r) (InTraces flow))));
   }
 
 -- a number is in such a list exactly if the test of the search passes
@@ -212,18 +214,12 @@ listing-tests {flow} {beginning} f r = Iff·trans (f .exactly r) (same-second (I
 pub listing-once : {flow : State} {beginning : List Record} {listed other : List ℕ} → Listing flow beginning listed → Listing flow beginning other → listed ≡ other
 listing-once {listed} {other} f g = rising-once listed other (f .rises) (g .rises) (λ r. Iff·trans (f .exactly r) (Iff·symm (g .exactly r)))
 
--- flows with the same runs have the same one
-module _ (flow flow′ : State) (same : (batch : List Record) → Complete flow batch ↔ Complete flow′ batch) where
-  same-rest : (beginning : List Record) (r : Record) → ((rest : List Record) × Complete flow (beginning ++ (r ∷ rest))) ↔ ((rest : List Record) × Complete flow′ (beginning ++ (r ∷ rest)))
-  same-rest beginning r = (
-    λ c. (c .0, same (beginning ++ (r ∷ c .0)) .0 (c .1)),
-    λ c. (c .0, same (beginning ++ (r ∷ c .0)) .1 (c .1)),
-  )
-
+-- flows whose runs follow the same records have the same one
+module _ (flow flow′ : State) (same : (batch : List Record) (n : ℕ) → Follows flow batch n ↔ Follows flow′ batch n) where
   pub same-runs-listing : {beginning : List Record} {listed other : List ℕ} → Listing flow beginning listed → Listing flow′ beginning other → listed ≡ other
   same-runs-listing {beginning} {listed} {other} f g =
       rising-once listed other (f .rises) (g .rises)
-      (λ r. Iff·trans (f .exactly-runs r) (Iff·trans (same-second (same-rest beginning (record-of r))) (Iff·symm (g .exactly-runs r))))
+      (λ r. Iff·trans (f .exactly r) (Iff·trans (same-second (same (beginning ++ (record-of r ∷ [])) (suc (length beginning)))) (Iff·symm (g .exactly r))))
 
 ---- Words are different ----
 

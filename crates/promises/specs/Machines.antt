@@ -11,7 +11,7 @@ use native.Mathlib.Nat.{eq-or-lt-of-le}
 use lib.Dec.{T, eqb, eqb→eq, eqb-refl}
 use lib.ListN.{length, getD, List·getD-eq-default}
 use borrow.Author.Tests.{eq-eqb, ne-eqb}
-use Rattle.calculus.specs.Term.{Closing, leaf, ev}
+use Rattle.calculus.specs.Term.{Closing, ev}
 use Rattle.calculus.specs.Rules.{Run}
 use Rattle.calculus.specs.Traces.{Trace, Tr}
 use Rattle.calculus.specs.Records.{Record, event, close}
@@ -28,16 +28,18 @@ use Rattle.flow.specs.Tests.{is-true}
 use Rattle.flow.specs.Records.{records}
 use Rattle.flow.specs.Checks.{table-check}
 use Rattle.flow.specs.FirstRefusal.{or-else-fine}
+use Rattle.flow.specs.Legends.{plain}
 use Rattle.flow.specs.Drawn.{flow-by, flow-of}
 use Rattle.flow.specs.CuedFlows.{flows-renamed}
+use Rattle.flow.specs.FineTable.{FineTable}
 use Rattle.format.specs.Format.{Entry}
 use Rattle.format.specs.Limits.{GoodEntry, GoodEntries, no-entries, one-entry, GoodNames}
-use Rattle.format.specs.Matching.{same-bytes, same-step, nobody, entry-of, no-machine, matches, named}
+use Rattle.format.specs.Matching.{same-bytes, same-step, nobody, entry-of, no-machine, matches, named, with-names}
 use Rattle.format.specs.ItemLaws.{le-or-lt}
 use Rattle.format.specs.NameLaws.{same-refl, same-eq}
 use Rattle.format.specs.ListChecks.{entries-in}
-use Rattle.judge.specs.Judged.{judge-check, named-judge-check, answer-of, judged, judged-named}
-use Rattle.judge.specs.JudgedLaws.{Passed, fine-is, check-parts, room-passes, named-passed}
+use Rattle.judge.specs.Judged.{judge-check, named-judge-check, answer-of, named-flow, judged, judged-named}
+use Rattle.judge.specs.JudgedLaws.{Passed, fine-is, check-parts, room-passes, named-lists, named-passed}
 use Rattle.promises.specs.Takers.{matched-to, matched}
 
 ---- Which records a node takes ----
@@ -228,22 +230,24 @@ module _ (es : List Entry) (machines : (e : Entry) → List·Memᴰ e es → e .
       by false e = sym (ne-eqb r n (λ d. false≢true (sym e ∙ is-true (matches es n r) (matches-exactly es n r .1 (inl (sym d))))))
 
   -- and a flow is searched as without names
-  pub plain-names-judge : (ns : List ℕ) → table-check ns ≡ Fine → (rs : List Record) (allowance : ℕ)
-      → judge (flow-by (named es) ns) rs allowance ≡ judge (flow-of ns) rs allowance
-  plain-names-judge ns passed rs allowance =
-      judge-renamed (λ a. a) (λ a. Unit {0}) (flows-renamed (λ a. a) (λ a. Unit {0}) leaf (named es) ns passed (λ i e w k a u. plain-names e a)) (heard-all rs) allowance
-      ∙ ap (λ (x : List Record). judge (flow-of ns) x allowance) (renamed-same rs)
+  pub plain-names-judge : (sets ns : List ℕ) → FineTable ns → (rs : List Record) (allowance : ℕ)
+      → judge (flow-by (with-names es sets) ns) rs allowance ≡ judge (flow-of sets ns) rs allowance
+  plain-names-judge sets ns fine rs allowance =
+      judge-renamed (λ a. a) (λ a. Unit {0})
+      (flows-renamed (λ a. a) (λ a. Unit {0}) (plain sets) (with-names es sets) ns fine (λ i e w k a u. plain-names e a) (λ k l a u. refl)) (heard-all rs) allowance
+      ∙ ap (λ (x : List Record). judge (flow-of sets ns) x allowance) (renamed-same rs)
 
 -- lists that pass are not refused without the names
-passed-fine : (ns rs : List ℕ) (room : ℕ) → Passed Whole ns rs room → judge-check ns rs room ≡ Fine
-passed-fine ns rs room p =
-    check-parts ns rs room ∙ sym (or-else-fine _ (p .table)) ∙ sym (or-else-fine _ (p .records)) ∙ room-passes ns rs room (p .enough)
+passed-fine : (sets ns rs : List ℕ) (room : ℕ) → table-check sets ns ≡ Fine → Passed Whole ns rs room → judge-check sets ns rs room ≡ Fine
+passed-fine sets ns rs room table p =
+    check-parts sets ns rs room ∙ sym (or-else-fine _ table) ∙ sym (or-else-fine _ (p .records)) ∙ room-passes ns rs room (p .enough)
 
 -- so `judge_named`, where it refuses nothing, answers as `judge`
-pub plain-names-judged : (s ns rs : List ℕ) (room allowance : ℕ) → ((e : Entry) → List·Memᴰ e (entries-in s) → e .machine ≢ [])
-    → named-judge-check s ns rs room ≡ Fine → judged-named s ns rs room allowance ≡ judged ns rs room allowance
-plain-names-judged s ns rs room allowance machines fine =
-    let passed = named-passed ns rs room s fine in
-    fine-is (flow-by (named (entries-in s)) ns) rs allowance fine
-    ∙ ap answer-of (plain-names-judge (entries-in s) machines ns (passed .table) (records rs) allowance)
-    ∙ sym (fine-is (flow-of ns) rs allowance (passed-fine ns rs room passed))
+pub plain-names-judged : (s sets ns rs : List ℕ) (room allowance : ℕ) → ((e : Entry) → List·Memᴰ e (entries-in s) → e .machine ≢ [])
+    → named-judge-check s sets ns rs room ≡ Fine → judged-named s sets ns rs room allowance ≡ judged sets ns rs room allowance
+plain-names-judged s sets ns rs room allowance machines fine =
+    let passed = named-passed sets ns rs room s fine in
+    let table = named-lists sets ns rs room s fine .table in
+    fine-is (named-flow s sets ns) rs allowance fine
+    ∙ ap answer-of (plain-names-judge (entries-in s) machines sets ns (passed .table) (records rs) allowance)
+    ∙ sym (fine-is (flow-of sets ns) rs allowance (passed-fine sets ns rs room table passed))

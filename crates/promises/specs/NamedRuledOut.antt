@@ -7,8 +7,9 @@ use mathlib.Core.Path.{_≡_, refl}
 use lib.ListN.{take, replicate}
 use Rattle.calculus.specs.Search as search
 use Rattle.flow.specs.Trees.{descend}
+use Rattle.flow.specs.Kinds.{joint-kind}
 use Rattle.flow.specs.Records.{record-of, is-event-number, is-closing-number}
-use Rattle.flow.specs.Refusals.{no-nodes, not-whole, too-many-nodes, unknown-kind, wrong-field, not-lower, is-child, taken, wrong-sort, child-taken, nobodys-child, no-records, too-many-records, no-record, closings-wanted, closed, wrong-closings, closings-place, after-closings, node-grounds, child-grounds, value-grounds}
+use Rattle.flow.specs.Refusals.{no-nodes, not-whole, too-many-nodes, unknown-kind, no-such-set, wrong-field, not-lower, is-child, taken, wrong-sort, child-taken, nobodys-child, wrong-sets, no-records, too-many-records, no-record, closings-wanted, closed, wrong-closings, closings-place, after-closings, node-grounds, child-grounds, value-grounds}
 use Rattle.flow.specs.Checks.{or-else-check, answer, first, each}
 use Rattle.flow.specs.Drawn.{made, drawn, flow-by}
 use Rattle.format.specs.Format.{Entry, number-bytes, name-bytes, entry-bytes, entries-bytes, names-section}
@@ -61,14 +62,19 @@ and-failed r = r ∷ 61443 ∷ []
 
 pub record NamedLine : Type 0 where
   pub names : List ℕ
+  pub sets : List ℕ
   pub nodes : List ℕ
   pub batch : List ℕ
   pub room : ℕ
   pub allowance : ℕ
   pub answer : Told
 
+abbrev with-sets : List ℕ → List ℕ → List ℕ → List ℕ → ℕ → ℕ → Told → NamedLine
+with-sets names sets nodes batch room allowance answer = record { names = names; sets = sets; nodes = nodes; batch = batch; room = room; allowance = allowance; answer = answer }
+
+-- without sets
 abbrev named-line : List ℕ → List ℕ → List ℕ → ℕ → ℕ → Told → NamedLine
-named-line names nodes batch room allowance answer = record { names = names; nodes = nodes; batch = batch; room = room; allowance = allowance; answer = answer }
+named-line names = with-sets names []
 
 -- a line of the plant's names, with the very room that is wanted
 abbrev leaf-line : ℕ → List ℕ → Told → NamedLine
@@ -124,28 +130,33 @@ named-lines =
     ∷ named-line section (one-leaf 1) (and-done 8) 5 1_000_000 (refusal 20 0)
     -- do with a byte too little
     ∷ named-line section (one-leaf 1) (and-done 2) 5 1_000_000 (refusal 14 0)
+    -- look at the sets before the number of records, or after the nodes: 10 before 23 before 4
+    ∷ with-sets section (replicate 31 0) (0 ∷ 0 ∷ 0 ∷ []) [] 6 1_000_000 (refusal 10 0)
+    ∷ with-sets section (replicate 31 0) (0 ∷ 0 ∷ 0 ∷ []) (and-done 1) 6 1_000_000 (refusal 23 0)
+    -- take a set that is not lent for an empty one: 22
+    ∷ with-sets section (replicate 32 0) (1 ∷ 1 ∷ 0 ∷ 1 ∷ 1 ∷ 0 ∷ 257 ∷ 0 ∷ 1 ∷ []) (and-done 1) 18 1_000_000 (refusal 22 2)
     ∷ []
 
 abbrev told-of : NamedLine → Told
-told-of l = told (judged-named (l .names) (l .nodes) (l .batch) (l .room) (l .allowance))
+told-of l = told (judged-named (l .names) (l .sets) (l .nodes) (l .batch) (l .room) (l .allowance))
 
 pub named-lines-told : map told-of named-lines ≡ map (λ l. l .answer) named-lines
-unfolding named-lines names-section entries-bytes entry-bytes name-bytes number-bytes run _>>=_ byte number ranged name entry same-bytes same-step same-entry met new-entry entries names nothing-behind section-alone by-entries named-check unnamed-leaf unnamed-event is-event-number is-closing-number no-nodes not-whole too-many-nodes unknown-kind wrong-field not-lower is-child taken wrong-sort child-taken nobodys-child no-records too-many-records no-record closings-wanted closed wrong-closings closings-place after-closings node-grounds child-grounds value-grounds first answer or-else-check each xor entries-of entries-in no-machine matches told judged-by unless-refused answer-of named-judge-check too-short room-of search.judge flow-by drawn made descend record-of
+unfolding named-lines names-section entries-bytes entry-bytes name-bytes number-bytes run _>>=_ byte number ranged name entry same-bytes same-step same-entry met new-entry entries names nothing-behind section-alone by-entries named-check unnamed-leaf unnamed-event is-event-number is-closing-number no-nodes not-whole too-many-nodes unknown-kind wrong-field not-lower is-child taken wrong-sort child-taken nobodys-child no-records too-many-records no-record closings-wanted closed wrong-closings closings-place after-closings node-grounds child-grounds value-grounds first answer or-else-check each xor entries-of entries-in no-machine matches told judged-by unless-refused answer-of named-judge-check too-short room-of search.judge flow-by drawn made descend record-of no-such-set wrong-sets joint-kind
 named-lines-told = refl
 
 ---- What is left in the work bytes ----
 
 -- Of 8 bytes lent the first 6 are cleared, where it accepts and where it rejects. That rules out a judge that clears none, or all.
-pub named-bytes-cleared : map (λ batch. named-work-after section (one-leaf 1) batch (replicate 8 7)) (and-done 2 ∷ and-failed 2 ∷ [])
+pub named-bytes-cleared : map (λ batch. named-work-after section [] (one-leaf 1) batch (replicate 8 7)) (and-done 2 ∷ and-failed 2 ∷ [])
     ≡ (replicate 6 0 ++ replicate 2 7) ∷ (replicate 6 0 ++ replicate 2 7) ∷ []
-unfolding names-section entries-bytes entry-bytes name-bytes number-bytes run _>>=_ byte number ranged name entry same-bytes same-step same-entry met new-entry entries names nothing-behind section-alone by-entries named-check unnamed-leaf unnamed-event is-event-number is-closing-number no-nodes not-whole too-many-nodes unknown-kind wrong-field not-lower is-child taken wrong-sort child-taken nobodys-child no-records too-many-records no-record closings-wanted closed wrong-closings closings-place after-closings node-grounds child-grounds value-grounds first answer or-else-check each xor unless-refused named-judge-check too-short room-of cleared bytes-by
+unfolding names-section entries-bytes entry-bytes name-bytes number-bytes run _>>=_ byte number ranged name entry same-bytes same-step same-entry met new-entry entries names nothing-behind section-alone by-entries named-check unnamed-leaf unnamed-event is-event-number is-closing-number no-nodes not-whole too-many-nodes unknown-kind wrong-field not-lower is-child taken wrong-sort child-taken nobodys-child no-records too-many-records no-record closings-wanted closed wrong-closings closings-place after-closings node-grounds child-grounds value-grounds first answer or-else-check each xor unless-refused named-judge-check too-short room-of cleared bytes-by no-such-set wrong-sets joint-kind
 named-bytes-cleared = refl
 
 -- A judge that clears before it refuses is ruled out by a refusal of the room, of an event without an entry, and of the names.
-pub named-bytes-kept : named-work-after section (one-leaf 1) (and-done 2) (replicate 5 7)
-    ∷ named-work-after section (one-leaf 1) (and-done 8) (replicate 8 7)
-    ∷ named-work-after (section ++ (0 ∷ [])) (one-leaf 1) (and-done 2) (replicate 8 7)
+pub named-bytes-kept : named-work-after section [] (one-leaf 1) (and-done 2) (replicate 5 7)
+    ∷ named-work-after section [] (one-leaf 1) (and-done 8) (replicate 8 7)
+    ∷ named-work-after (section ++ (0 ∷ [])) [] (one-leaf 1) (and-done 2) (replicate 8 7)
     ∷ []
     ≡ replicate 5 7 ∷ replicate 8 7 ∷ replicate 8 7 ∷ []
-unfolding names-section entries-bytes entry-bytes name-bytes number-bytes run _>>=_ byte number ranged name entry same-bytes same-step same-entry met new-entry entries names nothing-behind section-alone by-entries named-check unnamed-leaf unnamed-event is-event-number is-closing-number no-nodes not-whole too-many-nodes unknown-kind wrong-field not-lower is-child taken wrong-sort child-taken nobodys-child no-records too-many-records no-record closings-wanted closed wrong-closings closings-place after-closings node-grounds child-grounds value-grounds first answer or-else-check each xor unless-refused named-judge-check too-short room-of cleared bytes-by
+unfolding names-section entries-bytes entry-bytes name-bytes number-bytes run _>>=_ byte number ranged name entry same-bytes same-step same-entry met new-entry entries names nothing-behind section-alone by-entries named-check unnamed-leaf unnamed-event is-event-number is-closing-number no-nodes not-whole too-many-nodes unknown-kind wrong-field not-lower is-child taken wrong-sort child-taken nobodys-child no-records too-many-records no-record closings-wanted closed wrong-closings closings-place after-closings node-grounds child-grounds value-grounds first answer or-else-check each xor unless-refused named-judge-check too-short room-of cleared bytes-by no-such-set wrong-sets joint-kind
 named-bytes-kept = refl

@@ -46,13 +46,13 @@ module _ (P : ℕ → Type 0) where
 abbrev NotTen : ℕ → Type 0
 NotTen n = n ≢ 10
 
-next-given : (ns rs : List ℕ) (numbers room : ℕ) → EachGiven NotTen (next-order ns rs numbers room)
+next-given : (sets ns rs : List ℕ) (numbers room : ℕ) → EachGiven NotTen (next-order sets ns rs numbers room)
 unfolding node-grounds child-grounds value-grounds
-next-given ns rs numbers room = omega arith
+next-given sets ns rs numbers room = omega arith
 
-named-next-given : (ns rs : List ℕ) (numbers room : ℕ) (es : List Entry) → EachGiven NotTen (named-next-order ns rs numbers room es)
+named-next-given : (sets ns rs : List ℕ) (numbers room : ℕ) (es : List Entry) → EachGiven NotTen (named-next-order sets ns rs numbers room es)
 unfolding node-grounds child-grounds value-grounds
-named-next-given ns rs numbers room es = omega arith
+named-next-given sets ns rs numbers room es = omega arith
 
 -- the names section has 15 to 18
 module _ {s : List ℕ} where
@@ -76,16 +76,16 @@ module _ {s : List ℕ} where
 
 ---- `next` and `next_named` ----
 
-pub next-never-ten : {ns rs : List ℕ} {allowance : ℕ} {list work : List ℕ} {r : Next} {list′ after : List ℕ} → NextOf ns rs allowance list work r list′ after
+pub next-never-ten : (sets : List ℕ) {ns rs : List ℕ} {allowance : ℕ} {list work : List ℕ} {r : Next} {list′ after : List ℕ} → NextOf sets ns rs allowance list work r list′ after
     → (place : ℕ) → told r ≡ refusal 10 place → ⊥
-next-never-ten {ns} {rs} {list = list} {work = work} call place e =
-    earliest-among NotTen (next-refused-when call 10 place .0 e) (next-given ns rs (length list) (length work)) refl
+next-never-ten sets {ns} {rs} {list = list} {work = work} call place e =
+    earliest-among NotTen (next-refused-when sets call 10 place .0 e) (next-given sets ns rs (length list) (length work)) refl
 
-pub named-next-never-ten : (s : List ℕ) {ns rs : List ℕ} {allowance : ℕ} {list work : List ℕ} {r : Next} {list′ after : List ℕ} → NamedNextOf s ns rs allowance list work r list′ after
+pub named-next-never-ten : (s sets : List ℕ) {ns rs : List ℕ} {allowance : ℕ} {list work : List ℕ} {r : Next} {list′ after : List ℕ} → NamedNextOf s sets ns rs allowance list work r list′ after
     → Bytes s → (place : ℕ) → told r ≡ refusal 10 place → ⊥
-named-next-never-ten s {ns} {rs} {list = list} {work = work} call bytes place e = refused (named-next-refused-when s call bytes 10 place .0 e) refl
+named-next-never-ten s sets {ns} {rs} {list = list} {work = work} call bytes place e = refused (named-next-refused-when s sets call bytes 10 place .0 e) refl
   where
-    refused : {k p : ℕ} → NamedRefuses s (named-next-order ns rs (length list) (length work)) k p → NotTen k
+    refused : {k p : ℕ} → NamedRefuses s (named-next-order sets ns rs (length list) (length work)) k p → NotTen k
     refused (in-section f) = names-not f
     refused (after-section es g h l) = omega arith
-    refused (in-order es g d x) = earliest-among NotTen x (named-next-given ns rs (length list) (length work) es)
+    refused (in-order es g d x) = earliest-among NotTen x (named-next-given sets ns rs (length list) (length work) es)

@@ -10,7 +10,6 @@ use native.Mathlib.Omega.{arith}
 use lib.Dec.{T}
 use lib.ListN.{length, getD, take, drop, length-map, List·getD-map}
 use lib.Seq.{split-at}
-use Rattle.calculus.specs.Term.{leaf}
 use Rattle.calculus.specs.Records.{Record, State, Fits}
 use Rattle.calculus.specs.Search.{visit}
 use Rattle.calculus.specs.Members.{is-false}
@@ -22,11 +21,13 @@ use Rattle.flow.specs.declared.Extent.the-variants.{Whole}
 use Rattle.flow.specs.Records.{record-of, records}
 use Rattle.flow.specs.Checks.{table-check, records-check}
 use Rattle.flow.specs.Earliest.{Nowhere}
+use Rattle.flow.specs.Legends.{plain}
 use Rattle.flow.specs.Drawn.{flow-by, flow-of}
+use Rattle.flow.specs.FineTable.{fine-table}
 use Rattle.flow.specs.RecordsFit.{records-fit}
 use Rattle.format.specs.Format.{Entry, names-section}
 use Rattle.format.specs.Limits.{GoodNames}
-use Rattle.format.specs.Matching.{named}
+use Rattle.format.specs.Matching.{with-names}
 use Rattle.judge.specs.declared.Answer.{Answer}
 use Rattle.judge.specs.Told.{VerdictWord, Told, verdict, told as verdict-told, room-wanted, room-order, named-judge-order}
 use Rattle.judge.specs.Judged.{judge-check, named-judge-check, JudgedBy, Judged, NamedJudged}
@@ -135,89 +136,89 @@ accepted-word e w = not-refused-word (λ x. x) (sym e ∙ w)
 
 ---- `judge` and `next` ----
 
-module _ {ns rs : List ℕ} {allowance : ℕ} {work : List ℕ} {a : Answer} {after : List ℕ} (judged : Judged ns rs allowance work a after) where
+module _ (sets : List ℕ) {ns rs : List ℕ} {allowance : ℕ} {work : List ℕ} {a : Answer} {after : List ℕ} (judged : Judged sets ns rs allowance work a after) where
   module _ (decided : verdict-told a .word ≡ VerdictWord.refused → ⊥) where
-    fine : judge-check ns rs (length work) ≡ Fine
+    fine : judge-check sets ns rs (length work) ≡ Fine
     fine = judged-fine judged decided
 
-    parts : (table-check ns ≡ Fine) × (records-check Whole ns rs ≡ Fine)
-    parts = plain-parts Whole ns rs (room-order ns rs (length work)) (passes-exactly ns rs (length work) .0 fine)
+    parts : (table-check sets ns ≡ Fine) × (records-check Whole ns rs ≡ Fine)
+    parts = plain-parts Whole sets ns rs (room-order ns rs (length work)) (passes-exactly sets ns rs (length work) .0 fine)
 
     -- what stands before a record is not refused as a beginning
-    next-passes : (k numbers room : ℕ) → k < length rs → numbers-wanted ≤ numbers → room-wanted ns (take k rs) ≤ room → next-check ns (take k rs) numbers room ≡ Fine
+    next-passes : (k numbers room : ℕ) → k < length rs → numbers-wanted ≤ numbers → room-wanted ns (take k rs) ≤ room → next-check sets ns (take k rs) numbers room ≡ Fine
     unfolding next-check
     next-passes k numbers room inside h l =
-        nowhere-exactly (next-order ns (take k rs) numbers room) .1
-        (plain-first ns rs k inside (room-order ns rs (length work)) (next-room-order ns (take k rs) numbers room) (room-passes ns (take k rs) numbers room h l)
-        (passes-exactly ns rs (length work) .0 fine))
+        nowhere-exactly (next-order sets ns (take k rs) numbers room) .1
+        (plain-first sets ns rs k inside (room-order ns rs (length work)) (next-room-order ns (take k rs) numbers room) (room-passes ns (take k rs) numbers room h l)
+        (passes-exactly sets ns rs (length work) .0 fine))
 
   -- rejected: the record at the place is not listed after those before it, and as many states are entered
   pub rejected-next : {place count : ℕ} → verdict-told a ≡ verdict VerdictWord.rejected place count
-      → {allowance′ : ℕ} {list work′ : List ℕ} {r : Next} {list′ after′ : List ℕ} → NextOf ns (take place rs) allowance′ list work′ r list′ after′
+      → {allowance′ : ℕ} {list work′ : List ℕ} {r : Next} {list′ after′ : List ℕ} → NextOf sets ns (take place rs) allowance′ list work′ r list′ after′
       → numbers-wanted ≤ length list → room-wanted ns (take place rs) ≤ length work′ → count ≤ allowance′
-      → (place < length rs) × (listed : List ℕ) × WritesList (flow-of ns) (records (take place rs)) (told r) list list′ listed
+      → (place < length rs) × (listed : List ℕ) × WritesList (flow-of sets ns) (records (take place rs)) (told r) list list′ listed
       × (told r .count ≡ count) × (List·Memᴰ (getD rs place 0) listed → ⊥)
   rejected-next {place} e {list} {work′} call h l enough =
       let decided = rejected-word e in
       let p = parts decided in
-      let fits = records-fit ns rs leaf (p .0) (p .1) in
+      let fits = records-fit ns rs (plain sets) (fine-table ns sets (p .0)) (p .1) in
       let inside = rejected-inside judged (fine decided) e fits in
       let q = rejected-not-listed judged (fine decided) e fits call (next-passes decided place (length list) (length work′) inside h l) enough in
       (inside, q .0, q .1, q .2, q .3)
 
   -- accepted: each record is listed after those before it
   pub accepted-next : verdict-told a .word ≡ VerdictWord.accepted → (k : ℕ) → k < length rs
-      → {allowance′ : ℕ} {list work′ : List ℕ} {r : Next} {list′ after′ : List ℕ} → NextOf ns (take k rs) allowance′ list work′ r list′ after′
-      → numbers-wanted ≤ length list → room-wanted ns (take k rs) ≤ length work′ → entered (records (take k rs)) (flow-of ns) ≤ allowance′
-      → (listed : List ℕ) × WritesList (flow-of ns) (records (take k rs)) (told r) list list′ listed × List·Memᴰ (getD rs k 0) listed
+      → {allowance′ : ℕ} {list work′ : List ℕ} {r : Next} {list′ after′ : List ℕ} → NextOf sets ns (take k rs) allowance′ list work′ r list′ after′
+      → numbers-wanted ≤ length list → room-wanted ns (take k rs) ≤ length work′ → entered (records (take k rs)) (flow-of sets ns) ≤ allowance′
+      → (listed : List ℕ) × WritesList (flow-of sets ns) (records (take k rs)) (told r) list list′ listed × List·Memᴰ (getD rs k 0) listed
   accepted-next e k inside {list} {work′} call h l enough =
       let decided = accepted-word e in
       accepted-listed judged (fine decided) e k inside (values-are Whole ns rs (parts decided .1) k inside) call (next-passes decided k (length list) (length work′) inside h l) enough
 
 ---- `judge_named` and `next_named` ----
 
-module _ (es : List Entry) (good : GoodNames es) {ns rs : List ℕ} {allowance : ℕ} {work : List ℕ} {a : Answer} {after : List ℕ}
-    (judged : NamedJudged (names-section es) ns rs allowance work a after) where
+module _ (es : List Entry) (good : GoodNames es) (sets : List ℕ) {ns rs : List ℕ} {allowance : ℕ} {work : List ℕ} {a : Answer} {after : List ℕ}
+    (judged : NamedJudged (names-section es) sets ns rs allowance work a after) where
   -- of a good section the flow is the one that its entries draw
-  by-entries : JudgedBy (named-judge-check (names-section es) ns rs (length work)) (flow-by (named es) ns) ns rs allowance work a after
-  by-entries = subst (λ (flow : State). JudgedBy (named-judge-check (names-section es) ns rs (length work)) flow ns rs allowance work a after) (named-flow-is es good ns) judged
+  by-entries : JudgedBy (named-judge-check (names-section es) sets ns rs (length work)) (flow-by (with-names es sets) ns) ns rs allowance work a after
+  by-entries = subst (λ (flow : State). JudgedBy (named-judge-check (names-section es) sets ns rs (length work)) flow ns rs allowance work a after) (named-flow-is es good sets ns) judged
 
   module _ (decided : verdict-told a .word ≡ VerdictWord.refused → ⊥) where
-    named-fine : named-judge-check (names-section es) ns rs (length work) ≡ Fine
+    named-fine : named-judge-check (names-section es) sets ns rs (length work) ≡ Fine
     named-fine = judged-fine judged decided
 
-    named-nowhere : Nowhere (named-judge-order ns rs (length work) es)
+    named-nowhere : Nowhere (named-judge-order sets ns rs (length work) es)
     unfolding named-judge-check
-    named-nowhere = named-check-nowhere es good (named-judge-order ns rs (length work)) .0 named-fine
+    named-nowhere = named-check-nowhere es good (named-judge-order sets ns rs (length work)) .0 named-fine
 
-    named-parts : (table-check ns ≡ Fine) × (records-check Whole ns rs ≡ Fine)
-    named-parts = lists-parts Whole ns rs (length es) (room-order ns rs (length work)) named-nowhere
+    named-parts : (table-check sets ns ≡ Fine) × (records-check Whole ns rs ≡ Fine)
+    named-parts = lists-parts Whole sets ns rs (length es) (room-order ns rs (length work)) named-nowhere
 
     named-next-passes : (k numbers room : ℕ) → k < length rs → numbers-wanted ≤ numbers → room-wanted ns (take k rs) ≤ room
-        → named-next-check (names-section es) ns (take k rs) numbers room ≡ Fine
+        → named-next-check (names-section es) sets ns (take k rs) numbers room ≡ Fine
     unfolding named-next-check
     named-next-passes k numbers room inside h l =
-        named-check-nowhere es good (named-next-order ns (take k rs) numbers room) .1
-        (lists-first ns rs k inside (length es) (room-order ns rs (length work)) (next-room-order ns (take k rs) numbers room) (room-passes ns (take k rs) numbers room h l) named-nowhere)
+        named-check-nowhere es good (named-next-order sets ns (take k rs) numbers room) .1
+        (lists-first sets ns rs k inside (length es) (room-order ns rs (length work)) (next-room-order ns (take k rs) numbers room) (room-passes ns (take k rs) numbers room h l) named-nowhere)
 
   pub named-rejected-next : {place count : ℕ} → verdict-told a ≡ verdict VerdictWord.rejected place count
-      → {allowance′ : ℕ} {list work′ : List ℕ} {r : Next} {list′ after′ : List ℕ} → NamedNextOf (names-section es) ns (take place rs) allowance′ list work′ r list′ after′
+      → {allowance′ : ℕ} {list work′ : List ℕ} {r : Next} {list′ after′ : List ℕ} → NamedNextOf (names-section es) sets ns (take place rs) allowance′ list work′ r list′ after′
       → numbers-wanted ≤ length list → room-wanted ns (take place rs) ≤ length work′ → count ≤ allowance′
-      → (place < length rs) × (listed : List ℕ) × WritesList (flow-by (named es) ns) (records (take place rs)) (told r) list list′ listed
+      → (place < length rs) × (listed : List ℕ) × WritesList (flow-by (with-names es sets) ns) (records (take place rs)) (told r) list list′ listed
       × (told r .count ≡ count) × (List·Memᴰ (getD rs place 0) listed → ⊥)
   named-rejected-next {place} e {list} {work′} call h l enough =
       let decided = rejected-word e in
       let p = named-parts decided in
-      let fits = records-fit ns rs (named es) (p .0) (p .1) in
+      let fits = records-fit ns rs (with-names es sets) (fine-table ns sets (p .0)) (p .1) in
       let inside = rejected-inside by-entries (named-fine decided) e fits in
-      let q = rejected-not-listed by-entries (named-fine decided) e fits (named-next-call es good call) (named-next-passes decided place (length list) (length work′) inside h l) enough in
+      let q = rejected-not-listed by-entries (named-fine decided) e fits (named-next-call es good sets call) (named-next-passes decided place (length list) (length work′) inside h l) enough in
       (inside, q .0, q .1, q .2, q .3)
 
   pub named-accepted-next : verdict-told a .word ≡ VerdictWord.accepted → (k : ℕ) → k < length rs
-      → {allowance′ : ℕ} {list work′ : List ℕ} {r : Next} {list′ after′ : List ℕ} → NamedNextOf (names-section es) ns (take k rs) allowance′ list work′ r list′ after′
-      → numbers-wanted ≤ length list → room-wanted ns (take k rs) ≤ length work′ → entered (records (take k rs)) (flow-by (named es) ns) ≤ allowance′
-      → (listed : List ℕ) × WritesList (flow-by (named es) ns) (records (take k rs)) (told r) list list′ listed × List·Memᴰ (getD rs k 0) listed
+      → {allowance′ : ℕ} {list work′ : List ℕ} {r : Next} {list′ after′ : List ℕ} → NamedNextOf (names-section es) sets ns (take k rs) allowance′ list work′ r list′ after′
+      → numbers-wanted ≤ length list → room-wanted ns (take k rs) ≤ length work′ → entered (records (take k rs)) (flow-by (with-names es sets) ns) ≤ allowance′
+      → (listed : List ℕ) × WritesList (flow-by (with-names es sets) ns) (records (take k rs)) (told r) list list′ listed × List·Memᴰ (getD rs k 0) listed
   named-accepted-next e k inside {list} {work′} call h l enough =
       let decided = accepted-word e in
-      accepted-listed by-entries (named-fine decided) e k inside (values-are Whole ns rs (named-parts decided .1) k inside) (named-next-call es good call)
+      accepted-listed by-entries (named-fine decided) e k inside (values-are Whole ns rs (named-parts decided .1) k inside) (named-next-call es good sets call)
       (named-next-passes decided k (length list) (length work′) inside h l) enough

@@ -1,6 +1,6 @@
--- The conditions of the refusal table in plain words, where the test in flow's Refusals is not plain: 5, 7, 8, 9 and 13. `Kid` says
--- that a node has a child. Definitions only: PlainRows proves that the tests mean these. Assumes nothing.
-use Prim.Native.Nat.{ℕ, suc, _<_, _≤_}
+-- The conditions of the refusal table in plain words, where the test in flow's Refusals is not plain: 22, 5, 7, 8, 9 and 13. `Kid`
+-- says that a node has a child. Definitions only: PlainRows proves that the tests mean these. Assumes nothing.
+use Prim.Native.Nat.{ℕ, suc, _+_, _*_, _<_, _≤_}
 use mathlib.Core.Path.{_≡_}
 use mathlib.Core.Bool.{true, cond}
 use mathlib.Core.List.{List, [], _∷_}
@@ -8,13 +8,26 @@ use mathlib.Core.Logic.{_≢_}
 use lib.Dec.{T}
 use lib.ListN.{length, getD, take}
 use Rattle.flow.specs.Shapes.{Kid}
-use Rattle.flow.specs.Kinds.{form, is-standard, node, one-of, two-of, shape}
+use Rattle.flow.specs.Kinds.{form, is-standard, node, one-of, two-of, shape, most-sets}
 use Rattle.flow.specs.Records.{most-events, is-closing-number}
 use Rattle.flow.specs.Refusals.{count, has-two}
 
 ---- A node ----
 
+-- "Node i is three numbers: kind, first, second."
+abbrev pub kind-of : List ℕ → ℕ → ℕ
+kind-of ns i = getD ns (3 * i) 0
+
+-- 02, Four: "Kinds 256 to 271 are the standard form with set 0 to 15, kinds 512 to 527 the compensable form": kind n has set number k
+pub data HasSet (n k : ℕ) : Type 0 where
+  standard-form : n ≡ 256 + k → k < most-sets → HasSet n k
+  compensable-form : n ≡ 512 + k → k < most-sets → HasSet n k
+
 module _ (ns : List ℕ) (i : ℕ) where
+  -- 22: "kind with a set number not present", where so many sets are
+  abbrev pub SetNotThere : ℕ → Type 0
+  SetNotThere many = (k : ℕ) × HasSet (kind-of ns i) k × (many ≤ k)
+
   -- 5: "event out of 1 to 256, or an unused field not 0"
   pub data WrongField : Type 0 where
     event-out : T (form (node ns i) .event) → (1 ≤ one-of ns i → one-of ns i ≤ most-events → ⊥) → WrongField

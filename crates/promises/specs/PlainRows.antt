@@ -1,32 +1,35 @@
--- The tests of the refusal table mean the conditions that Plain puts in words: 5, 7, 8 and 9 of a node (`wrong-field-means` and so
--- on), 13 with its place, in both directions (`wrong-closings-means`, `closings-when`, `closings-fine-when`), of a beginning too
--- (`extra-closing-means`, `extra-closing-when`, `extra-closing-fine-when`), and of a file's names 19 and 20 (`unnamed-leaf-means`,
--- `unnamed-event-means`). Assumes nothing.
-use Prim.Native.Nat.{ℕ, zero, suc, _-_, _<_, _≤_}
-use mathlib.Core.Path.{_≡_, refl, sym, ap, _∙_, subst}
-use mathlib.Core.Bool.{Bool, true, false, not, xor, _&&_, _||_}
+-- The tests of the refusal table mean the conditions that Plain puts in words: 22, 5, 7, 8 and 9 of a node (`no-such-set-means` and so
+-- on), 23 of lent sets (`wrong-sets-means`), 13 with its place, in both directions (`wrong-closings-means`, `closings-when`,
+-- `closings-fine-when`), of a beginning too (`extra-closing-means`, `extra-closing-when`, `extra-closing-fine-when`), and of a file's
+-- names 19 and 20 (`unnamed-leaf-means`, `unnamed-event-means`). Assumes nothing.
+use Prim.Native.Nat.{ℕ, zero, suc, _+_, _*_, _-_, _/_, _%_, _<_, _≤_}
+use mathlib.Core.Path.{_≡_, refl, sym, ap, ap₂, _∙_, subst}
+use mathlib.Core.Bool.{Bool, true, false, not, xor, _&&_, _||_, cond, and-false}
 use mathlib.Core.List.{List, [], _∷_}
 use mathlib.Core.Logic.{_⊎_, inl, inr, _↔_, _≢_}
 use native.Mathlib.Omega.{arith}
 use native.Mathlib.Nat.{eq-or-lt-of-le}
 use lib.Dec.{T, eqb, leb, ltb, T-not, eqb→eq, eqb-refl, ltb→lt, lt→ltb}
 use lib.ListN.{length, take}
-use borrow.Author.Tests.{leb-true, le-leb}
+use borrow.Author.Tests.{leb-true, le-leb, le-ltb}
 use Rattle.calculus.specs.Members.{or-in-left, or-in-right, or-cases, and-in, and-left, and-right}
 use Rattle.flow.specs.declared.Check.{Check}
 use Rattle.flow.specs.declared.Check.the-variants.{Fine, Refused}
 use Rattle.flow.specs.declared.Extent.the-variants.{Whole, Beginning}
+use Rattle.flow.specs.declared.Operator.the-variants.{Parallel}
+use Rattle.flow.specs.declared.Node.the-variants.{Standard, Compensable, Unknown}
 use Rattle.flow.specs.Shapes.{Kid, kid1, kid2}
-use Rattle.flow.specs.Kinds.{form, is-standard, node, one-of, two-of, shape}
+use Rattle.flow.specs.Kinds.{form, is-standard, node, one-of, two-of, shape, two, most-sets, kind-in, joint-kind, node-of, set-number}
+use Rattle.flow.specs.EachKind.{beyond, each-kind}
 use Rattle.flow.specs.Records.{most-events, is-event-number, is-closing-number}
-use Rattle.flow.specs.Refusals.{count, has-one, has-two, wrong-field, taken, wrong-sort, child-taken, nobodys-child, closings-wanted, closed, wrong-closings, closings-place, after-closings, closings-allowed, too-many-closings, extra-closing}
+use Rattle.flow.specs.Refusals.{count, has-one, has-two, no-such-set, wrong-field, taken, wrong-sort, child-taken, nobodys-child, wrong-sets, closings-wanted, closed, wrong-closings, closings-place, after-closings, closings-allowed, too-many-closings, extra-closing}
 use Rattle.flow.specs.Checks.{refused, closings-check}
 use Rattle.flow.specs.Tests.{is-true}
 use Rattle.flow.specs.FirstRefusal.{is-fine}
 use Rattle.flow.specs.FineTable.{kid-taken, taken-kid}
 use Rattle.flow.specs.Closings.{event-closed, event-place, closings-fine, closings-refused, wanted-some, event-many, event-extra, closing-many, closing-extra, closing-over, open-fine, open-refused}
 use Rattle.format.specs.Contents.{unnamed-leaf, unnamed-event}
-use Rattle.promises.specs.Plain.{WrongField, event-out, first-unused, second-unused, WrongSort, wrong-child, ChildTaken, taken-already, same-twice, NobodysChild, closings-in, NthClosing, WrongClosings, goes-on, too-few}
+use Rattle.promises.specs.Plain.{kind-of, HasSet, standard-form, compensable-form, SetNotThere, WrongField, event-out, first-unused, second-unused, WrongSort, wrong-child, ChildTaken, taken-already, same-twice, NobodysChild, closings-in, NthClosing, WrongClosings, goes-on, too-few}
 
 ---- Tests ----
 
@@ -60,9 +63,86 @@ differ-of a b t e = T-not (eqb a b) t (same-in e)
 differ-in : (a b : ℕ) → a ≢ b → T (not (eqb a b))
 differ-in a b n = not-in (eqb a b) (λ t. n (eqb→eq a b t))
 
+---- The set number of a kind ----
+
+pub of-range : (base n : ℕ) → kind-in base n ≡ true → (base ≤ n) × (n < base + most-sets)
+of-range base n e =
+    let p = and-split (leb base n) (ltb n (base + most-sets)) (subst T (sym e) tt) in
+    (leb-true base n (is-true (leb base n) (p .0)), ltb→lt n (base + most-sets) (p .1))
+
+in-range : (base k : ℕ) → k < most-sets → kind-in base (base + k) ≡ true
+in-range base k l =
+    is-true (kind-in base (base + k))
+    (and-in (leb base (base + k)) (ltb (base + k) (base + most-sets))
+    (subst T (sym (le-leb base (base + k) (omega arith))) tt) (lt→ltb (base + k) (base + most-sets) (omega arith)))
+
+module _ (x y : ℕ) where
+  -- of the kinds behind the sixteen, by their ranges
+  set-behind : (n : ℕ) → 17 ≤ n → set-number (node-of n x y) ≡ cond (kind-in 256 n) (n - 256) (cond (kind-in 512 n) (n - 512) most-sets)
+  unfolding joint-kind
+  set-behind n l = ap set-number (beyond n x y l) ∙ by (kind-in 256 n) (kind-in 512 n)
+    where
+      by : (a b : Bool)
+          → set-number (cond a (Standard (Parallel (n - 256)) (two x y)) (cond b (Compensable (Parallel (n - 512)) (two x y)) Unknown))
+          ≡ cond a (n - 256) (cond b (n - 512) most-sets)
+      by true b = refl
+      by false true = refl
+      by false false = refl
+
+  -- a kind's set number, where it is the number of a set, is that of its form
+  set-form : (n : ℕ) → set-number (node-of n x y) < most-sets → HasSet n (set-number (node-of n x y))
+  set-form = each-kind Formed none none none none none none none none none none none none none none none none none behind
+    where
+      Formed : ℕ → Type 0
+      Formed n = set-number (node-of n x y) < most-sets → HasSet n (set-number (node-of n x y))
+
+      none : {A : Type 0} → most-sets < most-sets → A
+      none l = absurd (omega arith)
+
+      behind : (n : ℕ) → 17 ≤ n → Formed n
+      behind n l = subst (λ (s : ℕ). s < most-sets → HasSet n s) (sym (set-behind n l)) (by (kind-in 256 n) refl (kind-in 512 n) refl)
+        where
+          by : (a : Bool) → kind-in 256 n ≡ a → (b : Bool) → kind-in 512 n ≡ b
+              → cond a (n - 256) (cond b (n - 512) most-sets) < most-sets → HasSet n (cond a (n - 256) (cond b (n - 512) most-sets))
+          by true e b d h = let w = of-range 256 n e in standard-form (omega (arith, w .0)) (omega (arith, w .0, w .1))
+          by false e true d h = let w = of-range 512 n d in compensable-form (omega (arith, w .0)) (omega (arith, w .0, w .1))
+          by false e false d h = absurd (omega arith)
+
+  -- and a kind of either form has its set number
+  form-set : {n k : ℕ} → HasSet n k → set-number (node-of n x y) ≡ k
+  form-set {n} {k} (standard-form e l) =
+      set-behind n (omega arith)
+      ∙ ap (λ (a : Bool). cond a (n - 256) (cond (kind-in 512 n) (n - 512) most-sets)) (ap (kind-in 256) e ∙ in-range 256 k l)
+      ∙ omega arith
+  form-set {n} {k} (compensable-form e l) =
+      let below : kind-in 256 n ≡ false = ap (λ (b : Bool). leb 256 n && b) (le-ltb n (256 + most-sets) (omega arith)) ∙ and-false (leb 256 n) in
+      set-behind n (omega arith)
+      ∙ ap₂ (λ (a b : Bool). cond a (n - 256) (cond b (n - 512) most-sets)) below (ap (kind-in 512) e ∙ in-range 512 k l)
+      ∙ omega arith
+
 ---- A node ----
 
 module _ (ns : List ℕ) (i : ℕ) where
+  -- 22
+  pub no-such-set-means : (many : ℕ) → T (no-such-set ns i many) ↔ SetNotThere ns i many
+  unfolding no-such-set
+  no-such-set-means many = (
+    λ t.
+        let p = and-split (ltb number most-sets) (leb many number) t in
+        (number, set-form (one-of ns i) (two-of ns i) (kind-of ns i) (ltb→lt number most-sets (p .0)), leb-true many number (is-true (leb many number) (p .1))),
+    λ q. subst (λ (k : ℕ). T (ltb k most-sets && leb many k)) (sym (form-set (one-of ns i) (two-of ns i) (q .1))) (of (q .0) (low (q .1)) (q .2)),
+  )
+    where
+      number : ℕ
+      number = set-number (node ns i)
+
+      low : {n k : ℕ} → HasSet n k → k < most-sets
+      low (standard-form e l) = l
+      low (compensable-form e l) = l
+
+      of : (k : ℕ) → k < most-sets → many ≤ k → T (ltb k most-sets && leb many k)
+      of k l h = and-in (ltb k most-sets) (leb many k) (lt→ltb k most-sets l) (subst T (sym (le-leb many k h)) tt)
+
   in-event : (r : ℕ) → 1 ≤ r → r ≤ most-events → T (is-event-number r)
   unfolding is-event-number
   in-event r lo hi = and-in (leb 1 r) (leb r most-events) (subst T (sym (le-leb 1 r lo)) tt) (subst T (sym (le-leb r most-events hi)) tt)
@@ -203,6 +283,27 @@ module _ (ns : List ℕ) (i : ℕ) where
     λ t j h k. T-not (taken ns (count ns) i) t (kid-taken ns (count ns) j i h k),
     λ n. not-in (taken ns (count ns) i) (λ t. let q = taken-kid ns (count ns) i t in n (q .0) (q .1) (q .2)),
   )
+
+---- Lent sets ----
+
+-- 23: their length is no multiple of 32, or above 512
+pub wrong-sets-means : (sets : List ℕ) → T (wrong-sets sets) ↔ (((n : ℕ) → length sets ≢ 32 * n) ⊎ (512 < length sets))
+unfolding wrong-sets
+wrong-sets-means sets = (λ t. to (or-cases odd long t), of)
+  where
+    odd : Bool
+    odd = not (eqb (length sets % 32) 0)
+
+    long : Bool
+    long = ltb 512 (length sets)
+
+    to : T odd ⊎ T long → ((n : ℕ) → length sets ≢ 32 * n) ⊎ (512 < length sets)
+    to (inl t) = inl (λ n e. differ-of (length sets % 32) 0 t (omega arith))
+    to (inr t) = inr (ltb→lt 512 (length sets) t)
+
+    of : ((n : ℕ) → length sets ≢ 32 * n) ⊎ (512 < length sets) → T (odd || long)
+    of (inl n) = or-in-left odd long (differ-in (length sets % 32) 0 (λ e. n (length sets / 32) (omega arith)))
+    of (inr h) = or-in-right odd long (lt→ltb 512 (length sets) h)
 
 ---- The closings ----
 

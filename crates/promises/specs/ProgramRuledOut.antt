@@ -9,18 +9,21 @@ use mathlib.Core.Path.{_≡_, refl, ap, _∙_}
 use lib.ListN.{length, drop, replicate}
 use Rattle.calculus.specs.Search as search
 use Rattle.flow.specs.Trees.{descend}
+use Rattle.flow.specs.Kinds.{joint-kind, set-of}
+use Rattle.flow.specs.Legends.{in-set}
 use Rattle.flow.specs.Records.{record-of, is-event-number, is-closing-number}
-use Rattle.flow.specs.Refusals.{no-nodes, not-whole, too-many-nodes, unknown-kind, wrong-field, not-lower, is-child, taken, wrong-sort, child-taken, nobodys-child, no-records, too-many-records, no-record, closings-wanted, closed, wrong-closings, closings-place, after-closings, node-grounds, child-grounds, value-grounds}
-use Rattle.flow.specs.Checks.{or-else-check, answer, first, each}
+use Rattle.flow.specs.Refusals.{no-nodes, not-whole, too-many-nodes, unknown-kind, no-such-set, wrong-field, not-lower, is-child, taken, wrong-sort, child-taken, nobodys-child, wrong-sets, no-records, too-many-records, no-record, closings-wanted, closed, wrong-closings, closings-place, after-closings, node-grounds, child-grounds, value-grounds}
+use Rattle.flow.specs.Checks.{or-else-check, answer, first, each, table-check, nodes-check, values-check, closings-check, records-check}
 use Rattle.flow.specs.Drawn.{made, drawn, flow-by}
-use Rattle.format.specs.Format.{number-bytes, numbers-bytes, name-bytes, entry-bytes, entries-bytes, names-section, numbers-section, encode}
+use Rattle.format.specs.Format.{number-bytes, numbers-bytes, name-bytes, entry-bytes, entries-bytes, names-section, numbers-section, sets-section, File, encode}
 use Rattle.format.specs.Matching.{no-machine, matches}
 use Rattle.format.specs.Contents.{unnamed-leaf, unnamed-event}
+use Rattle.format.specs.ContentChecks.{leaves-grounds, events-grounds, grounds-of}
 use Rattle.format.specs.ListChecks.{nothing-behind, section-alone, entries-of, entries-in, by-entries, named-check}
 use Rattle.format.specs.Plan.{_>>=_, run}
-use Rattle.format.specs.Sections.{byte, number, ranged, name, entry, same-bytes, same-step, same-entry, met, new-entry, entries, names, numbers, section, layout}
+use Rattle.format.specs.Sections.{byte, number, ranged, name, entry, same-bytes, same-step, same-entry, met, new-entry, entries, names, items, item-section, numbers-of, section, joint-sets, layout}
 use Rattle.format.specs.Items.{refusal-of}
-use Rattle.reader.specs.Reading.{Outcome, refused-outcome, checked, laid, reading}
+use Rattle.reader.specs.Reading.{Outcome, refused-outcome, read-outcome, counts-of, checked, laid, reading}
 use Rattle.judge.specs.declared.Answer.{Answer}
 use Rattle.judge.specs.declared.Answer.the-variants.{Accepted, Rejected, Refused}
 use Rattle.judge.specs.Judged.{told, verdict, refusal, room-of, too-short, named-judge-check, answer-of, unless-refused, judged-by, judged-named}
@@ -30,32 +33,69 @@ use Rattle.line.specs.declared.VerdictWord.the-variants as word
 use Rattle.line.specs.declared.Line.{Line}
 use Rattle.line.specs.Line.{places, size, decimal, spaced, spelled, text-of, line-of, Put, LineWritten}
 use Rattle.program.specs.Program.{states-allowed, work-lent, line-for}
-use Rattle.program.specs.FileNames.{scanned, names-of}
+use Rattle.program.specs.FileParts.{scanned, names-of, sets-of}
 use Rattle.program.specs.Answering.{answered, answer-of-file, printed, FileAnswered, AnswerTold, FilePrinted}
-use Rattle.promises.specs.Worked.{worked, worked-read}
+use Rattle.promises.specs.Worked.{worked, worked-read, meeting, meeting-read}
 
 ---- The answer to a file ----
--- a program that only refuses, or has one verdict, fails at the worked file; one that judges whatever it gets at a file of no bytes
+-- a program that only refuses, or has one verdict, fails at the worked file; one that judges whatever it gets at a file of no bytes; one
+-- that judges without the file's sets, so that a line takes the joint event alone, at the file whose lines meet and at `alone`
 
-worked-judged : judged-named (names-of (encode worked)) (worked .nodes) (worked .records) work-lent states-allowed ≡ Accepted (record { place = 3; count = 4 })
-unfolding names-of scanned encode names-section numbers-section entries-bytes entry-bytes name-bytes numbers-bytes number-bytes run _>>=_ byte number ranged name entry same-bytes same-step same-entry met new-entry entries names unnamed-leaf unnamed-event nothing-behind section-alone entries-of entries-in by-entries named-check matches no-machine judged-by unless-refused answer-of named-judge-check too-short room-of search.judge flow-by drawn made descend first answer or-else-check each no-nodes not-whole too-many-nodes unknown-kind wrong-field not-lower is-child taken wrong-sort child-taken nobodys-child no-records too-many-records no-record closings-wanted closed wrong-closings closings-place after-closings node-grounds child-grounds value-grounds record-of is-event-number is-closing-number xor
-worked-judged = refl
+-- the file whose lines meet, with a record of the joint event for each line
+abbrev alone : File
+alone = record { names = meeting .names; nodes = meeting .nodes; records = 1 ∷ 2 ∷ 2 ∷ 61441 ∷ []; sets = meeting .sets }
+
+-- how a file that is read is judged
+abbrev judged-so : File → Answer
+judged-so f = judged-named (names-of (encode f)) (sets-of (counts-of f) (encode f)) (f .nodes) (f .records) work-lent states-allowed
+
+-- of the worked file, the one whose lines meet, and `alone`
+files-judged :
+    (judged-so worked ≡ Accepted (record { place = 3; count = 4 }))
+    × (judged-so meeting ≡ Accepted (record { place = 3; count = 4 }))
+    × (judged-so alone ≡ Rejected (record { place = 2; count = 3 }))
+unfolding names-of scanned encode names-section numbers-section sets-section entries-bytes entry-bytes name-bytes numbers-bytes number-bytes run _>>=_ byte number ranged name entry same-bytes same-step same-entry met new-entry entries names unnamed-leaf unnamed-event nothing-behind section-alone entries-of entries-in by-entries named-check matches no-machine judged-by unless-refused answer-of named-judge-check too-short room-of search.judge flow-by drawn made joint-kind set-of in-set descend first answer or-else-check each no-nodes not-whole too-many-nodes unknown-kind no-such-set wrong-field not-lower is-child taken wrong-sort child-taken nobodys-child wrong-sets no-records too-many-records no-record closings-wanted closed wrong-closings closings-place after-closings node-grounds child-grounds value-grounds record-of is-event-number is-closing-number xor
+files-judged = (refl, refl, refl)
+
+-- of no bytes, and of `alone`
+files-read : (reading [] 192 256 ≡ refused-outcome (refusal-of 15 0)) × (reading (encode alone) 192 256 ≡ read-outcome alone)
+unfolding encode names-section numbers-section sets-section entries-bytes entry-bytes name-bytes numbers-bytes number-bytes run _>>=_ byte number ranged name entry same-bytes same-step same-entry met new-entry entries names items item-section numbers-of section joint-sets layout unnamed-leaf unnamed-event leaves-grounds events-grounds grounds-of checked laid reading joint-kind is-event-number is-closing-number no-nodes not-whole too-many-nodes unknown-kind no-such-set wrong-field not-lower is-child taken wrong-sort child-taken nobodys-child no-records too-many-records no-record closings-wanted closed wrong-closings closings-place after-closings or-else-check answer first each node-grounds child-grounds value-grounds table-check nodes-check values-check closings-check records-check xor
+files-read = (refl, refl)
+
+-- by what is read of a file
+by-reading : (file : List ℕ) {o : Outcome} → reading file 192 256 ≡ o → answer-of-file file ≡ answered file (o .answer) (o .nodes) (o .records)
+unfolding answer-of-file answered
+by-reading file e = ap (λ (o : Outcome). answered file (o .answer) (o .nodes) (o .records)) e
 
 worked-is : answer-of-file (encode worked) ≡ Accepted (record { place = 3; count = 4 })
-unfolding answer-of-file answered
-worked-is = ap (λ (o : Outcome). answered (encode worked) (o .answer) (o .nodes) (o .records)) worked-read ∙ worked-judged
+unfolding answered
+worked-is = by-reading (encode worked) worked-read ∙ files-judged .0
 
-empty-read : reading [] 192 256 ≡ refused-outcome (refusal-of 15 0)
-unfolding run _>>=_ byte number ranged name entry same-bytes same-step same-entry met new-entry entries names numbers section layout checked laid reading
-empty-read = refl
+meeting-is : answer-of-file (encode meeting) ≡ Accepted (record { place = 3; count = 4 })
+unfolding answered
+meeting-is = by-reading (encode meeting) meeting-read ∙ files-judged .1
+
+alone-is : answer-of-file (encode alone) ≡ Rejected (record { place = 2; count = 3 })
+unfolding answered
+alone-is = by-reading (encode alone) (files-read .1) ∙ files-judged .2
 
 empty-is : answer-of-file [] ≡ Refused (refusal-of 15 0)
-unfolding answer-of-file answered
-empty-is = ap (λ (o : Outcome). answered [] (o .answer) (o .nodes) (o .records)) empty-read
+unfolding answered
+empty-is = by-reading [] (files-read .0)
 
 pub worked-answered : (r : Answer) → FileAnswered (encode worked) r → told r ≡ verdict judge.VerdictWord.accepted 3 4
 unfolding told
 worked-answered r e = ap told (e ∙ worked-is)
+
+-- the two lines take the press together
+pub meeting-answered : (r : Answer) → FileAnswered (encode meeting) r → told r ≡ verdict judge.VerdictWord.accepted 3 4
+unfolding told
+meeting-answered r e = ap told (e ∙ meeting-is)
+
+-- and neither takes it alone
+pub alone-answered : (r : Answer) → FileAnswered (encode alone) r → told r ≡ verdict judge.VerdictWord.rejected 2 3
+unfolding told
+alone-answered r e = ap told (e ∙ alone-is)
 
 pub empty-answered : (r : Answer) → FileAnswered [] r → told r ≡ refusal 15 0
 unfolding told

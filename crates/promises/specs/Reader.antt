@@ -4,7 +4,7 @@
 -- Not here: what is refused, and where (ReaderRefusals); cuts (Cuts). Assumes nothing.
 use Prim.Native.Nat.{ℕ, _+_, _≤_}
 use mathlib.Core.List.{List, _++_, append-nil}
-use mathlib.Core.Logic.{_↔_}
+use mathlib.Core.Logic.{inr, _↔_}
 use mathlib.Core.Path.{_≡_, refl, ap, sym, _∙_, subst}
 use native.Mathlib.Omega.{arith}
 use lib.ListN.{length, drop-of-length-le}
@@ -44,7 +44,7 @@ pub readable-read : (s : List ℕ) (nr rr : ℕ) (f : File) → Readable s nr rr
 unfolding checked grounds-of
 readable-read s nr rr f r =
     let h : Stands s 0 (encode f) = subst (λ (x : List ℕ). Stands s 0 x) (r .encoded) (stands-all s) in
-    let e : run s 0 layout ≡ got f (length s) = layout-reads s f (r .within) h ∙ ap (λ (x : List ℕ). got f (length x)) (sym (r .encoded)) in
+    let e : run s 0 layout ≡ got f (length s) = layout-reads s f (r .within) h (inr (omega (arith, ap length (r .encoded)))) ∙ ap (λ (x : List ℕ). got f (length x)) (sym (r .encoded)) in
     reading-laid s nr rr (r .node-room) (r .record-room) ∙ laid-checked s (run s 0 layout) e
     ∙ ap (checked f) (nowhere-exactly (file-order f) .1 (r .fine))
 
@@ -87,7 +87,7 @@ report-refused s nr rr k p e = by (reading s nr rr .answer) refl e
 -- and one that counts some is none
 report-read : (a : Reading) (c : Counts) → 1 ≤ c .nodes → reported a ≡ read-report c → a ≡ Read c
 unfolding reported
-report-read (Read d) c h q = λ i. Read (record { names = q i .names; nodes = q i .nodes; records = q i .records })
+report-read (Read d) c h q = λ i. Read (record { names = q i .names; nodes = q i .nodes; records = q i .records; «sets_at» = q i .sets-at; sets = q i .sets })
 report-read (Refused r) c h q = absurd (omega (arith, ap (λ (x : Report). x .nodes) q))
 
 -- what is read is told by the file alone
@@ -103,8 +103,8 @@ read-exactly s b nr rr c h = (
 pub encode-once : (f g : File) → WithinLimits f → WithinLimits g → encode f ≡ encode g → f ≡ g
 encode-once f g v w e =
     let s = encode f in
-    let a = layout-reads s f v (stands-all s) in
-    let b = layout-reads s g w (subst (λ (x : List ℕ). Stands s 0 x) e (stands-all s)) in
+    let a = layout-reads s f v (stands-all s) (inr (omega arith)) in
+    let b = layout-reads s g w (subst (λ (x : List ℕ). Stands s 0 x) e (stands-all s)) (inr (omega (arith, ap length e))) in
     got-value (sym a ∙ b)
 
 -- "if refused both are unchanged"

@@ -1,6 +1,6 @@
 -- The reader refuses exactly as Faults says: each way of a refusal is answered with its number and place, and every refusal is one
 -- of these ways. Assumes nothing.
-use Prim.Native.Nat.{ℕ, zero, suc, _+_, _*_, _-_, _/_, _≤_, _<_}
+use Prim.Native.Nat.{ℕ, zero, suc, _+_, _*_, _-_, _≤_, _<_}
 use mathlib.Core.Bool.{Bool, true, false}
 use mathlib.Core.List.{List, [], _∷_, _++_, append-assoc, append-nil, List·Memᴰ, Memᴰ·append-left}
 use mathlib.Core.Logic.{_⊎_, inl, inr, _↔_}
@@ -11,23 +11,25 @@ use borrow.Author.Tests.{lt-ltb}
 use lib.ListN.{length, getD, drop, length-append}
 use lib.Seq.{drop-cons}
 use Rattle.flow.specs.declared.Refusal.{Refusal}
+use Rattle.flow.specs.Legends.{set-bytes}
 use Rattle.format.specs.declared.Range.{Range}
-use Rattle.format.specs.Format.{number-bytes, Entry, name-bytes, entry-bytes, entries-bytes, names-section, numbers-section, encode}
+use Rattle.format.specs.Format.{number-bytes, Entry, name-bytes, entry-bytes, entries-bytes, names-section, numbers-section, sets-section, File, encode}
 use Rattle.format.specs.Plan.{Plan, Ran, got, bad, run}
-use Rattle.format.specs.Sections.{byte, number, ranged, step-length, machine-length, name-count, node-count, record-count, name, entry, met, new-entry, entries, names, section, layout}
+use Rattle.format.specs.Sections.{byte, number, ranged, step-length, machine-length, name-count, node-count, record-count, sets-count, name, entry, met, new-entry, entries, names, item-section, section, joint-sets, layout}
 use Rattle.format.specs.Limits.{InRange, GoodEntry, GoodEntries, no-entries, one-entry, Bytes, Stands}
-use Rattle.format.specs.Lengths.{number-bytes-length}
+use Rattle.format.specs.Lengths.{number-bytes-length, section-of-none}
 use Rattle.format.specs.Items.{refusal-of, number-at}
-use Rattle.format.specs.ItemLaws.{le-or-lt, got-not-bad, byte-cut, byte-got, number-cut, number-there, ranged-bad, ranged-few, ranged-many, ranged-got, ranged-there, name-length-bad, name-cut, name-whole, name-there, length-there, entry-step-bad, entry-machine-bad, entry-got}
-use Rattle.format.specs.SectionLaws.{names-bad, names-from, numbers-stop, numbers-got, new-entry-bad, new-entry-met, new-entry-got, new-entry-there, entries-bad, entries-more, section-count-bad, section-from}
+use Rattle.format.specs.ItemLaws.{le-or-lt, got-next, got-not-bad, byte-cut, byte-got, number-cut, number-there, ranged-bad, ranged-few, ranged-many, ranged-got, ranged-there, name-length-bad, name-cut, name-whole, name-there, length-there, entry-step-bad, entry-machine-bad, entry-got}
+use Rattle.format.specs.RunLaws.{items-got, items-stop, items-cut, items-count-bad, items-from, item-section-there, sets-none, sets-some}
+use Rattle.format.specs.SectionLaws.{names-bad, names-from, new-entry-bad, new-entry-met, new-entry-got, new-entry-there, entries-bad, entries-more, section-bad, section-got}
 use Rattle.reader.specs.declared.Reading.the-variants.{Refused}
 use Rattle.reader.specs.Reading.{Report, reported, Outcome, refused-outcome, checked, laid, reading}
-use Rattle.reader.specs.Faults.{RangeFault, cut-count, below, above, NameFault, in-length, cut-bytes, EntryFault, in-step, in-machine, Entering, NamesFault, in-name-count, in-entry, met-again, SectionFault, in-count, cut-number, LayoutFault, in-names, in-nodes, in-records, Refuses, no-node-room, no-record-room, in-layout, too-long, in-contents}
-use Rattle.reader.specs.LayoutLaws.{layout-names-bad, layout-nodes-bad, layout-records-bad, layout-got}
+use Rattle.reader.specs.Faults.{RangeFault, cut-count, below, above, NameFault, in-length, cut-bytes, EntryFault, in-step, in-machine, Entering, NamesFault, in-name-count, in-entry, met-again, SectionFault, in-count, cut-item, LayoutFault, in-names, in-nodes, in-records, in-sets, Refuses, no-node-room, no-record-room, in-layout, too-long, in-contents}
+use Rattle.reader.specs.LayoutLaws.{layout-names-bad, layout-nodes-bad, layout-records-bad, layout-sets-bad, layout-got, layout-runs}
 use Rattle.reader.specs.ReaderLaws.{reading-short, reading-laid, laid-checked, Way, few-nodes, few-records, stopped, longer, faulty, whole, way, read-not-refused}
 use Rattle.promises.specs.SameNames.{met-among, among-met, not-met}
 use Rattle.promises.specs.FileStands.{stands-all, stands-left, stands-right, stands-join, stands-head, number-reads, number-stands, name-reads, name-stands, name-in-range, name-ends, entry-reads, entry-stands}
-use Rattle.promises.specs.FileExact.{entries-pass, count-reads, names-read, names-stand, nodes-read, nodes-stand, layout-reads, layout-stands}
+use Rattle.promises.specs.FileExact.{entries-pass, count-reads, names-read, names-stand, nodes-read, nodes-stand, records-stand, layout-parts, layout-reads, layout-stands}
 use Rattle.promises.specs.ContentRefusals.{contents-exactly}
 use Rattle.promises.specs.Reader.{stands-whole, refused-report, report-refused}
 
@@ -82,35 +84,67 @@ module _ (s : List ℕ) where
   pub count-fault : Bytes s → (at : ℕ) (g : Range) {k p : ℕ} → run s at (ranged g number) ≡ bad k p → RangeFault s g 2 number-bytes at k p
   count-fault b at g e = range-fault number 2 number-bytes at g (number-cut s at) (number-reads s at) (number-at s at) (number-here b at) e
 
-  ---- A section of numbers ----
+  ---- A section of items ----
 
-  pub section-refused : (at : ℕ) (g : Range) (each : ℕ) → g .least ≤ g .most → {k p : ℕ} → SectionFault s g each at k p → run s at (section g each) ≡ bad k p
-  section-refused at g each w (in-count f) = section-count-bad s at g each (count-refused at g w f)
-  section-refused at g each w (cut-number n i h r l a c) =
-      section-from s at g each (count-reads s at g n h r) ∙ numbers-stop s i (each * n) (at + 2) l a (number-cut s (at + 2 + 2 * i) c)
+  pub items-refused : (at : ℕ) (g : Range) (size each : ℕ) → g .least ≤ g .most → {k p : ℕ} → SectionFault s g size each at k p
+      → run s at (item-section g size each) ≡ bad k p
+  items-refused at g size each w (in-count f) = items-count-bad s at g size each (count-refused at g w f)
+  items-refused at g size each w (cut-item n i h r l a c) =
+      items-from s at g size each (count-reads s at g n h r) ∙ items-stop s size i (each * n) (at + 2) l a c
 
-  pub section-fault : Bytes s → (at : ℕ) (g : Range) (each : ℕ) {k p : ℕ} → run s at (section g each) ≡ bad k p → SectionFault s g each at k p
-  section-fault b at g each {k} {p} e = by-count (run s at (ranged g number)) refl
+  pub items-fault : Bytes s → (at : ℕ) (g : Range) (size each : ℕ) {k p : ℕ} → run s at (item-section g size each) ≡ bad k p → SectionFault s g size each at k p
+  items-fault b at g size each {k} {p} e = by-count (run s at (ranged g number)) refl
     where
       F : ℕ → ℕ → Type 0
-      F = SectionFault s g each at
+      F = SectionFault s g size each at
 
-      by-numbers : (v m : ℕ) → run s at (ranged g number) ≡ got v m → m ≡ at + 2 → m ≤ length s → InRange g v → Stands s at (number-bytes v)
-          → (m + 2 * (each * v) ≤ length s) ⊎ (length s < m + 2 * (each * v)) → SectionFault s g each at k p
-      by-numbers v m a d l r h (inl c) = got-not-bad (section-from s at g each a ∙ numbers-got s (each * v) m c) e
-      by-numbers v m a d l r h (inr c) =
-          let i = (length s - m) / 2 in
-          let f : SectionFault s g each at 15 (at + 2 + 2 * i) = cut-number v i h r (omega arith) (omega arith) (omega arith) in
-          let q : run s at (section g each) ≡ bad 15 (at + 2 + 2 * i) =
-          section-from s at g each (count-reads s at g v h r) ∙ numbers-stop s i (each * v) (at + 2) (omega arith) (omega arith) (number-cut s (at + 2 + 2 * i) (omega arith)) in
-          moved F (sym q ∙ e) f
+      by-items : (v m : ℕ) → run s at (ranged g number) ≡ got v m → m ≡ at + 2 → m ≤ length s → InRange g v → Stands s at (number-bytes v)
+          → (m + size * (each * v) ≤ length s) ⊎ (length s < m + size * (each * v)) → SectionFault s g size each at k p
+      by-items v m a d l r h (inl c) = got-not-bad (items-from s at g size each a ∙ items-got s size (each * v) m c) e
+      by-items v m a d l r h (inr c) =
+          let t = items-cut s size (each * v) (at + 2) (omega arith) (omega arith) in
+          let q : run s at (item-section g size each) ≡ bad 15 (at + 2 + size * t .number) =
+          items-from s at g size each (count-reads s at g v h r) ∙ items-stop s size (t .number) (each * v) (at + 2) (t .before) (t .inside) (t .cut) in
+          moved F (sym q ∙ e) (cut-item v (t .number) h r (t .before) (t .inside) (t .cut))
 
-      by-count : (x : Ran ℕ) → run s at (ranged g number) ≡ x → SectionFault s g each at k p
+      by-count : (x : Ran ℕ) → run s at (ranged g number) ≡ x → SectionFault s g size each at k p
       by-count (got v m) a =
           let t = ranged-there s at g number a in
           let u = number-there s at (t .read) in
-          by-numbers v m a (u .ends) (omega (arith, u .ends, u .inside)) (record { low = t .low; high = t .high }) (number-stands s b at v m u) (le-or-lt (m + 2 * (each * v)) (length s))
-      by-count (bad n q) a = moved F (sym (section-count-bad s at g each a) ∙ e) (in-count (count-fault b at g a))
+          by-items v m a (u .ends) (omega (arith, u .ends, u .inside)) (record { low = t .low; high = t .high }) (number-stands s b at v m u) (le-or-lt (m + size * (each * v)) (length s))
+      by-count (bad n q) a = moved F (sym (items-count-bad s at g size each a) ∙ e) (in-count (count-fault b at g a))
+
+  -- of numbers, two bytes each
+  pub section-refused : (at : ℕ) (g : Range) (each : ℕ) → g .least ≤ g .most → {k p : ℕ} → SectionFault s g 2 each at k p → run s at (section g each) ≡ bad k p
+  section-refused at g each w f = section-bad s at g each (items-refused at g 2 each w f)
+
+  pub section-fault : Bytes s → (at : ℕ) (g : Range) (each : ℕ) {k p : ℕ} → run s at (section g each) ≡ bad k p → SectionFault s g 2 each at k p
+  section-fault b at g each {k} {p} e = by (run s at (item-section g 2 each)) refl
+    where
+      by : (x : Ran (List ℕ)) → run s at (item-section g 2 each) ≡ x → SectionFault s g 2 each at k p
+      by (got bs m) a = got-not-bad (section-got s at g each a) e
+      by (bad n q) a = moved (SectionFault s g 2 each at) (sym (section-bad s at g each a) ∙ e) (items-fault b at g 2 each a)
+
+  -- of sets, where the file goes on
+  pub sets-refused : (at : ℕ) → at < length s → {k p : ℕ} → SectionFault s sets-count set-bytes 1 at k p → run s at joint-sets ≡ bad k p
+  sets-refused at h f = sets-some s at h ∙ items-refused at sets-count set-bytes 1 (omega arith) f
+
+  pub sets-fault : Bytes s → (at : ℕ) {k p : ℕ} → run s at joint-sets ≡ bad k p → (at < length s) × SectionFault s sets-count set-bytes 1 at k p
+  sets-fault b at {k} {p} e = by (le-or-lt (length s) at)
+    where
+      by : (length s ≤ at) ⊎ (at < length s) → (at < length s) × SectionFault s sets-count set-bytes 1 at k p
+      by (inl h) = got-not-bad (sets-none s at h) e
+      by (inr h) = (h, items-fault b at sets-count set-bytes 1 (sym (sets-some s at h) ∙ e))
+
+  -- a file that is read to where more bytes follow has sets
+  pub followed-sets : {f : File} {end : ℕ} → run s 0 layout ≡ got f end → end < length s → 1 ≤ length (f .sets)
+  followed-sets {f} {end} e l = by (le-or-lt (length s) (layout-runs s e .last))
+    where
+      by : (length s ≤ layout-runs s e .last) ⊎ (layout-runs s e .last < length s) → 1 ≤ length (f .sets)
+      by (inl h) = absurd (omega (arith, got-next (sym (sets-none s (layout-runs s e .last) h) ∙ layout-runs s e .sets-run)))
+      by (inr h) =
+          let t = item-section-there s (layout-runs s e .last) sets-count set-bytes 1 (sym (sets-some s (layout-runs s e .last) h) ∙ layout-runs s e .sets-run) in
+          omega (arith, t .sized, t .low)
 
   ---- Names and entries ----
 
@@ -249,6 +283,12 @@ module _ (s : List ℕ) where
   layout-refused (in-records es ns g w h f) =
       let r = nodes-read s g w h in
       layout-records-bad s (r .0) (r .1) (section-refused s (length (names-section es ++ numbers-section 3 ns)) record-count 1 (omega arith) f)
+  layout-refused (in-sets {k} {p} f w z h l x) =
+      let t = layout-parts s f w h in
+      let none : length (sets-section (f .sets)) ≡ 0 = ap length (section-of-none (f .sets) (ap length z)) in
+      let last : length (encode f) ≡ t .last = omega (arith, t .ends) in
+      layout-sets-bad s (t .names-run) (t .nodes-run) (t .records-run)
+      (sets-refused s (t .last) (omega arith) (subst (λ (m : ℕ). SectionFault s sets-count set-bytes 1 m k p) last x))
 
   pub layout-fault : Bytes s → {k p : ℕ} → run s 0 layout ≡ bad k p → LayoutFault s k p
   layout-fault b {k} {p} e = by-names (run s 0 names) refl
@@ -256,20 +296,30 @@ module _ (s : List ℕ) where
       F : ℕ → ℕ → Type 0
       F = LayoutFault s
 
+      by-sets : (es : List Entry) (ns rs : List ℕ) (from mid last : ℕ) → run s 0 names ≡ got es from → run s from (section node-count 3) ≡ got ns mid
+          → run s mid (section record-count 1) ≡ got rs last → (x : Ran (List ℕ)) → run s last joint-sets ≡ x → LayoutFault s k p
+      by-sets es ns rs from mid last a c d (got sets end) h = got-not-bad (layout-got s a c d h) e
+      by-sets es ns rs from mid last a c d (bad i q) h =
+          let f : File = record { names = es; nodes = ns; records = rs; sets = [] } in
+          let t = records-stand s b a c d in
+          let u = sets-fault s b last h in
+          moved F (sym (layout-sets-bad s a c d h) ∙ e)
+          (in-sets f (t .within) refl (t .stands) (omega (arith, t .ends, u .0)) (subst (λ (m : ℕ). SectionFault s sets-count set-bytes 1 m i q) (t .ends) (u .1)))
+
       by-records : (es : List Entry) (ns : List ℕ) (from mid : ℕ) → run s 0 names ≡ got es from → run s from (section node-count 3) ≡ got ns mid
           → (x : Ran (List ℕ)) → run s mid (section record-count 1) ≡ x → LayoutFault s k p
-      by-records es ns from mid a c (got rs last) h = got-not-bad (layout-got s a c h) e
+      by-records es ns from mid a c (got rs last) h = by-sets es ns rs from mid last a c h (run s last joint-sets) refl
       by-records es ns from mid a c (bad i q) h =
           let t = nodes-stand s b a c in
           moved F (sym (layout-records-bad s a c h) ∙ e)
-          (in-records es ns (t .names-good) (t .nodes-good) (t .stands) (subst (λ (m : ℕ). SectionFault s record-count 1 m i q) (t .ends) (section-fault s b mid record-count 1 h)))
+          (in-records es ns (t .names-good) (t .nodes-good) (t .stands) (subst (λ (m : ℕ). SectionFault s record-count 2 1 m i q) (t .ends) (section-fault s b mid record-count 1 h)))
 
       by-nodes : (es : List Entry) (from : ℕ) → run s 0 names ≡ got es from → (x : Ran (List ℕ)) → run s from (section node-count 3) ≡ x → LayoutFault s k p
       by-nodes es from a (got ns mid) c = by-records es ns from mid a c (run s mid (section record-count 1)) refl
       by-nodes es from a (bad i q) c =
           let t = names-stand s b a in
           moved F (sym (layout-nodes-bad s a c) ∙ e)
-          (in-nodes es (t .good) (t .stands) (subst (λ (m : ℕ). SectionFault s node-count 3 m i q) (t .ends) (section-fault s b from node-count 3 c)))
+          (in-nodes es (t .good) (t .stands) (subst (λ (m : ℕ). SectionFault s node-count 2 3 m i q) (t .ends) (section-fault s b from node-count 3 c)))
 
       by-names : (x : Ran (List Entry)) → run s 0 names ≡ x → LayoutFault s k p
       by-names (got es from) a = by-nodes es from a (run s from (section node-count 3)) refl
@@ -283,11 +333,11 @@ module _ (s : List ℕ) where
   refuses-refused nr rr (no-node-room h) = reading-short s nr rr (inl h)
   refuses-refused nr rr (no-record-room h) = reading-short s nr rr (inr h)
   refuses-refused nr rr (in-layout h l f) = reading-laid s nr rr h l ∙ ap (laid s) (layout-refused f)
-  refuses-refused nr rr (too-long f h l w t c) =
-      reading-laid s nr rr h l ∙ ap (laid s) (layout-reads s f w t) ∙ rw (lt-ltb (length (encode f)) (length s) c)
+  refuses-refused nr rr (too-long f h l w m t c) =
+      reading-laid s nr rr h l ∙ ap (laid s) (layout-reads s f w t (inl m)) ∙ rw (lt-ltb (length (encode f)) (length s) c)
   refuses-refused nr rr (in-contents {k} {p} f h l w e g) =
       let t : Stands s 0 (encode f) = subst (λ (x : List ℕ). Stands s 0 x) e (stands-all s) in
-      let r : run s 0 layout ≡ got f (length s) = layout-reads s f w t ∙ ap (λ (x : List ℕ). got f (length x)) (sym e) in
+      let r : run s 0 layout ≡ got f (length s) = layout-reads s f w t (inr (omega (arith, ap length e))) ∙ ap (λ (x : List ℕ). got f (length x)) (sym e) in
       reading-laid s nr rr h l ∙ laid-checked s (run s 0 layout) r ∙ ap (checked f) (contents-exactly f (refusal-of k p) .1 g)
 
   -- every refusal is one of these ways
@@ -303,7 +353,7 @@ module _ (s : List ℕ) where
       by (stopped h l g) a = is a (in-layout h l (layout-fault b g))
       by (longer f end h l g w) a =
           let t = layout-stands s b g in
-          is a (subst (Refuses s nr rr 21) (sym (t .ends)) (too-long f h l (t .within) (t .stands) (omega (arith, t .ends))))
+          is a (subst (Refuses s nr rr 21) (sym (t .ends)) (too-long f h l (t .within) (followed-sets s g w) (t .stands) (omega (arith, t .ends))))
       by (faulty f end h l g w {r = q} c) a =
           let t = layout-stands s b g in
           let d : s ≡ encode f = stands-whole s (encode f) (t .stands) (omega (arith, t .ends)) in

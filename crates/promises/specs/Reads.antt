@@ -2,12 +2,14 @@
 -- Format, Limits, Contents; `reader`, Report, Faults). So how a file is gone through (Plan, Sections, Reading) need not be believed.
 -- Theorems only. Assumes nothing.
 use Prim.Native.Nat.{ℕ, _≤_}
-use mathlib.Core.List.{List}
+use mathlib.Core.List.{List, [], _∷_, _++_, append-assoc}
 use mathlib.Core.Logic.{_⊎_, inl, inr, _↔_}
 use mathlib.Core.Path.{_≡_, refl, ap, ap₂, sym, _∙_, subst}
 use native.Mathlib.Omega.{arith}
-use lib.ListN.{length, length-append}
-use Rattle.format.specs.Format.{number-bytes, Entry, entries-bytes, names-section, File}
+use lib.ListN.{length, drop, length-append}
+use lib.Seq.{drop-at}
+use Rattle.flow.specs.Legends.{set-count}
+use Rattle.format.specs.Format.{number-bytes, Entry, entries-bytes, names-section, sets-section, File, encode}
 use Rattle.format.specs.Lengths.{number-bytes-length}
 use Rattle.format.specs.Limits.{GoodNames, Bytes, Stands}
 use Rattle.format.specs.Told.{ItemTold, item-told, item-found, item-refused, at-front}
@@ -17,11 +19,11 @@ use Rattle.format.specs.Items.{as-item}
 use Rattle.reader.specs.declared.Counts.{Counts}
 use Rattle.reader.specs.declared.Reading.{Reading}
 use Rattle.reader.specs.declared.Reading.the-variants.{Read, Refused}
-use Rattle.reader.specs.Report.{reported, counts-of, read-report, refused-report}
+use Rattle.reader.specs.Report.{reported, sets-offset, counts-of, read-report, refused-report}
 use Rattle.reader.specs.Faults.{NamesFault, Refuses, Readable}
 use Rattle.reader.specs.Reading.{Outcome, reading, ReadAs}
 use Rattle.reader.specs.ReaderLaws.{read-not-refused}
-use Rattle.promises.specs.FileExact.{names-stand}
+use Rattle.promises.specs.FileExact.{without-sets, encode-sets, names-stand}
 use Rattle.promises.specs.Reader.{readable-read, read-readable, read-exactly, scanned, names-scanned}
 use Rattle.promises.specs.ReaderRefusals.{names-refused, names-fault, refuses-refused, refused-refuses, refused-when}
 
@@ -39,6 +41,21 @@ read-or-refused s b nr rr = by (reading s nr rr .answer) refl
 pub readable-not-refused : (s : List ℕ) {nr rr k p : ℕ} {f : File} → Readable s nr rr f → Refuses s nr rr k p → ⊥
 readable-not-refused s {nr} {rr} {f} x y =
     read-not-refused (ap (λ (o : Outcome). o .answer) (sym (readable-read s nr rr f x) ∙ refuses-refused s nr rr y))
+
+-- the bytes of the sets are the last ones of their section
+sets-last : (sets : List ℕ) → (before : List ℕ) × (sets-section sets ≡ before ++ sets)
+unfolding sets-section
+sets-last [] = ([], refl)
+sets-last (b ∷ bs) = (number-bytes (set-count (b ∷ bs)), refl)
+
+-- 02, Four: "The reader gives their offset and count": what stands there to the end are the sets
+pub read-sets : (s : List ℕ) {nr rr : ℕ} (f : File) → Readable s nr rr f → drop (counts-of f .«sets_at») s ≡ f .sets
+read-sets s f x =
+    let t = sets-last (f .sets) in
+    let before = encode (without-sets f) ++ t .0 in
+    let e : encode f ≡ before ++ f .sets =
+    encode-sets f ∙ ap (λ (xs : List ℕ). encode (without-sets f) ++ xs) (t .1) ∙ sym (append-assoc (encode (without-sets f)) (t .0) (f .sets)) in
+    ap (drop (sets-offset f)) (x .encoded ∙ e) ∙ drop-at before (f .sets) (sets-offset f) (omega (arith, ap length e, length-append before (f .sets)))
 
 module _ {s nodes records nodes′ records′ : List ℕ} {r : Reading} (bytes : Bytes s) (ensured : ReadAs s nodes records nodes′ records′ r) where
   -- a refusal is reported exactly when one of its ways holds

@@ -4,7 +4,7 @@
 use Prim.Native.Nat.{ℕ, _≤_, _<_}
 use mathlib.Core.List.{List}
 use mathlib.Core.Logic.{_⊎_, inl, inr, _↔_}
-use mathlib.Core.Path.{_≡_, refl, ap, sym, _∙_, subst}
+use mathlib.Core.Path.{_≡_, refl, ap, ap₂, sym, _∙_, subst}
 use native.Mathlib.Omega.{arith}
 use borrow.Author.Tests.{lt-ltb}
 use lib.Dec.{T, ltb}
@@ -25,8 +25,8 @@ use Rattle.promises.specs.Reader.{readable-read}
 use Rattle.promises.specs.ReaderRefusals.{refuses-refused}
 use Rattle.promises.specs.Reads.{read-or-refused}
 use Rattle.promises.specs.ListRefusals.{earliest-after}
-use Rattle.promises.specs.Writer.{writable-lists, writable-some, refuse-tells, write-keeps}
-use Rattle.promises.specs.RoundTrip.{names-handed, readable-writable, parts-written}
+use Rattle.promises.specs.Writer.{good-sets-bytes, writable-lists, writable-some, refuse-tells, write-keeps}
+use Rattle.promises.specs.RoundTrip.{names-handed, sets-handed, readable-writable, parts-written}
 
 ---- What is made of a file ----
 
@@ -34,13 +34,14 @@ module _ (file : List ℕ) (room : ℕ) where
   -- a file that is read is written from its own parts
   rewriting-readable : (f : File) → Readable file 192 256 f
       → rewriting file room ≡ record {
-        answer = writing (names-section (f .names)) (f .nodes) (f .records) room;
-        bytes = bytes-first (names-section (f .names)) (f .nodes) (f .records) room;
+        answer = writing (names-section (f .names)) (f .nodes) (f .records) (f .sets) room;
+        bytes = bytes-first (names-section (f .names)) (f .nodes) (f .records) (f .sets) room;
       }
   unfolding rewriting copied
   rewriting-readable f r =
       ap (λ (o : Outcome). copied file room (o .answer) (o .nodes) (o .records)) (readable-read file 192 256 f r)
-      ∙ ap (λ (s : List ℕ). record { answer = writing s (f .nodes) (f .records) room; bytes = bytes-first s (f .nodes) (f .records) room }) (names-handed file r)
+      ∙ ap₂ (λ (s sets : List ℕ). record { answer = writing s (f .nodes) (f .records) sets room; bytes = bytes-first s (f .nodes) (f .records) sets room })
+      (names-handed file r) (sets-handed file r)
 
   -- any other is refused
   rewriting-refuses : {k p : ℕ} → Refuses file 192 256 k p → rewriting file room ≡ refused-copy (refusal-of k p)
@@ -51,7 +52,7 @@ module _ (file : List ℕ) (room : ℕ) where
 
 module _ {file out out′ : List ℕ} {r : Writing} (ensured : FileRewritten file out out′ r) where
   -- a file that is read: what `write` ensures of its parts is ensured
-  as-written : {f : File} → Readable file 192 256 f → WrittenAs (names-section (f .names)) (f .nodes) (f .records) out out′ r
+  as-written : {f : File} → Readable file 192 256 f → WrittenAs (names-section (f .names)) (f .nodes) (f .records) (f .sets) out out′ r
   as-written {f} x =
       let e = rewriting-readable file (length out) f x in
       record {
@@ -61,7 +62,7 @@ module _ {file out out′ : List ℕ} {r : Writing} (ensured : FileRewritten fil
 
   -- a file that is read comes out as it was
   pub rewrite-same : {f : File} → Readable file 192 256 f → length file ≤ length out → (writing-told r ≡ writing-written (length file)) × (out′ ≡ at-front file out)
-  rewrite-same x room = parts-written (x .encoded) (readable-writable x room refl refl refl) (as-written x)
+  rewrite-same x room = parts-written (x .encoded) (readable-writable x room refl refl refl refl) (as-written x)
 
   -- with too little room for it, it is refused with 14, and the lent bytes stay
   pub rewrite-short : {f : File} → Readable file 192 256 f → length out < length file → (writing-told r ≡ writing-refused 14 0) × (out′ ≡ out)
@@ -70,11 +71,12 @@ module _ {file out out′ : List ℕ} {r : Writing} (ensured : FileRewritten fil
       held : T (ltb (length out) (length (encode f)))
       held = subst T (sym (lt-ltb (length out) (length (encode f)) (omega (arith, ap length (x .encoded))))) tt
 
-      way : WriteRefuses (names-section (f .names)) (f .nodes) (f .records) (length out) 14 0
+      way : WriteRefuses (names-section (f .names)) (f .nodes) (f .records) (f .sets) (length out) 14 0
       way =
           let w = x .within in
           in-order (f .names) (w .names) refl
-          (earliest-after (writable-lists (length (f .names)) (f .nodes) (f .records) .1 (w .nodes, w .records, x .fine)) (is-lone refl held))
+          (earliest-after (writable-lists (length (f .names)) (f .nodes) (f .records) (f .sets) (good-sets-bytes (w .sets)) .1 (w .nodes, w .records, w .sets, x .fine))
+          (is-lone refl held))
 
   -- a file that the reader refuses is refused so, and the lent bytes stay
   pub rewrite-tells : {k p : ℕ} → Refuses file 192 256 k p → writing-told r ≡ writing-refused k p
@@ -91,8 +93,8 @@ module _ {file out out′ : List ℕ} {r : Writing} (ensured : FileRewritten fil
       by : ((f : File) × Readable file 192 256 f) ⊎ ((j : ℕ) × (q : ℕ) × Refuses file 192 256 j q) → writing-told r ≡ writing-refused k p → Refuses file 192 256 k p
       by (inl x) e =
           let f = x .0 in
-          let v = readable-writable (x .1) room refl refl refl in
-          let some = writable-some (names-section (f .names)) (f .nodes) (f .records) (length out) v in
+          let v = readable-writable (x .1) room refl refl refl refl in
+          let some = writable-some (names-section (f .names)) (f .nodes) (f .records) (f .sets) (length out) v in
           let same = ap (λ (t : WritingTold). t .length) (sym (rewrite-same (x .1) room .0) ∙ e) in
           absurd (omega (arith, ap length (x .1 .encoded)))
       by (inr x) e =

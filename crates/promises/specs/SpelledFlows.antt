@@ -10,7 +10,7 @@ use mathlib.Core.Logic.{_↔_, Iff·trans}
 use lib.Dec.{T}
 use lib.ListN.{length}
 use Rattle.calculus.specs.Records.{Record, Complete, InTraces}
-use Rattle.calculus.specs.Leaves.{EachLeafState, SameLeaf}
+use Rattle.calculus.specs.Leaves.{EachState, AnySet, SameLeaf}
 use Rattle.calculus.specs.SpelledTraces.{spelled-in-traces, spelled-complete}
 use Rattle.flow.specs.declared.Check.the-variants.{Fine}
 use Rattle.flow.specs.declared.Extent.the-variants.{Whole}
@@ -22,10 +22,10 @@ use Rattle.flow.specs.Refusals.{count}
 use Rattle.flow.specs.Checks.{table-check}
 use Rattle.flow.specs.Drawn.{flow-by}
 use Rattle.flow.specs.FineTable.{fine-table}
-use Rattle.flow.specs.DrawnLeaves.{flow-leaves}
+use Rattle.flow.specs.DrawnLeaves.{flow-each}
 use Rattle.format.specs.Format.{Entry, names-section}
 use Rattle.format.specs.Limits.{GoodNames}
-use Rattle.format.specs.Matching.{named}
+use Rattle.format.specs.Matching.{named, with-names}
 use Rattle.format.specs.Contents.{unnamed-leaf}
 use Rattle.format.specs.ContentLaws.{leaf-named}
 use Rattle.format.specs.ListLaws.{ListsPassed, entries-in-is}
@@ -37,28 +37,28 @@ use Rattle.promises.specs.Machines.{named-leaf-traces}
 use Rattle.promises.specs.Verdicts.{not-refused-fine}
 use Rattle.promises.specs.NamedDemands.{alone-is, named-decides}
 
-module _ (es : List Entry) (good : GoodNames es) (ns : List ℕ) (passed : table-check ns ≡ Fine) (events : EventsNamed es ns) where
+module _ (es : List Entry) (good : GoodNames es) (sets ns : List ℕ) (passed : table-check sets ns ≡ Fine) (events : EventsNamed es ns) where
   event-spelled : (i e : ℕ) → i < count ns → node ns i ≡ Event e → SameLeaf (taken-choice es) (named es e)
   event-spelled i e w n =
-      let q = leaf-named (length es) ns (fine-table ns passed) i e w n (is-false (unnamed-leaf (length es) ns i) (events i w)) in
+      let q = leaf-named (length es) ns (fine-table ns sets passed) i e w n (is-false (unnamed-leaf (length es) ns i) (events i w)) in
       named-leaf-traces es good e (q .0) (q .1)
 
-  leaves-spelled : EachLeafState (SameLeaf (taken-choice es)) (flow-by (named es) ns)
-  leaves-spelled = flow-leaves (SameLeaf (taken-choice es)) (named es) ns passed event-spelled
+  leaves-spelled : EachState (SameLeaf (taken-choice es)) AnySet (flow-by (with-names es sets) ns)
+  leaves-spelled = flow-each (SameLeaf (taken-choice es)) AnySet (with-names es sets) ns (fine-table ns sets passed) event-spelled (λ k. tt)
 
-  pub spelled-traces : (batch : List Record) → InTraces (flow-by (named es) ns) batch ↔ InTraces (spelled-out es (flow-by (named es) ns)) batch
-  spelled-traces = spelled-in-traces (taken-choice es) (flow-by (named es) ns) leaves-spelled
+  pub spelled-traces : (batch : List Record) → InTraces (flow-by (with-names es sets) ns) batch ↔ InTraces (spelled-out es (flow-by (with-names es sets) ns)) batch
+  spelled-traces = spelled-in-traces (taken-choice es) (flow-by (with-names es sets) ns) leaves-spelled
 
-  pub spelled-runs : (batch : List Record) → Complete (flow-by (named es) ns) batch ↔ Complete (spelled-out es (flow-by (named es) ns)) batch
-  spelled-runs = spelled-complete (taken-choice es) (flow-by (named es) ns) leaves-spelled
+  pub spelled-runs : (batch : List Record) → Complete (flow-by (with-names es sets) ns) batch ↔ Complete (spelled-out es (flow-by (with-names es sets) ns)) batch
+  spelled-runs = spelled-complete (taken-choice es) (flow-by (with-names es sets) ns) leaves-spelled
 
 ---- Demand 2 ----
 
-module _ (es : List Entry) (good : GoodNames es) (ns rs : List ℕ) (room allowance : ℕ)
-    (judged-so : told (judged-named (names-section es) ns rs room allowance) .word ≡ VerdictWord.refused → ⊥)
-    (decided : told (judged-named (names-section es) ns rs room allowance) .word ≡ VerdictWord.undecided → ⊥) where
-  lists : ListsPassed Whole (names-section es) ns rs
-  lists = named-lists ns rs room (names-section es) (not-refused-fine (named-judge-check (names-section es) ns rs room) (named-flow (names-section es) ns) rs allowance judged-so)
+module _ (es : List Entry) (good : GoodNames es) (sets ns rs : List ℕ) (room allowance : ℕ)
+    (judged-so : told (judged-named (names-section es) sets ns rs room allowance) .word ≡ VerdictWord.refused → ⊥)
+    (decided : told (judged-named (names-section es) sets ns rs room allowance) .word ≡ VerdictWord.undecided → ⊥) where
+  lists : ListsPassed Whole (names-section es) sets ns rs
+  lists = named-lists sets ns rs room (names-section es) (not-refused-fine (named-judge-check (names-section es) sets ns rs room) (named-flow (names-section es) sets ns) rs allowance judged-so)
 
   -- what is judged has an entry for each event
   events : EventsNamed es ns
@@ -66,8 +66,8 @@ module _ (es : List Entry) (good : GoodNames es) (ns rs : List ℕ) (room allowa
       let e = ap (λ (ds : List Entry). unnamed-leaf (length ds) ns i) (sym (entries-in-is (names-section es) (alone-is es good))) in
       subst (λ (b : Bool). T (not b)) (sym (e ∙ lists .contents .leaves i w)) tt
 
-  pub spelled-accepted : (told (judged-named (names-section es) ns rs room allowance) .word ≡ VerdictWord.accepted) ↔ Complete (spelled-out es (flow-by (named es) ns)) (records rs)
-  spelled-accepted = Iff·trans (named-decides es good ns rs room allowance judged-so .accepted-exactly decided) (spelled-runs es good ns (lists .table) events (records rs))
+  pub spelled-accepted : (told (judged-named (names-section es) sets ns rs room allowance) .word ≡ VerdictWord.accepted) ↔ Complete (spelled-out es (flow-by (with-names es sets) ns)) (records rs)
+  spelled-accepted = Iff·trans (named-decides es good sets ns rs room allowance judged-so .accepted-exactly decided) (spelled-runs es good sets ns (lists .table) events (records rs))
 
-  pub spelled-accepted-traces : (told (judged-named (names-section es) ns rs room allowance) .word ≡ VerdictWord.accepted) ↔ InTraces (spelled-out es (flow-by (named es) ns)) (records rs)
-  spelled-accepted-traces = Iff·trans (named-decides es good ns rs room allowance judged-so .accepted-traces decided) (spelled-traces es good ns (lists .table) events (records rs))
+  pub spelled-accepted-traces : (told (judged-named (names-section es) sets ns rs room allowance) .word ≡ VerdictWord.accepted) ↔ InTraces (spelled-out es (flow-by (with-names es sets) ns)) (records rs)
+  spelled-accepted-traces = Iff·trans (named-decides es good sets ns rs room allowance judged-so .accepted-traces decided) (spelled-traces es good sets ns (lists .table) events (records rs))

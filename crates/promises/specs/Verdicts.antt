@@ -11,14 +11,15 @@ use native.Mathlib.Omega.{arith}
 use lib.Dec.{T, leb}
 use lib.ListN.{length}
 use borrow.Author.Tests.{leb-true, leb-false}
-use Rattle.calculus.specs.Term.{Leaf, Std, Cmp}
+use Rattle.calculus.specs.Term.{Std, Cmp}
 use Rattle.calculus.specs.Records.{Record, State, std, cmp, Complete}
 use Rattle.calculus.specs.Search.{Verdict, visit, settle}
 use Rattle.calculus.specs.Search as search
 use Rattle.calculus.specs.Laws.{Redrawn}
 use Rattle.calculus.specs.Found.{found-complete, place-follows, place-longest}
 use Rattle.calculus.specs.Alike.{Alike}
-use Rattle.calculus.specs.Redrawn.{complete-traces, redrawn-alike}
+use Rattle.calculus.specs.Completes.{complete-traces}
+use Rattle.calculus.specs.Redrawn.{redrawn-alike}
 use Rattle.flow.specs.declared.Refusal.{Refusal}
 use Rattle.flow.specs.declared.Check.{Check}
 use Rattle.flow.specs.declared.Check.the-variants.{Fine}
@@ -29,8 +30,9 @@ use Rattle.flow.specs.Kinds.{node, is-standard}
 use Rattle.flow.specs.Records.{records}
 use Rattle.flow.specs.Refusals.{root, wrong-closings, closings-place, closings-wanted, closings-allowed}
 use Rattle.flow.specs.Checks.{or-else-check, table-check, records-check}
+use Rattle.flow.specs.Legends.{Legend}
 use Rattle.flow.specs.Drawn.{flow-by}
-use Rattle.flow.specs.FineTable.{fine-table}
+use Rattle.flow.specs.FineTable.{FineTable}
 use Rattle.flow.specs.OneFlow.{flow-standard, flow-compensable}
 use Rattle.judge.specs.declared.Answer.{Answer}
 use Rattle.judge.specs.Judged.{VerdictWord, Told, told, verdict, refusal, room-wanted, judge-check, answer-of, judged-by}
@@ -193,12 +195,12 @@ module _ {c c′ : Check} {flow flow′ : State} (same : c ≡ c′) (redrawn : 
 
 ---- The check of a fine table ----
 
-module _ (ns rs : List ℕ) (room : ℕ) where
+module _ (sets ns rs : List ℕ) (room : ℕ) where
   -- a fine table with room enough is refused as its records are
-  pub records-decide : table-check ns ≡ Fine → room-wanted ns rs ≤ room → judge-check ns rs room ≡ records-check Whole ns rs
+  pub records-decide : table-check sets ns ≡ Fine → room-wanted ns rs ≤ room → judge-check sets ns rs room ≡ records-check Whole ns rs
   unfolding or-else-check
   records-decide t h =
-      check-parts ns rs room
+      check-parts sets ns rs room
       ∙ ap (λ (c : Check). or-else-check c (or-else-check (records-check Whole ns rs) (room-check ns rs room))) t
       ∙ by (records-check Whole ns rs) (room-check ns rs room) (room-passes ns rs room h)
     where
@@ -215,7 +217,7 @@ redrawn-mixed {t} {p} r e d = elim (subst (Redrawn (std p)) d (subst (λ (z : St
 mixed-redrawn : {s t : State} {p : Std} {pp : Cmp} → Redrawn s t → s ≡ cmp pp → t ≡ std p → ⊥
 mixed-redrawn {t} {pp} r e d = elim (subst (Redrawn (cmp pp)) d (subst (λ (z : State). Redrawn z t) e r)) [ ]
 
-module _ (leaves : ℕ → Leaf) (ns ns′ : List ℕ) (fine : table-check ns ≡ Fine) (fine′ : table-check ns′ ≡ Fine) (h : Redrawn (flow-by leaves ns) (flow-by leaves ns′)) where
+module _ (legend : Legend) (ns ns′ : List ℕ) (fine : FineTable ns) (fine′ : FineTable ns′) (h : Redrawn (flow-by legend ns) (flow-by legend ns′)) where
   -- they are of one sort
   pub redrawn-closings : closings-wanted ns ≡ closings-wanted ns′
   unfolding closings-wanted
@@ -224,8 +226,8 @@ module _ (leaves : ℕ → Leaf) (ns ns′ : List ℕ) (fine : table-check ns �
       by : (a : Bool) → is-standard (node ns (root ns)) ≡ a → (b : Bool) → is-standard (node ns′ (root ns′)) ≡ b → is-standard (node ns (root ns)) ≡ is-standard (node ns′ (root ns′))
       by true e true d = e ∙ sym d
       by false e false d = e ∙ sym d
-      by true e false d = absurd (redrawn-mixed h (flow-standard leaves ns (fine-table ns fine) e .1) (flow-compensable leaves ns′ (fine-table ns′ fine′) d .1))
-      by false e true d = absurd (mixed-redrawn h (flow-compensable leaves ns (fine-table ns fine) e .1) (flow-standard leaves ns′ (fine-table ns′ fine′) d .1))
+      by true e false d = absurd (redrawn-mixed h (flow-standard legend ns fine e .1) (flow-compensable legend ns′ fine′ d .1))
+      by false e true d = absurd (mixed-redrawn h (flow-compensable legend ns fine e .1) (flow-standard legend ns′ fine′ d .1))
 
   pub redrawn-records : (extent : Extent) (rs : List ℕ) → records-check extent ns rs ≡ records-check extent ns′ rs
   unfolding records-check wrong-closings closings-place closings-allowed

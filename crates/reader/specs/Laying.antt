@@ -4,13 +4,13 @@
 use Prim.Native.Nat.{ℕ, _+_, _*_, _≤_, _<_}
 use mathlib.Core.List.{List}
 use mathlib.Core.Path.{_≡_}
-use lib.ListN.{length}
+use lib.ListN.{length, drop}
 use Rattle.flow.specs.declared.Refusal.{Refusal}
 use Rattle.flow.specs.declared.Check.{Check}
 use Rattle.flow.specs.declared.Check.the-variants as check
 use Rattle.format.specs.Format.{File}
 use Rattle.format.specs.Plan.{got, bad, run}
-use Rattle.format.specs.Sections.{names, section, node-count, record-count, layout}
+use Rattle.format.specs.Sections.{names, section, joint-sets, node-count, record-count, layout}
 use Rattle.format.specs.Items.{refusal-of}
 use Rattle.reader.specs.declared.Offsets.{Offsets}
 use Rattle.reader.specs.declared.Layout.{Layout}
@@ -35,16 +35,22 @@ pub record Inside (s : List ℕ) (o : Offsets) : Type 0 where
   pub nodes-inside : o .nodes + 2 * (3 * o .counts .nodes) ≤ length s
   pub records-inside : o .records + 2 * o .counts .records ≤ length s
 
--- the sections of f are read one after the other, the numbers of two of them behind their counts, to the end of the file
-pub record Placed (s : List ℕ) (f : File) (o : Offsets) : Type 0 where
+-- the four runs that make a layout
+pub record LayoutRuns (s : List ℕ) (f : File) (end : ℕ) : Type 0 where
   pub from : ℕ
   pub mid : ℕ
+  pub last : ℕ
   pub names-run : run s 0 names ≡ got (f .names) from
   pub nodes-run : run s from (section node-count 3) ≡ got (f .nodes) mid
-  pub records-run : run s mid (section record-count 1) ≡ got (f .records) (o .end)
+  pub records-run : run s mid (section record-count 1) ≡ got (f .records) last
+  pub sets-run : run s last joint-sets ≡ got (f .sets) end
+
+-- the sections of f are read one after the other, the numbers of two of them behind their counts, to the end of the file
+pub record Placed (s : List ℕ) (f : File) (o : Offsets) : Type 0 where
+  pub runs : LayoutRuns s f (o .end)
   pub counts-are : o .counts ≡ counts-of f
-  pub nodes-are-at : o .nodes ≡ from + 2
-  pub records-are-at : o .records ≡ mid + 2
+  pub nodes-are-at : o .nodes ≡ runs .from + 2
+  pub records-are-at : o .records ≡ runs .mid + 2
   pub ends : o .end ≡ length s
 
 -- the offsets of the sections, or the refusal up to 21
@@ -55,14 +61,6 @@ pub data Lays (s : List ℕ) : Layout → Type 0 where
 
 ---- What is known of a reading ----
 
--- the three runs that make a layout
-pub record LayoutRuns (s : List ℕ) (f : File) (end : ℕ) : Type 0 where
-  pub from : ℕ
-  pub mid : ℕ
-  pub names-run : run s 0 names ≡ got (f .names) from
-  pub nodes-run : run s from (section node-count 3) ≡ got (f .nodes) mid
-  pub records-run : run s mid (section record-count 1) ≡ got (f .records) end
-
 -- what a reading comes to, by what is found on the way
 pub data Way (s : List ℕ) (nr rr : ℕ) : Outcome → Type 0 where
   few-nodes : nr < 192 → Way s nr rr (refused-outcome (refusal-of 14 0))
@@ -72,10 +70,13 @@ pub data Way (s : List ℕ) (nr rr : ℕ) : Outcome → Type 0 where
   faulty : (f : File) (end : ℕ) → 192 ≤ nr → 256 ≤ rr → run s 0 layout ≡ got f end → length s ≤ end → {r : Refusal} → content-check f ≡ check.Refused r → Way s nr rr (refused-outcome r)
   whole : (f : File) (end : ℕ) → 192 ≤ nr → 256 ≤ rr → run s 0 layout ≡ got f end → length s ≤ end → content-check f ≡ check.Fine → Way s nr rr (read-outcome f)
 
--- a file that is read: its outcome, and that its nodes are whole
+-- a file that is read: its outcome, that its nodes are whole, and where its sets are
 pub record ReadFile (s : List ℕ) (nr rr : ℕ) (c : Counts) : Type 0 where
   pub file : File
   pub is : reading s nr rr ≡ read-outcome file
   pub counted : c ≡ counts-of file
   pub whole-nodes : length (file .nodes) ≡ 3 * c .nodes
   pub some-nodes : 1 ≤ c .nodes
+  pub whole-sets : length (file .sets) ≡ 32 * c .sets
+  pub sets-inside : c .«sets_at» ≤ length s
+  pub sets-are : drop (c .«sets_at») s ≡ file .sets

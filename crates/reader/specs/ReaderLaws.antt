@@ -1,5 +1,5 @@
 -- What the reader answers by the parts of `reading`, and the ways of a reading. Assumes nothing.
-use Prim.Native.Nat.{ℕ, _*_, _/_, _≤_, _<_}
+use Prim.Native.Nat.{ℕ, _*_, _-_, _/_, _≤_, _<_}
 use mathlib.Core.Bool.{Bool, true, false, _||_, cond}
 use mathlib.Core.List.{List}
 use mathlib.Core.Logic.{_⊎_, inl, inr}
@@ -7,7 +7,8 @@ use mathlib.Core.Path.{_≡_, refl, ap, sym, _∙_, subst}
 use native.Mathlib.Omega.{arith}
 use borrow.Author.Tests.{lt-ltb, le-ltb, ltb-true, ltb-false}
 use lib.Dec.{ltb}
-use lib.ListN.{length}
+use lib.ListN.{length, drop, length-drop}
+use lib.Seq.{take-all}
 use Rattle.flow.specs.declared.Refusal.{Refusal}
 use Rattle.flow.specs.declared.Check.{Check}
 use Rattle.flow.specs.declared.Check.the-variants as check
@@ -15,11 +16,10 @@ use Rattle.flow.specs.declared.Extent.the-variants.{Whole}
 use Rattle.flow.specs.Checks.{first}
 use Rattle.format.specs.Format.{File}
 use Rattle.format.specs.Plan.{Ran, got, bad, run}
-use Rattle.format.specs.Sections.{node-count, layout}
+use Rattle.format.specs.Sections.{layout}
 use Rattle.format.specs.ContentChecks.{grounds-of, content-check}
 use Rattle.format.specs.Items.{refusal-of, at-front, numbers-at}
 use Rattle.format.specs.ItemLaws.{le-or-lt}
-use Rattle.format.specs.SectionLaws.{section-there}
 use Rattle.reader.specs.declared.Counts.{Counts}
 use Rattle.reader.specs.declared.Reading.{Reading}
 use Rattle.reader.specs.declared.Reading.the-variants.{Read, Refused}
@@ -28,7 +28,7 @@ use Rattle.reader.specs.declared.Layout.{Layout}
 use Rattle.reader.specs.declared.Layout.the-variants.{At, Bad}
 use Rattle.reader.specs.Reading.{Outcome, refused-outcome, counts-of, checked, laid, reading, ReadAs}
 use Rattle.reader.specs.Laying.{layout-refusal, check-refusal, Placed, Lays, lays-bad, lays-long, lays-at}
-use Rattle.reader.specs.LayoutLaws.{placed-run, placed-nodes, placed-records, layout-runs}
+use Rattle.reader.specs.LayoutLaws.{layout-runs, nodes-there, lent-there, runs-end, placed-run, placed-nodes, placed-records}
 pub use Rattle.reader.specs.Laying.{Way, few-nodes, few-records, stopped, longer, faulty, whole, ReadFile}
 
 ---- By the parts of a reading ----
@@ -84,12 +84,12 @@ module _ (s nodes records : List ℕ) where
   module _ {f : File} {o : Offsets} (p : Placed s f o) (h : 192 ≤ length nodes) (l : 256 ≤ length records) where
     -- the check of the numbers at their offsets
     abbrev pub checked-at : Check
-    checked-at = first (grounds-of Whole (o .counts .names) (numbers-at s (3 * o .counts .nodes) (o .nodes)) (numbers-at s (o .counts .records) (o .records)))
+    checked-at = first (grounds-of Whole (o .counts .names) (o .counts .sets) (numbers-at s (3 * o .counts .nodes) (o .nodes)) (numbers-at s (o .counts .records) (o .records)))
 
     laid-contents : reading s (length nodes) (length records) ≡ checked f checked-at
     laid-contents =
         reading-laid s (length nodes) (length records) h l ∙ laid-checked s (run s 0 layout) (placed-run s p)
-        ∙ (λ i. checked f (first (grounds-of Whole (sym (ap (λ (c : Counts). c .names) (p .counts-are)) i) (placed-nodes s p i) (placed-records s p i))))
+        ∙ (λ i. checked f (first (grounds-of Whole (sym (p .counts-are) i .names) (sym (p .counts-are) i .sets) (placed-nodes s p i) (placed-records s p i))))
 
     pub read-faulty : {k : Check} {q r : Refusal} → k ≡ checked-at → k ≡ check.Refused q → r ≡ check-refusal k → reading s (length nodes) (length records) ≡ refused-outcome r
     unfolding checked check-refusal
@@ -147,7 +147,19 @@ read-file s nr rr {c} e = by (way s nr rr) refl e
     by (faulty f end h l g w k) q a = read-not-refused (sym a)
     by (whole f end h l g w k) q a =
         let r = layout-runs s g in
-        let t = section-there s (r .from) node-count 3 (r .nodes-run) in
+        let t = nodes-there s r in
+        let u = lent-there s r in
         let d : c ≡ counts-of f = cc in
         let n : c .nodes ≡ length (f .nodes) / 3 = ap (λ (c′ : Counts). c′ .nodes) d in
-        record { file = f; is = q; counted = d; whole-nodes = omega (arith, t .sized); some-nodes = omega (arith, t .sized, t .low) }
+        let m : c .sets ≡ u .n = ap (λ (c′ : Counts). c′ .sets) d ∙ omega (arith, u .sized) in
+        let at : c .«sets_at» ≡ end - 32 * u .n = ap (λ (c′ : Counts). c′ .«sets_at») d ∙ omega (arith, runs-end s r, u .sized) in
+        record {
+          file = f;
+          is = q;
+          counted = d;
+          whole-nodes = omega (arith, t .sized);
+          some-nodes = omega (arith, t .sized, t .low);
+          whole-sets = omega (arith, u .sized);
+          sets-inside = omega (arith, u .inside);
+          sets-are = ap (λ (k : ℕ). drop k s) at ∙ sym (take-all (32 * u .n) (drop (end - 32 * u .n) s) (rw length-drop (omega arith))) ∙ sym (u .is);
+        }

@@ -39,7 +39,7 @@ unfoldable pub checked : File → Check → Outcome
 checked f check.Fine = read-outcome f
 checked f (check.Refused r) = refused-outcome r
 
--- 21: "bytes after the last record", at "the first byte too many"
+-- 21: "bytes after the last record", at "the first byte too many"; 02, Four: "21 now follows the sets"
 unfoldable pub laid : List ℕ → Ran File → Outcome
 unfolding checked
 laid s (bad n p) = refused-outcome (refusal-of n p)

@@ -1,5 +1,5 @@
-// The flow file's reader: a file's bytes to the counts of names, nodes and records and the two tables, or a refusal with its
-// number and place. What it answers is defined in specs/Reading.antt; the items and checks are those of crate `format`.
+// The flow file's reader: a file's bytes to the counts of names, nodes and records, the place of the sets and the two tables, or a
+// refusal with its number and place. What it answers is defined in specs/Reading.antt; the items and checks are those of crate `format`.
 use flow::Check;
 use flow::Extent;
 use flow::Refusal;
@@ -34,11 +34,14 @@ const NODE_ROOM: usize = 3 * flow::MOST_NODES;
 
 const RECORD_ROOM: usize = flow::MOST_RECORDS;
 
-// How many names, nodes and records a file has.
+// How many names, nodes and records a file has; the offset of its first set, or the file's length where it has none, and how many sets
+// there are.
 pub struct Counts {
     pub names: u16,
     pub nodes: u16,
     pub records: u16,
+    pub sets_at: usize,
+    pub sets: u16,
 }
 
 pub enum Reading {
@@ -78,7 +81,8 @@ fn check_refusal(check: Check) -> Refusal
     }
 }
 
-// The three sections, to the end of the file: their counts and offsets, or the first refusal of 15 to 18, 1, 3, 10, 11 and 21.
+// The sections, to the end of the file: their counts and offsets, or the first refusal of 15 to 18, 1, 3, 10, 11, 23 and 21. The sets are
+// the last bytes of a file.
 fn lay_out(file: &[u8]) -> Layout
     ensures { λ r. ⌜ Lays (now (file .entry)) r ⌝ }
 {
@@ -94,7 +98,11 @@ fn lay_out(file: &[u8]) -> Layout
     let Item::Has(k) = records else {
         return Layout::Bad(format::refusal_in(records));
     };
-    let end = k.next.at;
+    let sets = format::sets_at(file, k.next);
+    let Item::Has(t) = sets else {
+        return Layout::Bad(format::refusal_in(sets));
+    };
+    let end = t.next.at;
     if end < file.len() {
         return Layout::Bad(format::refusal(format::TOO_LONG, end));
     }
@@ -102,6 +110,8 @@ fn lay_out(file: &[u8]) -> Layout
         names: e.value,
         nodes: n.value / 3,
         records: k.value,
+        sets_at: end - flow::SET_BYTES * t.value as usize,
+        sets: t.value,
     };
     Layout::At(Offsets {
         counts,
@@ -111,10 +121,10 @@ fn lay_out(file: &[u8]) -> Layout
     })
 }
 
-// 4 to 9, 12, 13, 19 and 20, of the numbers at their offsets: they are checked on copies.
+// 4 to 9, with 22, 12, 13, 19 and 20, of the numbers at their offsets: they are checked on copies.
 fn check_numbers(file: &[u8], o: Offsets) -> Check
     requires { ⌜ Inside (now file) o ⌝ }
-    ensures { λ r. ⌜ r ≡ first (grounds-of Whole (o .counts .names) (numbers-at (now (file .entry)) (3 * o .counts .nodes) (o .nodes)) (numbers-at (now (file .entry)) (o .counts .records) (o .records))) ⌝ }
+    ensures { λ r. ⌜ r ≡ first (grounds-of Whole (o .counts .names) (o .counts .sets) (numbers-at (now (file .entry)) (3 * o .counts .nodes) (o .nodes)) (numbers-at (now (file .entry)) (o .counts .records) (o .records))) ⌝ }
 {
     let counts = o.counts;
     let n = 3 * counts.nodes as usize;
@@ -123,11 +133,17 @@ fn check_numbers(file: &[u8], o: Offsets) -> Check
     let mut records = [0u16; 256];
     format::fill(file, o.nodes, n, &mut nodes);
     format::fill(file, o.records, k, &mut records);
-    format::check_contents(&nodes[..n], &records[..k], counts.names, Extent::Whole)
+    format::check_contents(
+        &nodes[..n],
+        &records[..k],
+        counts.names,
+        counts.sets as usize,
+        Extent::Whole,
+    )
 }
 
-// A flow file's bytes: the counts of names, nodes and records, with the numbers of the nodes and the records at the front of the
-// two tables, whose rest stays; or a refusal, and both tables stay.
+// A flow file's bytes: the counts of names, nodes and records and the place of the sets, with the numbers of the nodes and the records at
+// the front of the two tables, whose rest stays; or a refusal, and both tables stay.
 pub fn read(file: &[u8], nodes: &mut [u16], records: &mut [u16]) -> Reading
     ensures { λ r. ⌜ ReadAs (now (file .entry)) (now (nodes .entry)) (now (records .entry)) (now (nodes .exit)) (now (records .exit)) r ⌝ }
 {

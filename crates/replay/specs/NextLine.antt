@@ -75,11 +75,11 @@ pub record NextCase (c : Check) (flow : State) (ns rs : List ℕ) (allowance roo
   pub work-after : after ≡ bytes-by c (room-wanted ns rs) (replicate n filler)
 
 -- of `next_lists`: the list and the work bytes before the call, and after it
-abbrev pub NextCaseOf : List ℕ → List ℕ → ℕ → List ℕ → List ℕ → List ℕ → List ℕ → List ℕ → List ℕ → ℕ → Type 0
-NextCaseOf ns rs allowance list work list′ after out out′ r =
-    NextCase (next-check ns rs (length list) (length work)) (flow-of ns) ns rs allowance (length list) (length work) list′ after out out′ r
+abbrev pub NextCaseOf : List ℕ → List ℕ → List ℕ → ℕ → List ℕ → List ℕ → List ℕ → List ℕ → List ℕ → List ℕ → ℕ → Type 0
+NextCaseOf sets ns rs allowance list work list′ after out out′ r =
+    NextCase (next-check sets ns rs (length list) (length work)) (flow-of sets ns) ns rs allowance (length list) (length work) list′ after out out′ r
 
 -- of `next_named_lists`
-abbrev pub NamedNextCaseOf : List ℕ → List ℕ → List ℕ → ℕ → List ℕ → List ℕ → List ℕ → List ℕ → List ℕ → List ℕ → ℕ → Type 0
-NamedNextCaseOf s ns rs allowance list work list′ after out out′ r =
-    NextCase (named-next-check s ns rs (length list) (length work)) (named-flow s ns) ns rs allowance (length list) (length work) list′ after out out′ r
+abbrev pub NamedNextCaseOf : List ℕ → List ℕ → List ℕ → List ℕ → ℕ → List ℕ → List ℕ → List ℕ → List ℕ → List ℕ → List ℕ → ℕ → Type 0
+NamedNextCaseOf s sets ns rs allowance list work list′ after out out′ r =
+    NextCase (named-next-check s sets ns rs (length list) (length work)) (named-flow s sets ns) ns rs allowance (length list) (length work) list′ after out out′ r

@@ -34,13 +34,23 @@ pub record TablesKept (a : Reading) (nodes records : List ℕ) : Type 0 where
 
 ---- The line ----
 
--- "read" in ASCII, and the counts of names, nodes and records
+-- the offset and count of the sets
+unfoldable pub sets-text : Counts → List ℕ
+sets-text c = spaced (c .«sets_at») ++ spaced (c .sets)
+
+-- "read" in ASCII, the counts of names, nodes and records, and what is told of the sets
 unfoldable pub counts-text : Counts → List ℕ
-counts-text c = (114 ∷ 101 ∷ 97 ∷ 100 ∷ []) ++ (spaced (c .names) ++ (spaced (c .nodes) ++ spaced (c .records)))
+unfolding sets-text
+counts-text c = (114 ∷ 101 ∷ 97 ∷ 100 ∷ []) ++ (spaced (c .names) ++ (spaced (c .nodes) ++ (spaced (c .records) ++ sets-text c)))
 
 unfoldable pub read-text : Reading → List ℕ
 read-text (Read c) = counts-text c
 read-text (Refused r) = refused-text r
+
+-- the offset of the sets; 0 of a refusal
+unfoldable pub sets-place : Reading → ℕ
+sets-place (Read c) = c .«sets_at»
+sets-place (Refused r) = 0
 
 -- what the answer tells, and whether the tables are clean
 unfoldable pub read-line : Reading → Bool → List ℕ

@@ -1,9 +1,11 @@
--- The tables are found clean exactly if what is promised to stay does, and the reader leaves them so. Assumes nothing.
-use Prim.Native.Nat.{ℕ}
+-- The tables are found clean exactly if what is promised to stay does, the reader leaves them so, and there is room in the line for the
+-- offset of the sets. Assumes nothing.
+use Prim.Native.Nat.{ℕ, _≤_}
+use native.Mathlib.Omega.{arith}
 use mathlib.Core.Bool.{Bool, true}
 use mathlib.Core.List.{List, []}
 use mathlib.Core.Logic.{_↔_}
-use mathlib.Core.Path.{_≡_, refl, sym, ap, ap₂, _∙_, subst₂}
+use mathlib.Core.Path.{_≡_, refl, sym, ap, ap₂, _∙_, subst, subst₂}
 use lib.ListN.{length, replicate, length-replicate}
 use Rattle.flow.specs.declared.Refusal.{Refusal}
 use Rattle.flow.specs.Tests.{both-true}
@@ -13,9 +15,10 @@ use Rattle.reader.specs.declared.Counts.{Counts}
 use Rattle.reader.specs.declared.Reading.{Reading}
 use Rattle.reader.specs.declared.Reading.the-variants.{Read, Refused}
 use Rattle.reader.specs.Reading.{Outcome, reading, ReadAs}
+use Rattle.reader.specs.LayoutLaws.{layout-runs, runs-near, runs-end}
 use Rattle.reader.specs.ReaderLaws.{Way, few-nodes, few-records, stopped, longer, faulty, whole, way, read-file, read-not-refused}
 use Rattle.replay.specs.Filler.{number-filler, kept}
-use Rattle.replay.specs.ReadLine.{nodes-taken, records-taken, tables-clean, TablesKept, read-line}
+use Rattle.replay.specs.ReadLine.{nodes-taken, records-taken, tables-clean, TablesKept, sets-place, read-line}
 use Rattle.replay.specs.FillerLaws.{kept-exactly, kept-front}
 
 ---- The promise ----
@@ -32,6 +35,22 @@ tables-clean-exactly a nodes records = (λ e. to e, λ k. from k)
 
     from : TablesKept a nodes records → tables-clean a nodes records ≡ true
     from k = rw (kept-exactly number-filler (nodes-taken a) nodes .1 (k .nodes-kept), kept-exactly number-filler (records-taken a) records .1 (k .records-kept))
+
+---- The offset of the sets ----
+
+-- it is an offset in a file that can be read
+place-near : (s : List ℕ) (nr rr : ℕ) {o : Outcome} → Way s nr rr o → sets-place (o .answer) ≤ 22408
+unfolding sets-place
+place-near s nr rr (few-nodes h) = omega arith
+place-near s nr rr (few-records h) = omega arith
+place-near s nr rr (stopped h l g) = omega arith
+place-near s nr rr (longer f end h l g w) = omega arith
+place-near s nr rr (faulty f end h l g w k) = omega arith
+place-near s nr rr (whole f end h l g w k) = let r = layout-runs s g in omega (arith, runs-end s r, runs-near s r .2)
+
+pub place-short : {s nodes records nodes′ records′ : List ℕ} {a : Reading} → ReadAs s nodes records nodes′ records′ a → sets-place a ≤ 22408
+place-short {s} {nodes} {records} h =
+    subst (λ (a : Reading). sets-place a ≤ 22408) (sym (h .answer)) (place-near s (length nodes) (length records) (way s (length nodes) (length records)))
 
 ---- The reader leaves them clean ----
 

@@ -40,5 +40,5 @@ write-line a file clean = write-text a file ++ noted clean
 
 -- an answer that there is room for in the line: what was written stands in the file, and is no longer than a file can be
 pub record Printable (a : Writing) (file : List ℕ) : Type 0 where
-  pub short : length-written a ≤ 21894
+  pub short : length-written a ≤ 22408
   pub there : length-written a ≤ length file

@@ -31,6 +31,7 @@ fn write_case(answer: Answer, numbers: usize, records: usize, work: &[u8], out: 
 pub fn judge_lists(
     nodes: &[u16],
     records: &[u16],
+    sets: &[u8],
     work: &mut [u8],
     allowance: u32,
     out: &mut [u8],
@@ -38,12 +39,12 @@ pub fn judge_lists(
     requires { ⌜ length (now nodes) ≤ 400 ⌝ }
     requires { ⌜ length (now records) ≤ 400 ⌝ }
     requires { ⌜ 49 ≤ length (now out) ⌝ }
-    ensures { λ r. ⌜ Put (case-line (judged (now (nodes .entry)) (now (records .entry)) (length (now (work .entry))) allowance) true) (now (out .entry)) 0 (now (out .exit)) r ⌝ }
-    ensures { λ r. ⌜ now (work .exit) ≡ work-after (now (nodes .entry)) (now (records .entry)) (replicate (length (now (work .entry))) filler) ⌝ }
+    ensures { λ r. ⌜ Put (case-line (judged (now (sets .entry)) (now (nodes .entry)) (now (records .entry)) (length (now (work .entry))) allowance) true) (now (out .entry)) 0 (now (out .exit)) r ⌝ }
+    ensures { λ r. ⌜ now (work .exit) ≡ work-after (now (sets .entry)) (now (nodes .entry)) (now (records .entry)) (replicate (length (now (work .entry))) filler) ⌝ }
     ensures { λ r. ⌜ r ≤ 49 ⌝ }
 {
     filler::fill(work);
-    let answer = judge::judge(nodes, records, work, allowance);
+    let answer = judge::judge(nodes, records, sets, work, allowance);
     write_case(answer, nodes.len(), records.len(), work, out)
 }
 
@@ -52,6 +53,7 @@ pub fn judge_named_lists(
     names: &[u8],
     nodes: &[u16],
     records: &[u16],
+    sets: &[u8],
     work: &mut [u8],
     allowance: u32,
     out: &mut [u8],
@@ -59,11 +61,11 @@ pub fn judge_named_lists(
     requires { ⌜ length (now nodes) ≤ 400 ⌝ }
     requires { ⌜ length (now records) ≤ 400 ⌝ }
     requires { ⌜ 49 ≤ length (now out) ⌝ }
-    ensures { λ r. ⌜ Put (case-line (judged-named (now (names .entry)) (now (nodes .entry)) (now (records .entry)) (length (now (work .entry))) allowance) true) (now (out .entry)) 0 (now (out .exit)) r ⌝ }
-    ensures { λ r. ⌜ now (work .exit) ≡ named-work-after (now (names .entry)) (now (nodes .entry)) (now (records .entry)) (replicate (length (now (work .entry))) filler) ⌝ }
+    ensures { λ r. ⌜ Put (case-line (judged-named (now (names .entry)) (now (sets .entry)) (now (nodes .entry)) (now (records .entry)) (length (now (work .entry))) allowance) true) (now (out .entry)) 0 (now (out .exit)) r ⌝ }
+    ensures { λ r. ⌜ now (work .exit) ≡ named-work-after (now (names .entry)) (now (sets .entry)) (now (nodes .entry)) (now (records .entry)) (replicate (length (now (work .entry))) filler) ⌝ }
     ensures { λ r. ⌜ r ≤ 49 ⌝ }
 {
     filler::fill(work);
-    let answer = judge::judge_named(names, nodes, records, work, allowance);
+    let answer = judge::judge_named(names, nodes, records, sets, work, allowance);
     write_case(answer, nodes.len(), records.len(), work, out)
 }

@@ -39,12 +39,14 @@ const NAMED: u8 = 1;
 // The most that a case asks for.
 const MOST_NUMBERS: usize = 400;
 
+const MOST_SETS: usize = 600;
+
 const MOST_WORK: usize = 40000;
 
 const MOST_ROOM: usize = 70000;
 
 // A call as its case tells it: the function and whether names are lent; the allowance; and how many work bytes, how much room, how many
-// node numbers and records are lent. What the function does not use may be anything.
+// node numbers, records and bytes of sets are lent. What the function does not use may be anything.
 struct Call {
     function: u8,
     named: bool,
@@ -53,6 +55,7 @@ struct Call {
     room: u32,
     nodes: u16,
     records: u16,
+    sets: u16,
 }
 
 // A flow file: a length of two bytes and the file. Prints the program's line.
@@ -72,7 +75,7 @@ fn file_case() -> bool {
 }
 
 // A call of the judge, with the names or without.
-fn judge_call(call: Call, names: &[u8], nodes: &[u16], records: &[u16]) -> bool
+fn judge_call(call: Call, names: &[u8], nodes: &[u16], records: &[u16], sets: &[u8]) -> bool
     requires { ⌜ length (now nodes) ≤ 400 ⌝ }
     requires { ⌜ length (now records) ≤ 400 ⌝ }
 {
@@ -87,18 +90,26 @@ fn judge_call(call: Call, names: &[u8], nodes: &[u16], records: &[u16]) -> bool
             names,
             nodes,
             records,
+            sets,
             &mut work[..lent],
             call.allowance,
             &mut out,
         );
         return io::write_all(STDOUT_FILENO, &out[..end]);
     }
-    let end = judge_line::judge_lists(nodes, records, &mut work[..lent], call.allowance, &mut out);
+    let end = judge_line::judge_lists(
+        nodes,
+        records,
+        sets,
+        &mut work[..lent],
+        call.allowance,
+        &mut out,
+    );
     io::write_all(STDOUT_FILENO, &out[..end])
 }
 
 // A call of `next`, with the names or without.
-fn next_call(call: Call, names: &[u8], nodes: &[u16], records: &[u16]) -> bool
+fn next_call(call: Call, names: &[u8], nodes: &[u16], records: &[u16], sets: &[u8]) -> bool
     requires { ⌜ length (now nodes) ≤ 400 ⌝ }
     requires { ⌜ length (now records) ≤ 400 ⌝ }
 {
@@ -118,6 +129,7 @@ fn next_call(call: Call, names: &[u8], nodes: &[u16], records: &[u16]) -> bool
             names,
             nodes,
             records,
+            sets,
             &mut list[..room],
             &mut work[..lent],
             call.allowance,
@@ -128,6 +140,7 @@ fn next_call(call: Call, names: &[u8], nodes: &[u16], records: &[u16]) -> bool
     let end = next_line::next_lists(
         nodes,
         records,
+        sets,
         &mut list[..room],
         &mut work[..lent],
         call.allowance,
@@ -137,32 +150,48 @@ fn next_call(call: Call, names: &[u8], nodes: &[u16], records: &[u16]) -> bool
 }
 
 // A call of the writer.
-fn write_call(call: Call, names: &[u8], nodes: &[u16], records: &[u16]) -> bool {
+fn write_call(call: Call, names: &[u8], nodes: &[u16], records: &[u16], sets: &[u8]) -> bool {
     let room = call.room as usize;
     if MOST_ROOM < room {
         return input::bad_case();
     }
     let mut file = [0u8; 70000];
-    let mut out = [0u8; 43814];
-    let end = write_line::write_lists(names, nodes, records, &mut file[..room], &mut out);
+    let mut out = [0u8; 44842];
+    let end = write_line::write_lists(names, nodes, records, sets, &mut file[..room], &mut out);
     io::write_all(STDOUT_FILENO, &out[..end])
 }
 
 // The call of its function on what was fetched for it.
-fn call_with(call: Call, names: &[u8], nodes: &[u16], records: &[u16]) -> bool
+fn call_with(call: Call, names: &[u8], nodes: &[u16], records: &[u16], sets: &[u8]) -> bool
     requires { ⌜ length (now nodes) ≤ 400 ⌝ }
     requires { ⌜ length (now records) ≤ 400 ⌝ }
 {
     let function = call.function;
     match function {
-        JUDGE => judge_call(call, names, nodes, records),
-        NEXT => next_call(call, names, nodes, records),
-        WRITE => write_call(call, names, nodes, records),
+        JUDGE => judge_call(call, names, nodes, records, sets),
+        NEXT => next_call(call, names, nodes, records, sets),
+        WRITE => write_call(call, names, nodes, records, sets),
         _ => input::bad_case(),
     }
 }
 
-// The numbers of the nodes and the records of a call, two bytes each; and the call.
+// The sets of a call, behind the numbers; and the call.
+fn sets_lent(call: Call, names: &[u8], nodes: &[u16], records: &[u16]) -> bool
+    requires { ⌜ length (now nodes) ≤ 400 ⌝ }
+    requires { ⌜ length (now records) ≤ 400 ⌝ }
+{
+    let bytes = call.sets as usize;
+    if MOST_SETS < bytes {
+        return input::bad_case();
+    }
+    let mut sets = [0u8; 600];
+    if !input::fetch(&mut sets, bytes) {
+        return input::bad_case();
+    }
+    call_with(call, names, nodes, records, &sets[..bytes])
+}
+
+// The numbers of the nodes and the records of a call, two bytes each, before the sets.
 fn numbers_lent(call: Call, names: &[u8]) -> bool {
     let nodes = call.nodes as usize;
     let records = call.records as usize;
@@ -180,7 +209,7 @@ fn numbers_lent(call: Call, names: &[u8]) -> bool {
     if !input::fetch_numbers(&mut rs, records) {
         return input::bad_case();
     }
-    call_with(call, names, &ns[..nodes], &rs[..records])
+    sets_lent(call, names, &ns[..nodes], &rs[..records])
 }
 
 // The names section of a call, of so many bytes, before the numbers.
@@ -194,8 +223,8 @@ fn names_lent(call: Call, bytes: usize) -> bool
     numbers_lent(call, &names[..bytes])
 }
 
-// A call of the judge without names: an allowance and a work length of four bytes each, the number of node numbers and of records of two
-// bytes each, and the numbers.
+// A call of the judge without names or sets: an allowance and a work length of four bytes each, the number of node numbers and of records
+// of two bytes each, and the numbers.
 fn judge_case() -> bool {
     let mut head = [0u8; 12];
     if !input::fetch(&mut head, 12) {
@@ -209,6 +238,7 @@ fn judge_case() -> bool {
         room: 0,
         nodes: format::number_from(head[8], head[9]),
         records: format::number_from(head[10], head[11]),
+        sets: 0,
     };
     numbers_lent(call, b"")
 }
@@ -234,7 +264,7 @@ fn takes(function: u8, edition: u8, lent: u8, names: usize) -> bool {
 
 // A call with everything that may be lent: a function, an edition and whether names are lent, of a byte each; an allowance, a work
 // length and a room of four bytes each; the length of the names section, the number of node numbers and of records and the length
-// of the sets, of two bytes each; and all of these. No function takes sets.
+// of the sets, of two bytes each; and all of these.
 fn call_case() -> bool {
     let mut head = [0u8; 23];
     if !input::fetch(&mut head, 23) {
@@ -242,10 +272,6 @@ fn call_case() -> bool {
     }
     let names = format::number_from(head[15], head[16]) as usize;
     if !takes(head[0], head[1], head[2], names) {
-        return input::bad_case();
-    }
-    let sets = format::number_from(head[21], head[22]);
-    if sets != 0 {
         return input::bad_case();
     }
     let call = Call {
@@ -256,6 +282,7 @@ fn call_case() -> bool {
         room: input::four(head[11], head[12], head[13], head[14]),
         nodes: format::number_from(head[17], head[18]),
         records: format::number_from(head[19], head[20]),
+        sets: format::number_from(head[21], head[22]),
     };
     names_lent(call, names)
 }
@@ -275,7 +302,7 @@ fn read_case() -> bool {
     }
     let mut nodes = [0u16; 65535];
     let mut records = [0u16; 65535];
-    let mut out = [0u8; 64];
+    let mut out = [0u8; 66];
     let end = read_line::read_tables(
         &file[..n],
         &mut nodes[..node_room],

@@ -99,6 +99,7 @@ fn write_case(answer: Next, list: &[u16], clean: bool, out: &mut [u8]) -> usize
 pub fn next_lists(
     nodes: &[u16],
     records: &[u16],
+    sets: &[u8],
     list: &mut [u16],
     work: &mut [u8],
     allowance: u32,
@@ -107,12 +108,12 @@ pub fn next_lists(
     requires { ⌜ length (now nodes) ≤ 400 ⌝ }
     requires { ⌜ length (now records) ≤ 400 ⌝ }
     requires { ⌜ 2884 ≤ length (now out) ⌝ }
-    ensures { λ r. ⌜ NextCaseOf (now (nodes .entry)) (now (records .entry)) allowance (now (list .entry)) (now (work .entry)) (now (list .exit)) (now (work .exit)) (now (out .entry)) (now (out .exit)) r ⌝ }
+    ensures { λ r. ⌜ NextCaseOf (now (sets .entry)) (now (nodes .entry)) (now (records .entry)) allowance (now (list .entry)) (now (work .entry)) (now (list .exit)) (now (work .exit)) (now (out .entry)) (now (out .exit)) r ⌝ }
     ensures { λ r. ⌜ r ≤ 2884 ⌝ }
 {
     filler::fill_numbers(list);
     filler::fill(work);
-    let answer = ahead::next(nodes, records, list, work, allowance);
+    let answer = ahead::next(nodes, records, sets, list, work, allowance);
     let clean = clean(answer, nodes.len(), records.len(), list, work);
     write_case(answer, list, clean, out)
 }
@@ -122,6 +123,7 @@ pub fn next_named_lists(
     names: &[u8],
     nodes: &[u16],
     records: &[u16],
+    sets: &[u8],
     list: &mut [u16],
     work: &mut [u8],
     allowance: u32,
@@ -130,12 +132,12 @@ pub fn next_named_lists(
     requires { ⌜ length (now nodes) ≤ 400 ⌝ }
     requires { ⌜ length (now records) ≤ 400 ⌝ }
     requires { ⌜ 2884 ≤ length (now out) ⌝ }
-    ensures { λ r. ⌜ NamedNextCaseOf (now (names .entry)) (now (nodes .entry)) (now (records .entry)) allowance (now (list .entry)) (now (work .entry)) (now (list .exit)) (now (work .exit)) (now (out .entry)) (now (out .exit)) r ⌝ }
+    ensures { λ r. ⌜ NamedNextCaseOf (now (names .entry)) (now (sets .entry)) (now (nodes .entry)) (now (records .entry)) allowance (now (list .entry)) (now (work .entry)) (now (list .exit)) (now (work .exit)) (now (out .entry)) (now (out .exit)) r ⌝ }
     ensures { λ r. ⌜ r ≤ 2884 ⌝ }
 {
     filler::fill_numbers(list);
     filler::fill(work);
-    let answer = ahead::next_named(names, nodes, records, list, work, allowance);
+    let answer = ahead::next_named(names, nodes, records, sets, list, work, allowance);
     let clean = clean(answer, nodes.len(), records.len(), list, work);
     write_case(answer, list, clean, out)
 }

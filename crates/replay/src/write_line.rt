@@ -16,11 +16,11 @@ ghost use Rattle.replay.specs.Filler.{filler};
 ghost use Rattle.replay.specs.WriteLine.{length-written, file-clean, written-text, write-text, write-line, Printable};
 
 fn put_written(size: Size, file: &[u8], out: &mut [u8]) -> usize
-    requires { ⌜ size .length ≤ 21894 ⌝ }
+    requires { ⌜ size .length ≤ 22408 ⌝ }
     requires { ⌜ size .length ≤ length (now file) ⌝ }
-    requires { ⌜ 43807 ≤ length (now out) ⌝ }
+    requires { ⌜ 44835 ≤ length (now out) ⌝ }
     ensures { λ r. ⌜ Put (written-text size (now (file .entry))) (now (out .entry)) 0 (now (out .exit)) r ⌝ }
-    ensures { λ r. ⌜ r ≤ 43807 ⌝ }
+    ensures { λ r. ⌜ r ≤ 44835 ⌝ }
 {
     let n = size.length as usize;
     let a = line::put(b"written", out, 0);
@@ -31,9 +31,9 @@ fn put_written(size: Size, file: &[u8], out: &mut [u8]) -> usize
 
 fn put_writing(answer: Writing, file: &[u8], out: &mut [u8]) -> usize
     requires { ⌜ Printable answer (now file) ⌝ }
-    requires { ⌜ 43807 ≤ length (now out) ⌝ }
+    requires { ⌜ 44835 ≤ length (now out) ⌝ }
     ensures { λ r. ⌜ Put (write-text answer (now (file .entry))) (now (out .entry)) 0 (now (out .exit)) r ⌝ }
-    ensures { λ r. ⌜ r ≤ 43807 ⌝ }
+    ensures { λ r. ⌜ r ≤ 44835 ⌝ }
 {
     match answer {
         Writing::Written(e) => put_written(e, file, out),
@@ -59,9 +59,9 @@ fn clean(answer: Writing, file: &[u8]) -> bool
 
 fn write_case(answer: Writing, file: &[u8], clean: bool, out: &mut [u8]) -> usize
     requires { ⌜ Printable answer (now file) ⌝ }
-    requires { ⌜ 43814 ≤ length (now out) ⌝ }
+    requires { ⌜ 44842 ≤ length (now out) ⌝ }
     ensures { λ r. ⌜ Put (write-line answer (now (file .entry)) clean) (now (out .entry)) 0 (now (out .exit)) r ⌝ }
-    ensures { λ r. ⌜ r ≤ 43814 ⌝ }
+    ensures { λ r. ⌜ r ≤ 44842 ⌝ }
 {
     let end = put_writing(answer, file, out);
     text::put_note(clean, out, end)
@@ -72,15 +72,16 @@ pub fn write_lists(
     names: &[u8],
     nodes: &[u16],
     records: &[u16],
+    sets: &[u8],
     file: &mut [u8],
     out: &mut [u8],
 ) -> usize
-    requires { ⌜ 43814 ≤ length (now out) ⌝ }
-    ensures { λ r. ⌜ Put (write-line (writing (now (names .entry)) (now (nodes .entry)) (now (records .entry)) (length (now (file .entry)))) (now (file .exit)) true) (now (out .entry)) 0 (now (out .exit)) r ⌝ }
-    ensures { λ r. ⌜ now (file .exit) ≡ at-front (bytes-first (now (names .entry)) (now (nodes .entry)) (now (records .entry)) (length (now (file .entry)))) (replicate (length (now (file .entry))) filler) ⌝ }
+    requires { ⌜ 44842 ≤ length (now out) ⌝ }
+    ensures { λ r. ⌜ Put (write-line (writing (now (names .entry)) (now (nodes .entry)) (now (records .entry)) (now (sets .entry)) (length (now (file .entry)))) (now (file .exit)) true) (now (out .entry)) 0 (now (out .exit)) r ⌝ }
+    ensures { λ r. ⌜ now (file .exit) ≡ at-front (bytes-first (now (names .entry)) (now (nodes .entry)) (now (records .entry)) (now (sets .entry)) (length (now (file .entry)))) (replicate (length (now (file .entry))) filler) ⌝ }
     ensures { λ r. ⌜ Counts r (now (out .exit)) ⌝ }
 {
     filler::fill(file);
-    let answer = writer::write(names, nodes, records, file);
+    let answer = writer::write(names, nodes, records, sets, file);
     write_case(answer, file, clean(answer, file), out)
 }

@@ -19,13 +19,11 @@ use Rattle.calculus.specs.Within.{Within}
 use Rattle.calculus.specs.Ahead.{may-follow}
 use Rattle.calculus.specs.Search.{next}
 use Rattle.calculus.specs.Spending.{Out as Found, spent, back, bump, chain, triesB, visitB}
-use Rattle.flow.specs.declared.Check.the-variants.{Fine}
 use Rattle.flow.specs.Nodes.{under-le}
 use Rattle.flow.specs.Kinds.{node, is-standard, shape}
 use Rattle.flow.specs.Cues.{cued, cue-record, cue-records}
 use Rattle.flow.specs.Refusals.{count, root}
-use Rattle.flow.specs.Checks.{table-check}
-use Rattle.flow.specs.FineTable.{FineTable, fine-table, fine-tree}
+use Rattle.flow.specs.FineTable.{FineTable, fine-tree}
 use Rattle.flow.specs.Drawn.{flow-by}
 use Rattle.flow.specs.OneFlow.{flow-standard, flow-compensable, flow-drawn}
 use Rattle.states.specs.declared.Sense.the-variants.{Drawn}
@@ -42,10 +40,7 @@ use Rattle.search.specs.Searches.{role-of, LeftWithin, SearchReady, Sear
 
 ---- All modes 0 are the drawn flow ----
 
-module _ (ns : List ℕ) (passed : table-check ns ≡ Fine) where
-  table : FineTable ns
-  table = fine-table ns passed
-
+module _ (ns : List ℕ) (table : FineTable ns) where
   pub state-drawn : (t : List ℕ) → ((j : ℕ) → j < count ns → modes t j ≡ 0) → state ns (role-of ns) t ≡ flow-by cued ns
   unfolding state role-of
   state-drawn t clear = by (is-standard (node ns (root ns))) refl
@@ -54,7 +49,7 @@ module _ (ns : List ℕ) (passed : table-check ns ≡ Fine) where
       same = part-frame ns (fine-tree ns table) (modes t) none-done (root ns) (λ j u. clear j (omega (arith, under-le (shape ns) (fine-tree ns table) u, table .some)))
 
       means : {s : State} → flow-by cued ns ≡ s → Means s (part ns none-done (root ns))
-      means e = subst (λ (z : State). Means z (part ns none-done (root ns))) e (drawn-means ns (fine-tree ns table) (flow-drawn cued ns passed))
+      means e = subst (λ (z : State). Means z (part ns none-done (root ns))) e (drawn-means ns (fine-tree ns table) (flow-drawn cued ns table))
 
       by : (b : Bool) → is-standard (node ns (root ns)) ≡ b → state ns (role-of ns) t ≡ flow-by cued ns
       by true e =
@@ -122,7 +117,7 @@ bytes-after n m work later used =
 
 module _ {ns xs work : List ℕ} (asked : SearchReady ns xs work) where
   fine : FineTable ns
-  fine = fine-table ns (asked .table)
+  fine = asked .table
 
   pub some-nodes : 3 ≤ length ns
   some-nodes = omega (arith, fine .some)

@@ -10,11 +10,10 @@ use Rattle.calculus.specs.Records.{Record, State}
 use Rattle.calculus.specs.Within.{Within}
 use Rattle.calculus.specs.Ahead.{may-follow}
 use Rattle.calculus.specs.Spending.{Out as Found, spent, back, visitB}
-use Rattle.flow.specs.declared.Check.the-variants.{Fine}
 use Rattle.flow.specs.Kinds.{node, is-standard}
 use Rattle.flow.specs.Cues.{cued, failed-cue, cue-record, cue-records}
 use Rattle.flow.specs.Refusals.{count, root}
-use Rattle.flow.specs.Checks.{table-check}
+use Rattle.flow.specs.Fine.{FineTable}
 use Rattle.flow.specs.Drawn.{flow-by}
 use Rattle.states.specs.declared.Sense.the-variants.{Drawn}
 use Rattle.states.specs.declared.Role.{Role}
@@ -34,7 +33,7 @@ LeftWithin allowance Spent = Unit {0}
 LeftWithin allowance (Back trip) = trip .left ≤ allowance
 
 pub record SearchReady (ns xs work : List ℕ) : Type 0 where
-  pub table : table-check ns ≡ Fine
+  pub table : FineTable ns
   pub few : length xs ≤ 256
   pub low : (i : ℕ) → i < length xs → getD xs i 0 ≤ failed-cue
   pub fits : Within (flow-by cued ns) (cue-records xs)

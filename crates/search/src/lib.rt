@@ -42,10 +42,10 @@ pub enum Out {
 }
 
 // An ask whose record can follow. No cue is as low, and neither is 0, which asks nothing.
-pub const FOLLOWS: u32 = 1;
+pub const FOLLOWS: u64 = 1;
 
 // A closing's rank.
-fn rank_of(cue: u32) -> u8
+fn rank_of(cue: u64) -> u8
     ensures { λ r. ⌜ (r < 3) × (closing r ≡ closing-of cue) ⌝ }
 {
     match cue {
@@ -56,7 +56,7 @@ fn rank_of(cue: u32) -> u8
 }
 
 // Whether what is viewed can end by this closing.
-fn ends_by(v: View, cue: u32) -> bool
+fn ends_by(v: View, cue: u64) -> bool
     ensures { λ r. ⌜ r ≡ ends-by v (closing-of cue) ⌝ }
 {
     match cue {
@@ -75,7 +75,7 @@ fn root_of(ns: &[u16]) -> usize
 }
 
 // How many successors a state has by an event.
-fn successors(ns: &[u16], t: &[u8], cue: u32, c: &mut [u32; 64], role: Role) -> u32
+fn successors(ns: &[u16], t: &[u8], cue: u64, c: &mut [u32; 64], role: Role) -> u32
     requires { ⌜ Spot (now ns) (now t) (root (now ns)) ⌝ }
     requires { ⌜ (3 ≤ length (now ns)) × (cue < done-cue) ⌝ }
     ensures { λ r. ⌜ SuccessorsCounted (now (ns .entry)) role cue (now (t .entry)) (now (c .exit)) r ⌝ }
@@ -94,7 +94,7 @@ fn successors(ns: &[u16], t: &[u8], cue: u32, c: &mut [u32; 64], role: Role) -> 
 }
 
 // How many a part that runs has by a closing. What is known of its parts is kept in d, for the compensations to be chosen by.
-fn closings(ns: &[u16], t: &[u8], cue: u32, d: &mut [u32; 576]) -> u32
+fn closings(ns: &[u16], t: &[u8], cue: u64, d: &mut [u32; 576]) -> u32
     requires { ⌜ Spot (now ns) (now t) (root (now ns)) ⌝ }
     requires { ⌜ (3 ≤ length (now ns)) × ((done-cue ≤ cue) × (cue ≤ failed-cue)) ⌝ }
     ensures { λ r. ⌜ ClosingsCounted (now (ns .entry)) cue (now (t .entry)) (now (d .exit)) r ⌝ }
@@ -105,7 +105,7 @@ fn closings(ns: &[u16], t: &[u8], cue: u32, d: &mut [u32; 576]) -> u32
 }
 
 // The modes become those of the k-th successor.
-fn apply(ns: &[u16], t: &mut [u8], cue: u32, c: &[u32; 64], d: &[u32], role: Role, k: u32)
+fn apply(ns: &[u16], t: &mut [u8], cue: u64, c: &[u32; 64], d: &[u32], role: Role, k: u32)
     requires { ⌜ Spot (now ns) (now t) (root (now ns)) ⌝ }
     requires { ⌜ (3 ≤ length (now ns)) × Inner role cue ⌝ }
     requires { ⌜ RightCounts (now ns) role cue (now t) (now c) (now d) ⌝ }
@@ -139,7 +139,7 @@ fn apply(ns: &[u16], t: &mut [u8], cue: u32, c: &[u32; 64], d: &[u32], role: Rol
 }
 
 // A closing makes of a part that runs its compensation.
-fn role_after(role: Role, cue: u32) -> Role
+fn role_after(role: Role, cue: u64) -> Role
     ensures { λ r. ⌜ r ≡ role-next role cue ⌝ }
 {
     match role {
@@ -155,7 +155,7 @@ fn role_after(role: Role, cue: u32) -> Role
 }
 
 // Whether the root can end by the last record.
-fn can_end(ns: &[u16], t: &[u8], cue: u32, role: Role) -> bool
+fn can_end(ns: &[u16], t: &[u8], cue: u64, role: Role) -> bool
     requires { ⌜ Spot (now ns) (now t) (root (now ns)) ⌝ }
     requires { ⌜ (3 ≤ length (now ns)) × Fits (state (now ns) role (now t)) (cue-records (cue ∷ [])) ⌝ }
     ensures { λ r. ⌜ next (state (now (ns .entry)) role (now (t .entry))) (cue-record cue) ≡ only r (over ∷ []) ⌝ }
@@ -172,7 +172,7 @@ fn can_end(ns: &[u16], t: &[u8], cue: u32, role: Role) -> bool
 }
 
 // The last record, a closing: nothing left, if the root can end so.
-fn finish(ns: &[u16], t: &[u8], cue: u32, role: Role, left: u32) -> Out
+fn finish(ns: &[u16], t: &[u8], cue: u64, role: Role, left: u32) -> Out
     requires { ⌜ Spot (now ns) (now t) (root (now ns)) ⌝ }
     requires { ⌜ (3 ≤ length (now ns)) × Fits (state (now ns) role (now t)) (cue-records (cue ∷ [])) ⌝ }
     ensures { λ r. ⌜ out-of r ≡ onward (state (now (ns .entry)) role (now (t .entry))) cue [] left ⌝ }
@@ -196,7 +196,7 @@ fn finish(ns: &[u16], t: &[u8], cue: u32, role: Role, left: u32) -> Out
 }
 
 // Whether the root can close by this closing.
-fn closes_by(ns: &[u16], t: &[u8], cue: u32, role: Role) -> bool
+fn closes_by(ns: &[u16], t: &[u8], cue: u64, role: Role) -> bool
     requires { ⌜ Spot (now ns) (now t) (root (now ns)) ⌝ }
     requires { ⌜ (3 ≤ length (now ns)) × ((done-cue ≤ cue) × (cue ≤ failed-cue)) ⌝ }
     ensures { λ r. ⌜ r ≡ may-follow [] (state (now (ns .entry)) role (now (t .entry))) (cue-record cue) ⌝ }
@@ -213,7 +213,7 @@ fn closes_by(ns: &[u16], t: &[u8], cue: u32, role: Role) -> bool
 }
 
 // Whether the record of a cue can follow in this state.
-fn follows(ns: &[u16], t: &[u8], cue: u32, role: Role) -> bool
+fn follows(ns: &[u16], t: &[u8], cue: u64, role: Role) -> bool
     requires { ⌜ Spot (now ns) (now t) (root (now ns)) ⌝ }
     requires { ⌜ (3 ≤ length (now ns)) × (cue ≤ failed-cue) ⌝ }
     ensures { λ r. ⌜ r ≡ may-follow [] (state (now (ns .entry)) role (now (t .entry))) (cue-record cue) ⌝ }
@@ -226,7 +226,7 @@ fn follows(ns: &[u16], t: &[u8], cue: u32, role: Role) -> bool
 }
 
 // An ask whose record can follow in this state is answered; others stay.
-fn answer(ns: &[u16], t: &[u8], cue: u32, role: Role) -> u32
+fn answer(ns: &[u16], t: &[u8], cue: u64, role: Role) -> u64
     requires { ⌜ Spot (now ns) (now t) (root (now ns)) ⌝ }
     requires { ⌜ (3 ≤ length (now ns)) × (cue ≤ failed-cue) ⌝ }
     ensures { λ r. ⌜ r ≡ answered (state (now (ns .entry)) role (now (t .entry))) [] cue ⌝ }
@@ -242,7 +242,7 @@ fn answer(ns: &[u16], t: &[u8], cue: u32, role: Role) -> u32
 }
 
 // The asks are answered by this state, where the records end. What is answered already is not tried again.
-fn gather(ns: &[u16], t: &[u8], role: Role, asks: &mut [u32])
+fn gather(ns: &[u16], t: &[u8], role: Role, asks: &mut [u64])
     requires { ⌜ Spot (now ns) (now t) (root (now ns)) ⌝ }
     requires { ⌜ (3 ≤ length (now ns)) × Asking (now asks) ⌝ }
     ensures { λ _. ⌜ now (asks .exit) ≡ map (answered (state (now (ns .entry)) role (now (t .entry))) []) (now (asks .entry)) ⌝ }
@@ -255,7 +255,7 @@ fn gather(ns: &[u16], t: &[u8], role: Role, asks: &mut [u32])
 }
 
 // The records end here: what is asked is answered, and there is no more to follow.
-fn arrive(ns: &[u16], t: &[u8], role: Role, asks: &mut [u32], left: u32) -> Out
+fn arrive(ns: &[u16], t: &[u8], role: Role, asks: &mut [u64], left: u32) -> Out
     requires { ⌜ Spot (now ns) (now t) (root (now ns)) ⌝ }
     requires { ⌜ (3 ≤ length (now ns)) × Asking (now asks) ⌝ }
     ensures { λ r. ⌜ r ≡ Back (record { found = false; far = 0; left = left }) ⌝ }
@@ -346,10 +346,10 @@ fn keep(
 // Into this state, unless it is remembered, and on from it.
 fn visit(
     ns: &[u16],
-    cues: &[u32],
+    cues: &[u64],
     work: &mut [u8],
     role: Role,
-    asks: &mut [u32],
+    asks: &mut [u64],
     left: u32,
     modes: &mut [u8],
     marks: &mut [u32],
@@ -373,10 +373,10 @@ fn visit(
 // Into this state, if the allowance is not used up.
 fn enter(
     ns: &[u16],
-    cues: &[u32],
+    cues: &[u64],
     work: &mut [u8],
     role: Role,
-    asks: &mut [u32],
+    asks: &mut [u64],
     left: u32,
     modes: &mut [u8],
     marks: &mut [u32],
@@ -407,7 +407,7 @@ fn further(far: u32, below: u32) -> u32
 }
 
 // Whether a part that runs closes.
-fn closes(role: Role, cue: u32) -> bool
+fn closes(role: Role, cue: u64) -> bool
     ensures { λ r. ⌜ r ≡ closes role cue ⌝ }
 {
     match role {
@@ -417,7 +417,7 @@ fn closes(role: Role, cue: u32) -> bool
 }
 
 // Whether a standard part closes: then nothing is left of it.
-fn ends(role: Role, cue: u32) -> bool
+fn ends(role: Role, cue: u64) -> bool
     ensures { λ r. ⌜ r ≡ ends role cue ⌝ }
 {
     match role {
@@ -429,10 +429,10 @@ fn ends(role: Role, cue: u32) -> bool
 // The successors are counted, and tried.
 fn visit_each(
     ns: &[u16],
-    cues: &[u32],
+    cues: &[u64],
     work: &mut [u8],
     role: Role,
-    asks: &mut [u32],
+    asks: &mut [u64],
     left: u32,
     modes: &mut [u8],
     marks: &mut [u32],
@@ -467,10 +467,10 @@ fn visit_each(
 // Those by a closing of a part that runs: its compensations.
 fn visit_closing(
     ns: &[u16],
-    cues: &[u32],
+    cues: &[u64],
     work: &mut [u8],
     role: Role,
-    asks: &mut [u32],
+    asks: &mut [u64],
     left: u32,
     modes: &mut [u8],
     marks: &mut [u32],
@@ -491,10 +491,10 @@ fn visit_closing(
 // The successors one after the other, until one finds the end.
 fn try_each(
     ns: &[u16],
-    cues: &[u32],
+    cues: &[u64],
     work: &mut [u8],
     role: Role,
-    asks: &mut [u32],
+    asks: &mut [u64],
     left: u32,
     modes: &mut [u8],
     marks: &mut [u32],
@@ -555,12 +555,12 @@ fn copy_down(work: &mut [u8], n: usize)
 // Into the k-th successor, in its own stretch of the work bytes.
 fn follow(
     ns: &[u16],
-    cues: &[u32],
+    cues: &[u64],
     c: &[u32; 64],
     d: &[u32],
     work: &mut [u8],
     role: Role,
-    asks: &mut [u32],
+    asks: &mut [u64],
     k: u32,
     left: u32,
     modes: &mut [u8],
@@ -635,10 +635,10 @@ const MARKS: usize = 6144;
 // Up to so many states, and nothing is remembered.
 fn first_search(
     ns: &[u16],
-    cues: &[u32],
+    cues: &[u64],
     work: &mut [u8],
     role: Role,
-    asks: &mut [u32],
+    asks: &mut [u64],
     allowance: u32,
 ) -> Out
     requires { ⌜ VisitReady (now ns) (now cues) (now work) role × Asking (now asks) ⌝ }
@@ -661,10 +661,10 @@ fn first_search(
 // With a memory.
 fn long_search(
     ns: &[u16],
-    cues: &[u32],
+    cues: &[u64],
     work: &mut [u8],
     role: Role,
-    asks: &mut [u32],
+    asks: &mut [u64],
     allowance: u32,
 ) -> Out
     requires { ⌜ VisitReady (now ns) (now cues) (now work) role × Asking (now asks) ⌝ }
@@ -700,10 +700,10 @@ fn with_more(trip: Trip, few: u32, allowance: u32) -> Out
 // First without a memory; if that is not enough, once more with it. What the first answered is right, so the second need not ask it.
 fn search_twice(
     ns: &[u16],
-    cues: &[u32],
+    cues: &[u64],
     work: &mut [u8],
     role: Role,
-    asks: &mut [u32],
+    asks: &mut [u64],
     allowance: u32,
 ) -> Out
     requires { ⌜ VisitReady (now ns) (now cues) (now work) role × Asking (now asks) ⌝ }
@@ -729,7 +729,7 @@ fn went_through(out: Out) -> bool
 }
 
 // Nothing is asked, and nothing answered.
-fn forget(asks: &mut [u32])
+fn forget(asks: &mut [u64])
     ensures { λ _. ⌜ now (asks .exit) ≡ replicate (length (now (asks .entry))) 0 ⌝ }
 {
     let mut j = 0;
@@ -741,7 +741,7 @@ fn forget(asks: &mut [u32])
 
 // The search from the drawn flow, in work bytes that are zero up to the room wanted when it is over. If it went through all runs without
 // an end, each ask whose record can follow has become `FOLLOWS`; else all are 0.
-pub fn ask(ns: &[u16], cues: &[u32], work: &mut [u8], asks: &mut [u32], allowance: u32) -> Out
+pub fn ask(ns: &[u16], cues: &[u64], work: &mut [u8], asks: &mut [u64], allowance: u32) -> Out
     requires { ⌜ SearchReady (now ns) (now cues) (now work) × Asking (now asks) ⌝ }
     ensures { λ r. ⌜ Asked (now (ns .entry)) (now (cues .entry)) allowance (now (work .entry)) (now (asks .entry)) r (now (work .exit)) (now (asks .exit)) ⌝ }
 {
@@ -758,10 +758,10 @@ pub fn ask(ns: &[u16], cues: &[u32], work: &mut [u8], asks: &mut [u32], allowanc
 }
 
 // The search by itself.
-pub fn search(ns: &[u16], cues: &[u32], work: &mut [u8], allowance: u32) -> Out
+pub fn search(ns: &[u16], cues: &[u64], work: &mut [u8], allowance: u32) -> Out
     requires { ⌜ SearchReady (now ns) (now cues) (now work) ⌝ }
     ensures { λ r. ⌜ Searched (now (ns .entry)) (now (cues .entry)) allowance (now (work .entry)) r (now (work .exit)) ⌝ }
 {
-    let mut none = [0u32; 1];
+    let mut none = [0u64; 1];
     ask(ns, cues, work, &mut none[..0], allowance)
 }

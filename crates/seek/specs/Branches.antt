@@ -2,7 +2,7 @@
 -- takes what the code has learnt, in the code's order; what it says of terms is in SeekLaws of the crate below. Assumes nothing.
 use Prim.Native.Nat.{ℕ, _+_, _*_, _-_, _<_, _≤_}
 use mathlib.Core.Path.{_≡_, refl, sym, _∙_, ap, subst, subst₂}
-use mathlib.Core.Bool.{true, not}
+use mathlib.Core.Bool.{Bool, true, not}
 use mathlib.Core.List.{List, map}
 use mathlib.Core.Logic.{inl, inr, _≢_}
 use native.Mathlib.Omega.{arith}
@@ -16,7 +16,8 @@ use Rattle.flow.specs.declared.Operator.{Operator}
 use Rattle.flow.specs.declared.Operator.the-variants.{Sequence, Choice, Parallel}
 use Rattle.flow.specs.declared.Two.{Two}
 use Rattle.flow.specs.declared.Node.the-variants.{Compensable}
-use Rattle.flow.specs.Kinds.{paired, compensable, node, shape}
+use Rattle.flow.specs.Kinds.{set-of, paired, compensable, node, shape}
+use Rattle.flow.specs.Cues.{cued, joint-at}
 use Rattle.flow.specs.Shapes.{Kid}
 use Rattle.flow.specs.Trees.{Tree}
 use Rattle.flow.specs.NodeChildren.{two-kids, kids-disjoint}
@@ -224,11 +225,11 @@ module _ {ns t : List ℕ} {a i w : ℕ} {g : Weight} {j : ℕ} {o : Operator} {
   two-twins : Twins ns i two
   two-twins = course-kids (h .spot) (h .is)
 
-  two-runs : runs ns t i ≡ compensable o (runs ns t (two .first)) (runs ns t (two .second))
+  two-runs : runs ns t i ≡ compensable (cued .sets) o (runs ns t (two .first)) (runs ns t (two .second))
   unfolding run-of
   two-runs = course-runs (h .spot) (h .is)
 
-  two-room : j < cap (sum-of (weight a g) (comps (compensable o (runs ns t (two .first)) (runs ns t (two .second))) (closing w)))
+  two-room : j < cap (sum-of (weight a g) (comps (compensable (cued .sets) o (runs ns t (two .first)) (runs ns t (two .second))) (closing w)))
   two-room = room-is a g (closing w) two-runs (h .room)
 
   pub first-lower : two .first < i
@@ -268,7 +269,7 @@ module _ {ns t : List ℕ} {a i w : ℕ} {g : Weight} {j : ℕ} {o : Operator} {
 
   -- the mode m leaves the child c alone, and what is picked there is what is picked in the whole
   alone-chosen : (m : ℕ) {c n : ℕ} → Kid (shape ns) i c → stand Undoing (Compensable o two) m ≡ standings.only c Undoing → {t′ : List ℕ} {p : Picked}
-      → (Picks a (ask (closing w) g n) (comps (runs ns t c) (closing w)) (left ns t′ c) p → Picks a (ask (closing w) g j) (comps (compensable o (runs ns t (two .first)) (runs ns t (two .second))) (closing w)) (left ns t′ c) p)
+      → (Picks a (ask (closing w) g n) (comps (runs ns t c) (closing w)) (left ns t′ c) p → Picks a (ask (closing w) g j) (comps (compensable (cued .sets) o (runs ns t (two .first)) (runs ns t (two .second))) (closing w)) (left ns t′ c) p)
       → (Sets t i m (set t i m) → Becomes ns a (course-at ns (set t i m) c) (set t i m) c (ask (closing w) g n) t′ p → Becomes ns a (course.Both o two) t i (ask (closing w) g j) t′ p)
       → Chosen (scene ns (set t i m) a) c (ask (closing w) g n) t′ p → Chosen (scene ns t a) i (ask (closing w) g j) t′ p
   unfolding std-of
@@ -422,7 +423,8 @@ module _ {ns t : List ℕ} {a i w : ℕ} {g : Weight} {j : ℕ} {two : Two} (h :
 
 -- PP∥QQ ---------------------------------------------------------------------------------------------------------------------
 
-module _ {ns t : List ℕ} {a i w : ℕ} {g : Weight} {j : ℕ} {two : Two} (h : Wanted (scene ns t a) i (course.Both Parallel two) w g j) {d : List ℕ} (weighed : Weighed (scene ns t a) d i) where
+-- b says whether the event is joint
+module _ {ns t : List ℕ} {a i w : ℕ} {g : Weight} {j n : ℕ} {two : Two} (h : Wanted (scene ns t a) i (course.Both (Parallel n) two) w g j) {d : List ℕ} (weighed : Weighed (scene ns t a) d i) {b : Bool} (eb : b ≡ joint-at a n) where
   abbrev first-word : Word
   first-word = word a (runs ns t (two .first))
 
@@ -436,45 +438,48 @@ module _ {ns t : List ℕ} {a i w : ℕ} {g : Weight} {j : ℕ} {two : Two} (h :
     second-is : q ≡ bareW second-word
     second-is = eq ∙ row-is (second-weighed h weighed)
 
-    side-is : (x : Closing) → total (byW p x) (besideG (partnersT q (closing w) x) g) ≡ total (byW first-word x) (besideG (partnersT second-word (closing w) x) g)
-    side-is x = (λ z. total (byW (first-is z) x) (besideG (partnersT (second-is z) (closing w) x) g)) ∙ side-bare first-word second-word (closing w) x g
+    side-is : (x : Closing) → total (byW p x) (besideG b (partnersT q (closing w) x) g) ≡ total (byW first-word x) (besideG (joint-at a n) (partnersT second-word (closing w) x) g)
+    side-is x = (λ z. total (byW (first-is z) x) (besideG (eb z) (partnersT (second-is z) (closing w) x) g)) ∙ side-bare (joint-at a n) first-word second-word (closing w) x g
 
-    beside-is : (x : Closing) → besideG (partnersT q (closing w) x) g ≡ besideG (partnersT second-word (closing w) x) g
-    beside-is x = ap (λ q. besideG (partnersT q (closing w) x) g) second-is ∙ beside-partners-bare second-word (closing w) x g
+    beside-is : (x : Closing) → besideG b (partnersT q (closing w) x) g ≡ besideG (joint-at a n) (partnersT second-word (closing w) x) g
+    beside-is x = (λ z. besideG (eb z) (partnersT (second-is z) (closing w) x) g) ∙ beside-partners-bare (joint-at a n) second-word (closing w) x g
 
     fitting-is : (x y : Closing) (g₂ : Weight) → total (fittingT q (closing w) x y) g₂ ≡ total (fittingT second-word (closing w) x y) g₂
     fitting-is x y g₂ = ap (λ q. total (fittingT q (closing w) x y) g₂) second-is ∙ fitting-bare second-word (closing w) x y g₂
 
-  module _ {p q : Word} (ep : p ≡ row d (two .first)) (eq : q ≡ row d (two .second)) {x r : ℕ} (fx : Fallen (total (byW p done) (besideG (partnersT q (closing w) done) g)) (total (byW p withdrawn) (besideG (partnersT q (closing w) withdrawn) g)) j x r) {g₁ : Weight} (e₁ : g₁ ≡ besideG (partnersT q (closing w) (closing x)) g) where
-    pub par-first-room : r < weight-of (scene ns t a) (two .first) (closing x) g₁
-    par-first-room = seek-par-first-room a g _ _ (closing w) refl refl (two-room h) (side-is ep eq done) (side-is ep eq withdrawn) (falls-on (fx .lands)) (e₁ ∙ beside-is ep eq (closing x))
+  within-is : (k : Picked) {g₂ : Weight} → g₂ ≡ withinG b g (k .moves) (k .able) → g₂ ≡ withinG (joint-at a n) g (k .moves) (k .able)
+  within-is k e = e ∙ ap (λ b. withinG b g (k .moves) (k .able)) eb
 
-    module _ {t₁ : List ℕ} {k : Picked} (c₁ : Chosen (scene ns t a) (two .first) (ask (closing x) g₁ r) t₁ k) {g₂ : Weight} (e₂ : g₂ ≡ withinG g (k .moves) (k .able)) {y r₂ : ℕ} (fy : Fallen (total (fittingT q (closing w) (closing x) done) g₂) (total (fittingT q (closing w) (closing x) withdrawn) g₂) (k .rest) y r₂) where
+  module _ {p q : Word} (ep : p ≡ row d (two .first)) (eq : q ≡ row d (two .second)) {x r : ℕ} (fx : Fallen (total (byW p done) (besideG b (partnersT q (closing w) done) g)) (total (byW p withdrawn) (besideG b (partnersT q (closing w) withdrawn) g)) j x r) {g₁ : Weight} (e₁ : g₁ ≡ besideG b (partnersT q (closing w) (closing x)) g) where
+    pub par-first-room : r < weight-of (scene ns t a) (two .first) (closing x) g₁
+    par-first-room = seek-par-first-room a g (set-of (cued .sets) n) _ _ (closing w) refl refl (two-room h) (side-is ep eq done) (side-is ep eq withdrawn) (falls-on (fx .lands)) (e₁ ∙ beside-is ep eq (closing x))
+
+    module _ {t₁ : List ℕ} {k : Picked} (c₁ : Chosen (scene ns t a) (two .first) (ask (closing x) g₁ r) t₁ k) {g₂ : Weight} (e₂ : g₂ ≡ withinG b g (k .moves) (k .able)) {y r₂ : ℕ} (fy : Fallen (total (fittingT q (closing w) (closing x) done) g₂) (total (fittingT q (closing w) (closing x) withdrawn) g₂) (k .rest) y r₂) where
       second-same : part ns (modes t₁) (two .second) ≡ part ns (modes t) (two .second)
       second-same = kept-part ns (two-tree h) (two .first) (two-twins h .free) (c₁ .kept)
 
       pub par-second-room : r₂ < weight-of (scene ns t₁ a) (two .second) (closing y) g₂
-      par-second-room = room-is a g₂ (closing y) (ap (λ p. p .run) (sym second-same)) (seek-par-second-room a g _ _ (closing w) refl refl (two-room h) (side-is ep eq done) (side-is ep eq withdrawn) (falls-on (fx .lands)) (e₁ ∙ beside-is ep eq (closing x)) (c₁ .sought) e₂ (fitting-is ep eq (closing x) done g₂) (fitting-is ep eq (closing x) withdrawn g₂) (falls-on (fy .lands)))
+      par-second-room = room-is a g₂ (closing y) (ap (λ p. p .run) (sym second-same)) (seek-par-second-room a g (set-of (cued .sets) n) _ _ (closing w) refl refl (two-room h) (side-is ep eq done) (side-is ep eq withdrawn) (falls-on (fx .lands)) (e₁ ∙ beside-is ep eq (closing x)) (c₁ .sought) (within-is k e₂) (fitting-is ep eq (closing x) done g₂) (fitting-is ep eq (closing x) withdrawn g₂) (falls-on (fy .lands)))
 
       -- the same by what the terms weigh
-      first-lands : Lands (side-of (scene ns t a) (two .first) (two .second) (ask (closing w) g j) done) (side-of (scene ns t a) (two .first) (two .second) (ask (closing w) g j) withdrawn) j (closing x) r
+      first-lands : Lands (side-of (scene ns t a) (joint-at a n) (two .first) (two .second) (ask (closing w) g j) done) (side-of (scene ns t a) (joint-at a n) (two .first) (two .second) (ask (closing w) g j) withdrawn) j (closing x) r
       first-lands = subst₂ (λ u v. Lands u v j (closing x) r) (side-is ep eq done) (side-is ep eq withdrawn) (fx .lands)
 
-      fitting-same : (v : Closing) → total (fittingT q (closing w) (closing x) v) g₂ ≡ fitting-of (scene ns t a) (two .second) (ask (closing w) g j) (closing x) k v
-      fitting-same v = fitting-is ep eq (closing x) v g₂ ∙ ap (total (fittingT second-word (closing w) (closing x) v)) e₂
+      fitting-same : (v : Closing) → total (fittingT q (closing w) (closing x) v) g₂ ≡ fitting-of (scene ns t a) (joint-at a n) (two .second) (ask (closing w) g j) (closing x) k v
+      fitting-same v = fitting-is ep eq (closing x) v g₂ ∙ ap (total (fittingT second-word (closing w) (closing x) v)) (within-is k e₂)
 
-      second-lands : Lands (fitting-of (scene ns t a) (two .second) (ask (closing w) g j) (closing x) k done) (fitting-of (scene ns t a) (two .second) (ask (closing w) g j) (closing x) k withdrawn) (k .rest) (closing y) r₂
+      second-lands : Lands (fitting-of (scene ns t a) (joint-at a n) (two .second) (ask (closing w) g j) (closing x) k done) (fitting-of (scene ns t a) (joint-at a n) (two .second) (ask (closing w) g j) (closing x) k withdrawn) (k .rest) (closing y) r₂
       second-lands = subst₂ (λ u v. Lands u v (k .rest) (closing y) r₂) (fitting-same done) (fitting-same withdrawn) (fy .lands)
 
-      pub par-chosen : {t₂ : List ℕ} {l : Picked} → Chosen (scene ns t₁ a) (two .second) (ask (closing y) g₂ r₂) t₂ l → Chosen (scene ns t a) i (ask (closing w) g j) t₂ (par-of k l)
+      pub par-chosen : {t₂ : List ℕ} {l : Picked} → Chosen (scene ns t₁ a) (two .second) (ask (closing y) g₂ r₂) t₂ l → Chosen (scene ns t a) i (ask (closing w) g j) t₂ (par-of b k l)
       unfolding std-of stand stand-undoing undoing-two
       par-chosen {t₂} {l} c₂ =
           let z : part ns (modes t₂) (two .first) ≡ part ns (modes t₁) (two .first) = kept-part ns (two-tree h) (two .second) (λ j u v. two-twins h .free j v u) (c₂ .kept) in
-          let o : left ns t₂ i ≡ par (left ns t₂ (two .first)) (left ns t₂ (two .second)) = left-is ns t₂ i (two-tree h) (course-node (h .spot) (h .is)) refl in
-          let m : par (left ns t₁ (two .first)) (left ns t₂ (two .second)) ≡ left ns t₂ i = sym (o ∙ ap (λ p. par (p .std Undoing) (left ns t₂ (two .second))) z) in
+          let o : left ns t₂ i ≡ par (set-of (cued .sets) n) (left ns t₂ (two .first)) (left ns t₂ (two .second)) = left-is ns t₂ i (two-tree h) (course-node (h .spot) (h .is)) refl in
+          let m : par (set-of (cued .sets) n) (left ns t₁ (two .first)) (left ns t₂ (two .second)) ≡ left ns t₂ i = sym (o ∙ ap (λ p. par (set-of (cued .sets) n) (p .std Undoing) (left ns t₂ (two .second))) z) in
           let v : Picks a (ask (closing y) g₂ r₂) (comps (runs ns t (two .second)) (closing y)) (left ns t₂ (two .second)) l = sought-is a g₂ (closing y) (ap (λ p. p .run) second-same) refl (c₂ .sought) in
-          record {
-            sought = sought-is a g (closing w) (sym (two-runs h)) m (seek-par a g _ _ (closing w) refl refl (two-room h) (side-is ep eq done) (side-is ep eq withdrawn) (falls-on (fx .lands)) (e₁ ∙ beside-is ep eq (closing x)) (c₁ .sought) e₂ (fitting-is ep eq (closing x) done g₂) (fitting-is ep eq (closing x) withdrawn g₂) (falls-on (fy .lands)) v);
+          subst (λ b. Chosen (scene ns t a) i (ask (closing w) g j) t₂ (par-of b k l)) (sym eb) (record {
+            sought = sought-is a g (closing w) (sym (two-runs h)) m (seek-par a g (set-of (cued .sets) n) _ _ (closing w) refl refl (two-room h) (side-is ep eq done) (side-is ep eq withdrawn) (falls-on (fx .lands)) (e₁ ∙ beside-is ep eq (closing x)) (c₁ .sought) (within-is k e₂) (fitting-is ep eq (closing x) done g₂) (fitting-is ep eq (closing x) withdrawn g₂) (falls-on (fy .lands)) v);
             kept = λ b u. kept-kid ns (two-tree h) (two-twins h .other) (c₂ .kept) b u ∙ kept-kid ns (two-tree h) (two-twins h .one) (c₁ .kept) b u;
-            becomes = at-course (h .is) (par-to-both first-lands (ask-is (ap (λ g. ask (closing x) g r) (e₁ ∙ beside-is ep eq (closing x))) (c₁ .becomes)) second-lands (ask-is (ap (λ g. ask (closing y) g r₂) e₂) (c₂ .becomes)));
-          }
+            becomes = at-course (h .is) (par-to-both first-lands (ask-is (ap (λ g. ask (closing x) g r) (e₁ ∙ beside-is ep eq (closing x))) (c₁ .becomes)) second-lands (ask-is (ap (λ g. ask (closing y) g r₂) (within-is k e₂)) (c₂ .becomes)));
+          })

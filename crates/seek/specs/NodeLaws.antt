@@ -58,7 +58,7 @@ by-operator Choice t m = by (eqb m as-drawn) (eqb m first-taken) refl
     by true d e = refl
     by false true e = ap (λ d. cond d (only (t .first) Undoing) (only (t .second) Undoing)) e
     by false false e = ap (λ d. cond d (only (t .first) Undoing) (only (t .second) Undoing)) e
-by-operator Parallel t m = refl
+by-operator (Parallel n) t m = refl
 
 by-course : (n : Node) (m : ℕ) → NodeBy n m (course-of n m)
 unfolding course-of stand stand-undoing

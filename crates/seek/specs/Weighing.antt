@@ -115,13 +115,13 @@ module _ {ns t : List ℕ} {i : ℕ} (spot : Spot ns t i) where
     pub pair-weighs : {x : Two} → course-at ns t i ≡ course.Pair x → d ≡ d₁ → {c c′ : List ℕ} → Counted (scene ns t a) Running i c c′ u → Weighs (scene ns t a) i d d₂ v
     pair-weighs e z h = alone-by (λ c l. subst (λ x. Live x c) e l) z (h .seen)
 
-    pub both-weighs : {o : Operator} {x : Two} → course-at ns t i ≡ course.Both o x → {d₀ : List ℕ} {p q : Word} → Weighs (scene ns t a) (x .first) d d₀ p → Weighs (scene ns t a) (x .second) d₀ d₁ q → u ≡ operatorW o p q → Weighs (scene ns t a) i d d₂ v
+    pub both-weighs : {o : Operator} {x : Two} → course-at ns t i ≡ course.Both o x → {d₀ : List ℕ} {p q : Word} → Weighs (scene ns t a) (x .first) d d₀ p → Weighs (scene ns t a) (x .second) d₀ d₁ q → u ≡ operatorW a o p q → Weighs (scene ns t a) i d d₂ v
     unfolding run-of
     both-weighs {o} {x} e {d₀} {p} {q} f g h =
         let twins : Twins ns i x = course-kids spot e in
         let first : Weighed (scene ns t a) d₁ (x .first) = weighed-rows tree (g .1 .0 .long) (λ j y. g .1 .1 .rows j (λ z. twins .free j y z)) (f .1 .0) in
         weighs-by
-        (h ∙ (λ z. operatorW o (f .0 z) (g .0 z)) ∙ sym (ap (word a) (course-runs spot e) ∙ word-both a o _ _))
+        (h ∙ (λ z. operatorW a o (f .0 z) (g .0 z)) ∙ sym (ap (word a) (course-runs spot e) ∙ word-both a o _ _))
         (λ c l. parts first c (subst (λ x. Live x c) e l))
         (record { rows = λ j n. rows-kid (twins .other) (g .1 .1) .rows j n ∙ rows-kid (twins .one) (f .1 .1) .rows j n })
       where

@@ -64,7 +64,7 @@ fn keep(d: &mut [u32; 576], i: usize, x: Word) -> Word
 }
 
 // The running part of node i is counted, and what is known of it and of each part that runs in it is kept.
-pub fn weigh(ns: &[u16], t: &[u8], a: u32, d: &mut [u32; 576], i: usize) -> Word
+pub fn weigh(ns: &[u16], t: &[u8], a: u64, d: &mut [u32; 576], i: usize) -> Word
     requires { ⌜ Spot (now ns) (now t) i ⌝ }
     ensures { λ r. ⌜ r ≡ word a (runs (now (ns .entry)) (now (t .entry)) i) ⌝ }
     ensures weighed { λ _. ⌜ Weighed (scene (now (ns .entry)) (now (t .entry)) a) (now (d .exit)) i ⌝ }
@@ -80,7 +80,7 @@ pub fn weigh(ns: &[u16], t: &[u8], a: u32, d: &mut [u32; 576], i: usize) -> Word
         Course::Both(operator, two) => {
             let p = weigh(ns, t, a, d, two.first);
             let q = weigh(ns, t, a, d, two.second);
-            keep(d, i, counting::both_word(operator, p, q))
+            keep(d, i, counting::both_word(a, operator, p, q))
         }
         Course::Held(two) => {
             let mut c = [0u32; 64];
@@ -204,11 +204,12 @@ fn partner_count(d: &[u32], i: usize, w: u8, x: u8) -> u32
     tallies::sum(tallies::sum(a, b), c)
 }
 
-// What a compensation of the first side by x weighs with all that go with it. Where only they are counted, their number is enough.
-fn beside(d: &[u32], i: usize, w: u8, x: u8, g: Weight) -> Weight
+// What a compensation of the first side by x weighs with all that go with it, joint or not. Where only they are counted, their number
+// is enough: what is joint is a step.
+fn beside(joint: bool, d: &[u32], i: usize, w: u8, x: u8, g: Weight) -> Weight
     requires { ⌜ 9 * i + 8 < length (now d) ⌝ }
     requires { ⌜ (w < 3) × (x < 3) ⌝ }
-    ensures { λ r. ⌜ r ≡ besideG (partnersT (row (now (d .entry)) i) (closing w) (closing x)) g ⌝ }
+    ensures { λ r. ⌜ r ≡ besideG joint (partnersT (row (now (d .entry)) i) (closing w) (closing x)) g ⌝ }
 {
     if tallies::own_only(g) {
         let own = tallies::product(g.own, partner_count(d, i, w, x));
@@ -218,31 +219,31 @@ fn beside(d: &[u32], i: usize, w: u8, x: u8, g: Weight) -> Weight
             able: 0,
         };
     }
-    tallies::weight_beside(tallies::partners(word_at(d, i), w, x), g)
+    tallies::weight_beside(joint, tallies::partners(word_at(d, i), w, x), g)
 }
 
 // All those of the first side, by x, with all that go with them. Most are none, so this is told before.
-fn side_weight(d: &[u32], two: Two, w: u8, x: u8, g: Weight) -> u32
+fn side_weight(joint: bool, d: &[u32], two: Two, w: u8, x: u8, g: Weight) -> u32
     requires { ⌜ (9 * two .first + 8 < length (now d)) × (9 * two .second + 8 < length (now d)) ⌝ }
     requires { ⌜ (w < 3) × (x < 3) ⌝ }
-    ensures { λ r. ⌜ r ≡ total (byW (row (now (d .entry)) (two .first)) (closing x)) (besideG (partnersT (row (now (d .entry)) (two .second)) (closing w) (closing x)) g) ⌝ }
+    ensures { λ r. ⌜ r ≡ total (byW (row (now (d .entry)) (two .first)) (closing x)) (besideG joint (partnersT (row (now (d .entry)) (two .second)) (closing w) (closing x)) g) ⌝ }
 {
     let k = tally_at(d, two.first, x);
     if (k.many == 0) & (k.able == 0) & (k.moves == 0) {
         return 0;
     }
-    tallies::weight_total(k, beside(d, two.second, w, x, g))
+    tallies::weight_total(k, beside(joint, d, two.second, w, x, g))
 }
 
 // By what the first side ends.
-fn first_ending(d: &[u32], two: Two, w: u8, g: Weight, j: u32) -> Fall
+fn first_ending(joint: bool, d: &[u32], two: Two, w: u8, g: Weight, j: u32) -> Fall
     requires { ⌜ (9 * two .first + 8 < length (now d)) × (9 * two .second + 8 < length (now d)) ⌝ }
     requires { ⌜ w < 3 ⌝ }
-    ensures { λ r. ⌜ Fallen (total (byW (row (now (d .entry)) (two .first)) done) (besideG (partnersT (row (now (d .entry)) (two .second)) (closing w) done) g)) (total (byW (row (now (d .entry)) (two .first)) withdrawn) (besideG (partnersT (row (now (d .entry)) (two .second)) (closing w) withdrawn) g)) j (r .ending) (r .rest) ⌝ }
+    ensures { λ r. ⌜ Fallen (total (byW (row (now (d .entry)) (two .first)) done) (besideG joint (partnersT (row (now (d .entry)) (two .second)) (closing w) done) g)) (total (byW (row (now (d .entry)) (two .first)) withdrawn) (besideG joint (partnersT (row (now (d .entry)) (two .second)) (closing w) withdrawn) g)) j (r .ending) (r .rest) ⌝ }
 {
     ending_at(
-        side_weight(d, two, w, tallies::RANK_DONE, g),
-        side_weight(d, two, w, tallies::RANK_WITHDRAWN, g),
+        side_weight(joint, d, two, w, tallies::RANK_DONE, g),
+        side_weight(joint, d, two, w, tallies::RANK_WITHDRAWN, g),
         j,
     )
 }
@@ -282,7 +283,7 @@ struct Query {
 }
 
 // With nothing known yet.
-pub fn seek(ns: &[u16], t: &mut [u8], a: u32, i: usize, w: u8, g: Weight, j: u32) -> Picked
+pub fn seek(ns: &[u16], t: &mut [u8], a: u64, i: usize, w: u8, g: Weight, j: u32) -> Picked
     requires { ⌜ Spot (now ns) (now t) i ⌝ }
     requires { ⌜ (w < 3) × (j < weight-of (scene (now ns) (now t) a) i (closing w) g) ⌝ }
     ensures { λ r. ⌜ Chosen (scene (now (ns .entry)) (now (t .entry)) a) i (ask (closing w) g j) (now (t .exit)) r ⌝ }
@@ -295,7 +296,7 @@ pub fn seek(ns: &[u16], t: &mut [u8], a: u32, i: usize, w: u8, g: Weight, j: u32
 pub fn choose(
     ns: &[u16],
     t: &mut [u8],
-    a: u32,
+    a: u64,
     d: &[u32],
     i: usize,
     w: u8,
@@ -336,7 +337,7 @@ pub fn choose(
 fn choose_fresh(
     ns: &[u16],
     t: &mut [u8],
-    a: u32,
+    a: u64,
     i: usize,
     operator: Operator,
     two: Two,
@@ -353,7 +354,7 @@ fn choose_fresh(
 fn choose_both(
     ns: &[u16],
     t: &mut [u8],
-    a: u32,
+    a: u64,
     d: &[u32],
     i: usize,
     operator: Operator,
@@ -367,12 +368,12 @@ fn choose_both(
     match operator {
         Operator::Sequence => seek_running(ns, t, a, d, i, two, q),
         Operator::Choice => seek_choice(ns, t, a, d, i, two, q),
-        Operator::Parallel => seek_parallel(ns, t, a, d, i, two, q),
+        Operator::Parallel(set) => seek_parallel(ns, t, a, d, i, set, two, q),
     }
 }
 
 // P÷Q has one compensation by each closing. P is passed, by all of them.
-fn seek_pair(ns: &[u16], t: &mut [u8], a: u32, i: usize, two: Two, w: u8, j: u32) -> Picked
+fn seek_pair(ns: &[u16], t: &mut [u8], a: u64, i: usize, two: Two, w: u8, j: u32) -> Picked
     requires { ⌜ Spot (now ns) (now t) i ⌝ }
     requires { ⌜ course-at (now ns) (now t) i ≡ Pair two ⌝ }
     ensures { λ r. ⌜ PairChosen (scene (now (ns .entry)) (now (t .entry)) a) i (closing w) j (now (t .exit)) r ⌝ }
@@ -400,7 +401,7 @@ fn seek_pair(ns: &[u16], t: &mut [u8], a: u32, i: usize, two: Two, w: u8, j: u32
 fn seek_marked(
     ns: &[u16],
     t: &mut [u8],
-    a: u32,
+    a: u64,
     d: &[u32],
     i: usize,
     m: u8,
@@ -419,7 +420,7 @@ fn seek_marked(
 fn seek_second(
     ns: &[u16],
     t: &mut [u8],
-    a: u32,
+    a: u64,
     d: &[u32],
     i: usize,
     two: Two,
@@ -445,7 +446,7 @@ fn seek_second(
     }
 }
 
-fn seek_held(ns: &[u16], t: &mut [u8], a: u32, d: &[u32], i: usize, two: Two, q: Query) -> Picked
+fn seek_held(ns: &[u16], t: &mut [u8], a: u64, d: &[u32], i: usize, two: Two, q: Query) -> Picked
     requires { ⌜ Wanted (scene (now ns) (now t) a) i (Held two) (q .closing) (q .weight) (q .number) ⌝ }
     requires { ⌜ MayKnow (scene (now ns) (now t) a) (now d) i ⌝ }
     ensures { λ r. ⌜ Chosen (scene (now (ns .entry)) (now (t .entry)) a) i (asked q) (now (t .exit)) r ⌝ }
@@ -461,7 +462,7 @@ fn seek_held(ns: &[u16], t: &mut [u8], a: u32, d: &[u32], i: usize, two: Two, q:
 }
 
 // PP closes by w, or it ends done and QQ closes by w.
-fn seek_running(ns: &[u16], t: &mut [u8], a: u32, d: &[u32], i: usize, two: Two, q: Query) -> Picked
+fn seek_running(ns: &[u16], t: &mut [u8], a: u64, d: &[u32], i: usize, two: Two, q: Query) -> Picked
     requires { ⌜ Wanted (scene (now ns) (now t) a) i (Both Sequence two) (q .closing) (q .weight) (q .number) ⌝ }
     requires { ⌜ Weighed (scene (now ns) (now t) a) (now d) i ⌝ }
     ensures { λ r. ⌜ Chosen (scene (now (ns .entry)) (now (t .entry)) a) i (asked q) (now (t .exit)) r ⌝ }
@@ -484,7 +485,7 @@ fn seek_running(ns: &[u16], t: &mut [u8], a: u32, d: &[u32], i: usize, two: Two,
     seek_second(ns, t, a, d, i, two, q.closing, q.weight, k)
 }
 
-fn seek_choice(ns: &[u16], t: &mut [u8], a: u32, d: &[u32], i: usize, two: Two, q: Query) -> Picked
+fn seek_choice(ns: &[u16], t: &mut [u8], a: u64, d: &[u32], i: usize, two: Two, q: Query) -> Picked
     requires { ⌜ Wanted (scene (now ns) (now t) a) i (Both Choice two) (q .closing) (q .weight) (q .number) ⌝ }
     requires { ⌜ Weighed (scene (now ns) (now t) a) (now d) i ⌝ }
     ensures { λ r. ⌜ Chosen (scene (now (ns .entry)) (now (t .entry)) a) i (asked q) (now (t .exit)) r ⌝ }
@@ -505,19 +506,21 @@ fn seek_choice(ns: &[u16], t: &mut [u8], a: u32, d: &[u32], i: usize, two: Two, 
 fn seek_parallel(
     ns: &[u16],
     t: &mut [u8],
-    a: u32,
+    a: u64,
     d: &[u32],
     i: usize,
+    set: u16,
     two: Two,
     q: Query,
 ) -> Picked
-    requires { ⌜ Wanted (scene (now ns) (now t) a) i (Both Parallel two) (q .closing) (q .weight) (q .number) ⌝ }
+    requires { ⌜ Wanted (scene (now ns) (now t) a) i (Both (Parallel set) two) (q .closing) (q .weight) (q .number) ⌝ }
     requires { ⌜ Weighed (scene (now ns) (now t) a) (now d) i ⌝ }
     ensures { λ r. ⌜ Chosen (scene (now (ns .entry)) (now (t .entry)) a) i (asked q) (now (t .exit)) r ⌝ }
 {
     let w = q.closing;
     let g = q.weight;
-    let x = first_ending(d, two, w, g, q.number);
+    let joint = states::joint(a, set);
+    let x = first_ending(joint, d, two, w, g, q.number);
     let k = choose(
         ns,
         t,
@@ -525,15 +528,15 @@ fn seek_parallel(
         d,
         two.first,
         x.ending,
-        beside(d, two.second, w, x.ending, g),
+        beside(joint, d, two.second, w, x.ending, g),
         x.rest,
     );
-    let within = tallies::weight_within(g, k.moves, k.able);
+    let within = tallies::weight_within(joint, g, k.moves, k.able);
     let y = second_ending(d, two.second, w, x.ending, within, k.rest);
     let l = choose(ns, t, a, d, two.second, y.ending, within, y.rest);
     Picked {
         rest: l.rest,
-        moves: tallies::sum(k.moves, l.moves),
+        moves: tallies::sides(joint, k.moves, l.moves),
         able: k.able & l.able,
     }
 }

@@ -71,10 +71,10 @@ pub both-drawn : (o : Operator) (t : Two) {m : ℕ} → m ≡ 0 → standing.Bot
 unfolding drawn-two
 both-drawn Sequence t {m} e = rw (eq-eqb m 0 e) refl
 both-drawn Choice t {m} e = rw (eq-eqb m 0 e) refl
-both-drawn Parallel t e = refl
+both-drawn (Parallel k) t e = refl
 
 pub both-course : (o : Operator) (t : Two) {m : ℕ} → m ≡ 0 → course.Both o t ≡ course-two o t m
 unfolding course-two
 both-course Sequence t {m} e = rw (eq-eqb m 0 e) refl
 both-course Choice t {m} e = rw (eq-eqb m 0 e) refl
-both-course Parallel t e = refl
+both-course (Parallel k) t e = refl

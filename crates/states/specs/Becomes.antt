@@ -13,9 +13,10 @@ use Rattle.flow.specs.declared.Simple.{Simple}
 use Rattle.flow.specs.declared.Operator.the-variants.{Sequence, Choice, Parallel}
 use Rattle.flow.specs.declared.Two.{Two}
 use Rattle.flow.specs.Kinds.{node}
+use Rattle.flow.specs.Cues.{joint-at}
 use Rattle.tallies.specs.Capped.{cap}
 use Rattle.tallies.specs.Counts.{sum-of, moves, weight, tally, word}
-use Rattle.tallies.specs.Formulas.{byW, total, afterG, insideG, besideG, withinG, fittingT, partnersT}
+use Rattle.tallies.specs.Formulas.{sides, byW, total, afterG, insideG, besideG, withinG, fittingT, partnersT}
 use Rattle.tallies.specs.Sought.{Sought}
 use Rattle.tallies.specs.declared.Weight.{Weight}
 use Rattle.states.specs.declared.Sense.the-variants.{Drawn, Undoing}
@@ -39,12 +40,12 @@ picked r n b = record { rest = r; moves = n; able = b }
 abbrev pub known-of : ℕ → ℕ → Std → Picked
 known-of a r k = picked r (cap (moves a k)) (ends k done)
 
--- of l;k and of k beside l, where l was chosen last
+-- of l;k and of k beside l, where l was chosen last; b says whether the event is joint
 abbrev pub seq-of : Picked → Picked → Picked
 seq-of l k = picked (l .rest) (cond (l .able) (cap (l .moves + k .moves)) (l .moves)) (l .able && k .able)
 
-abbrev pub par-of : Picked → Picked → Picked
-par-of k l = picked (l .rest) (cap (k .moves + l .moves)) (k .able && l .able)
+abbrev pub par-of : Bool → Picked → Picked → Picked
+par-of b k l = picked (l .rest) (sides b (k .moves) (l .moves)) (k .able && l .able)
 
 -- What is asked of children -----------------------------------------------------------------------------------------------------------
 
@@ -53,8 +54,8 @@ abbrev pub ask-second : Ask → Picked → Ask
 ask-second q k = ask (q .closing) (insideG (q .weight) (k .moves) (k .able)) (k .rest)
 
 -- what one of QQ's compensations weighs in PP∥QQ, beside one of PP's of which k is known
-abbrev pub within-of : Ask → Picked → Weight
-within-of q k = withinG (q .weight) (k .moves) (k .able)
+abbrev pub within-of : Bool → Ask → Picked → Weight
+within-of b q k = withinG b (q .weight) (k .moves) (k .able)
 
 -- where done and withdrawn weigh x and y, j falls on a closing, so far into its weight
 pub data Lands (x y j : ℕ) : Closing → ℕ → Type 0 where
@@ -72,15 +73,15 @@ module _ (s : Scene) where
   ask-first i l q = ask done (afterG (tally (s .a) (comps (part-at s l .run) (q .closing))) (q .weight)) (q .number - own-of i (q .closing) (q .weight))
 
   -- PP∥QQ: what one of PP's compensations by x weighs with all that go with it, and what all of them do
-  abbrev pub beside-of : ℕ → Ask → Closing → Weight
-  beside-of l q x = besideG (partnersT (word (s .a) (part-at s l .run)) (q .closing) x) (q .weight)
+  abbrev pub beside-of : Bool → ℕ → Ask → Closing → Weight
+  beside-of b l q x = besideG b (partnersT (word (s .a) (part-at s l .run)) (q .closing) x) (q .weight)
 
-  abbrev pub side-of : ℕ → ℕ → Ask → Closing → ℕ
-  side-of i l q x = total (byW (word (s .a) (part-at s i .run)) x) (beside-of l q x)
+  abbrev pub side-of : Bool → ℕ → ℕ → Ask → Closing → ℕ
+  side-of b i l q x = total (byW (word (s .a) (part-at s i .run)) x) (beside-of b l q x)
 
   -- and what QQ's by y do, beside one of PP's by x of which k is known
-  abbrev pub fitting-of : ℕ → Ask → Closing → Picked → Closing → ℕ
-  fitting-of l q x k y = total (fittingT (word (s .a) (part-at s l .run)) (q .closing) x y) (within-of q k)
+  abbrev pub fitting-of : Bool → ℕ → Ask → Closing → Picked → Closing → ℕ
+  fitting-of b l q x k y = total (fittingT (word (s .a) (part-at s l .run)) (q .closing) x y) (within-of b q k)
 
 -- Node i, of the given course by the modes t, becomes the compensation that q asks for: t′ are the modes after, the last is what is
 -- known of it -----------------------------------------------------------------------------------------------------------------------
@@ -108,12 +109,12 @@ pub data Becomes (ns : List ℕ) (a : ℕ) : Course → List ℕ → ℕ → Ask
       → Becomes ns a (course-in (scene ns t₁ a) (p .second)) t₁ (p .second) (ask (q .closing) (q .weight) (q .number - weight-of (scene ns t a) (p .first) (q .closing) (q .weight))) t′ k
       → Becomes ns a (course.Both Choice p) t i q t′ k
   -- by what PP ends, what it becomes, by what QQ ends, and what it becomes
-  par-to-both : {p : Two} {t t₁ t′ : List ℕ} {i : ℕ} {q : Ask} {x y : Closing} {r r₂ : ℕ} {k l : Picked}
-      → Lands (side-of (scene ns t a) (p .first) (p .second) q done) (side-of (scene ns t a) (p .first) (p .second) q withdrawn) (q .number) x r
-      → Becomes ns a (course-in (scene ns t a) (p .first)) t (p .first) (ask x (beside-of (scene ns t a) (p .second) q x) r) t₁ k
-      → Lands (fitting-of (scene ns t a) (p .second) q x k done) (fitting-of (scene ns t a) (p .second) q x k withdrawn) (k .rest) y r₂
-      → Becomes ns a (course-in (scene ns t₁ a) (p .second)) t₁ (p .second) (ask y (within-of q k) r₂) t′ l
-      → Becomes ns a (course.Both Parallel p) t i q t′ (par-of k l)
+  par-to-both : {n : ℕ} {p : Two} {t t₁ t′ : List ℕ} {i : ℕ} {q : Ask} {x y : Closing} {r r₂ : ℕ} {k l : Picked}
+      → Lands (side-of (scene ns t a) (joint-at a n) (p .first) (p .second) q done) (side-of (scene ns t a) (joint-at a n) (p .first) (p .second) q withdrawn) (q .number) x r
+      → Becomes ns a (course-in (scene ns t a) (p .first)) t (p .first) (ask x (beside-of (scene ns t a) (joint-at a n) (p .second) q x) r) t₁ k
+      → Lands (fitting-of (scene ns t a) (joint-at a n) (p .second) q x k done) (fitting-of (scene ns t a) (joint-at a n) (p .second) q x k withdrawn) (k .rest) y r₂
+      → Becomes ns a (course-in (scene ns t₁ a) (p .second)) t₁ (p .second) (ask y (within-of (joint-at a n) q k) r₂) t′ l
+      → Becomes ns a (course.Both (Parallel n) p) t i q t′ (par-of (joint-at a n) k l)
 
 -- A compensation is chosen: t′ are the modes after, p what is known of it --------------------------------------------------------------
 

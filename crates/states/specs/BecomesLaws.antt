@@ -12,6 +12,7 @@ use lib.Seq.{ext-getD}
 use Rattle.calculus.specs.Term.{Closing, done, withdrawn}
 use Rattle.calculus.specs.Successors.{eqc}
 use Rattle.flow.specs.Kinds.{shape}
+use Rattle.flow.specs.Cues.{joint-at}
 use Rattle.flow.specs.Trees.{Tree}
 use Rattle.states.specs.declared.Course.{Course}
 use Rattle.states.specs.declared.Picked.{Picked}
@@ -85,13 +86,14 @@ module _ (ns : List ℕ) (tree : Tree (shape ns)) (a : ℕ) where
   becomes-once (alt-to-first h w x) (alt-to-second h′ v y) = absurd (omega (arith, h, h′))
   becomes-once (alt-to-second h w x) (alt-to-first h′ v y) = absurd (omega (arith, h, h′))
   becomes-once (alt-to-second h w x) (alt-to-second h′ v y) = becomes-once x (at-same (sets-once w v) refl y)
-  becomes-once {t = t} {q = q} (par-to-both {p = p} {y = v} {r₂ = n} f x f₂ x₂) (par-to-both g y g₂ y₂) =
+  becomes-once {t = t} {q = q} (par-to-both {n = m} {p = p} {y = v} {r₂ = n} f x f₂ x₂) (par-to-both g y g₂ y₂) =
       let s = scene ns t a in
+      let b = joint-at a m in
       let l = lands-once f g in
-      let z = becomes-once x (at-same refl (λ j. ask (l .0 j) (beside-of s (p .second) q (l .0 j)) (l .1 j)) y) in
-      let l₂ = lands-once (subst₂ (λ x k. Lands (fitting-of s (p .second) q x k done) (fitting-of s (p .second) q x k withdrawn) (k .rest) v n) (l .0) (z .1) f₂) g₂ in
-      let z₂ = becomes-once x₂ (at-same (z .0) (λ j. ask (l₂ .0 j) (within-of q (z .1 j)) (l₂ .1 j)) y₂) in
-      (z₂ .0, (λ j. par-of (z .1 j) (z₂ .1 j)))
+      let z = becomes-once x (at-same refl (λ j. ask (l .0 j) (beside-of s b (p .second) q (l .0 j)) (l .1 j)) y) in
+      let l₂ = lands-once (subst₂ (λ x k. Lands (fitting-of s b (p .second) q x k done) (fitting-of s b (p .second) q x k withdrawn) (k .rest) v n) (l .0) (z .1) f₂) g₂ in
+      let z₂ = becomes-once x₂ (at-same (z .0) (λ j. ask (l₂ .0 j) (within-of b q (z .1 j)) (l₂ .1 j)) y₂) in
+      (z₂ .0, (λ j. par-of b (z .1 j) (z₂ .1 j)))
 
 pub chosen-once : {ns : List ℕ} → Tree (shape ns) → {t t₁ t₂ : List ℕ} {a i : ℕ} {q : Ask} {p₁ p₂ : Picked} → Chosen (scene ns t a) i q t₁ p₁ → Chosen (scene ns t a) i q t₂ p₂ → (t₁ ≡ t₂) × (p₁ ≡ p₂)
 chosen-once {ns} tree {a = a} x y = becomes-once ns tree a (x .becomes) (y .becomes)

@@ -32,13 +32,13 @@ both-drawn : (o : Operator) (t : Two) → drawn-two o t as-drawn ≡ standing.Bo
 unfolding drawn-two
 both-drawn Sequence t = refl
 both-drawn Choice t = refl
-both-drawn Parallel t = refl
+both-drawn (Parallel k) t = refl
 
 both-runs : (o : Operator) (t : Two) → course-two o t as-drawn ≡ course.Both o t
 unfolding course-two
 both-runs Sequence t = refl
 both-runs Choice t = refl
-both-runs Parallel t = refl
+both-runs (Parallel k) t = refl
 
 module _ (ns : List ℕ) (tree : Tree (shape ns)) where
   abbrev at : ℕ → Part
@@ -57,12 +57,12 @@ module _ (ns : List ℕ) (tree : Tree (shape ns)) where
   drawn-means (at-standard {i} {o} {t} e d d′) =
       let p = drawn-means d in
       let q = drawn-means d′ in
-      standard-at i e ∙ ap (λ x. std-of x Drawn at) (both-drawn o t) ∙ (λ z. standard o (p z) (q z))
+      standard-at i e ∙ ap (λ x. std-of x Drawn at) (both-drawn o t) ∙ (λ z. standard (cued .sets) o (p z) (q z))
   drawn-means (at-handler {i} e d d′) = let p = drawn-means d in let q = drawn-means d′ in standard-at i e ∙ (λ z. hnd (p z) (q z))
   drawn-means (at-block {i} e d) = standard-at i e ∙ ap blk (drawn-means d)
   drawn-means (at-pair {i} e d d′) = let p = drawn-means d in let q = drawn-means d′ in running-at i e ∙ (λ z. pair (p z) (q z))
   drawn-means (at-compensable {i} {o} {t} e d d′) =
       let p = drawn-means d in
       let q = drawn-means d′ in
-      running-at i e ∙ ap (λ x. run-of x at) (both-runs o t) ∙ (λ z. compensable o (p z) (q z))
+      running-at i e ∙ ap (λ x. run-of x at) (both-runs o t) ∙ (λ z. compensable (cued .sets) o (p z) (q z))
   drawn-means (at-paired {i} e) = running-at i e

@@ -1,8 +1,10 @@
 -- How the modes become those after a step: by setting a node's mode, redrawing what is passed and choosing a compensation, a step of
--- the node becomes a step of one child, perhaps in another role (`Hands`), and so on down to the event that is taken (`Makes`). Places
+-- the node becomes a step of one child, perhaps in another role (`Hands`), or of both sides that meet (`Meets`), and so on down to the
+-- event that is taken (`Makes`). Places
 -- are compared with the true counts. This says all of the bytes after (`makes-once` in HandsLaws).
 -- Definitions only. Assumes nothing.
-use Prim.Native.Nat.{ℕ, _<_, _≤_, _-_}
+use Prim.Native.Nat.{ℕ, _<_, _≤_, _-_, _/_, _%_}
+use mathlib.Core.Bool.{true, false}
 use mathlib.Core.List.{List}
 use mathlib.Core.Path.{_≡_}
 use lib.ListN.{length}
@@ -12,6 +14,7 @@ use Rattle.flow.specs.declared.Operator.the-variants.{Sequence, Choice, Paralle
 use Rattle.flow.specs.declared.Two.{Two}
 use Rattle.flow.specs.declared.Node.{Node}
 use Rattle.flow.specs.Kinds.{node}
+use Rattle.flow.specs.Cues.{joint-at, joint-by}
 use Rattle.tallies.specs.Formulas.{movesG, holdG}
 use Rattle.states.specs.declared.Sense.{Sense}
 use Rattle.states.specs.declared.Sense.the-variants.{Drawn, Undoing}
@@ -60,18 +63,18 @@ gone Undoing = left-first
 unfoldable pub first-mode : Operator → ℕ → ℕ
 first-mode Sequence m = m
 first-mode Choice m = first-taken
-first-mode Parallel m = m
+first-mode (Parallel k) m = m
 
 unfoldable pub second-mode : Operator → ℕ → ℕ → ℕ
 second-mode Sequence g m = g
 second-mode Choice g m = second-taken
-second-mode Parallel g m = m
+second-mode (Parallel k) g m = m
 
 -- once the second part has made a step: the first part of a sequence, node j, is passed, and so redrawn
 abbrev pub Passed : List ℕ → Operator → ℕ → List ℕ → List ℕ → Type 0
 Passed ns Sequence j t t′ = Redrawn ns j t t′
 Passed ns Choice j t t′ = t′ ≡ t
-Passed ns Parallel j t t′ = t′ ≡ t
+Passed ns (Parallel k) j t t′ = t′ ≡ t
 
 -- one of two parts makes the step, by its place
 pub data Fork (n k : ℕ) (x y : Type 0) : Type 0 where
@@ -110,6 +113,10 @@ module _ (s : Scene) (i k : ℕ) where
   abbrev own : ℕ
   own = modes (s .t) i
 
+  -- the event is not joint: one of the two makes the step
+  abbrev pub OneSide : Operator → Type 0
+  OneSide o = joint-by (s .a) o ≡ false
+
   -- two standard parts, where g is the mode of a sequence that has gone on
   abbrev pub hands-two : Sense → Operator → Two → ℕ → List ℕ → Move → Type 0
   hands-two v o p g t′ y = Fork (count (Plain v) (p .first)) k
@@ -119,7 +126,7 @@ module _ (s : Scene) (i k : ℕ) where
   abbrev pub hands-std : Sense → Standing → List ℕ → Move → Type 0
   hands-std v (standing.Event e) t′ y = ⊥
   hands-std v (standing.Basic b) t′ y = ⊥
-  hands-std v (standing.Both o p) t′ y = hands-two v o p (gone v) t′ y
+  hands-std v (standing.Both o p) t′ y = OneSide o × hands-two v o p (gone v) t′ y
   hands-std v (standing.Handler p) t′ y = hands-two v Sequence p moved-on t′ y
   hands-std v (standing.Block c) t′ y = Fork (count Running c) k
       (Marked s i own (move Running c k) t′ y)
@@ -130,12 +137,12 @@ module _ (s : Scene) (i k : ℕ) where
   abbrev pub goes-on : Operator → Two → List ℕ → Move → Type 0
   goes-on Sequence p t′ y = Picks s i holding (p .first) (ask done (holdG (count Running (p .second))) (after Running (p .first))) Running (p .second) t′ y
   goes-on Choice p t′ y = Marked s i (second-mode Choice holding own) (move Running (p .second) (after Running (p .first))) t′ y
-  goes-on Parallel p t′ y = Marked s i (second-mode Parallel holding own) (move Running (p .second) (after Running (p .first))) t′ y
+  goes-on (Parallel n) p t′ y = Marked s i (second-mode (Parallel n) holding own) (move Running (p .second) (after Running (p .first))) t′ y
 
   abbrev pub hands-run : Course → List ℕ → Move → Type 0
   hands-run (course.Basic b) t′ y = ⊥
   hands-run (course.Pair p) t′ y = Marked s i own (move (Plain Drawn) (p .first) k) t′ y
-  hands-run (course.Both o p) t′ y = Fork (count Running (p .first)) k (Marked s i (first-mode o own) (move Running (p .first) k) t′ y) (goes-on o p t′ y)
+  hands-run (course.Both o p) t′ y = OneSide o × Fork (count Running (p .first)) k (Marked s i (first-mode o own) (move Running (p .first) k) t′ y) (goes-on o p t′ y)
   hands-run (course.Held p) t′ y = Marked s i own (move Running (p .second) k) t′ y
   hands-run (course.As c) t′ y = Marked s i own (move Running c k) t′ y
 
@@ -143,11 +150,32 @@ module _ (s : Scene) (i k : ℕ) where
   hands-by (Plain v) x t′ y = hands-std v x t′ y
   hands-by Running x t′ y = hands-run x t′ y
 
+-- both sides of a parallel make the step together: its event is in their set
+pub data Meets (a : ℕ) : (r : Role) → Stance r → Two → Type 0 where
+  both-stand : {v : Sense} {n : ℕ} {p : Two} → joint-at a n ≡ true → Meets a (Plain v) (standing.Both (Parallel n) p) p
+  both-run : {n : ℕ} {p : Two} → joint-at a n ≡ true → Meets a Running (course.Both (Parallel n) p) p
+
+-- Of the first side's steps each comes with all of the second's: so places go by the number of these.
+module _ (s : Scene) (x : Move) (p : Two) where
+  abbrev seconds : ℕ
+  seconds = many (x .role) (s .a) (part-at s (p .second))
+
+  abbrev pub first-move : Move
+  first-move = move (x .role) (p .first) (x .place / seconds)
+
+  abbrev pub second-move : Move
+  second-move = move (x .role) (p .second) (x .place % seconds)
+
+-- what is left of the node of a step
+abbrev pub stance-at : (s : Scene) (x : Move) → Stance (x .role)
+stance-at s x = stance-of (x .role) (node (s .ns) (x .node)) (modes (s .t) (x .node))
+
 -- the step x of the modes before is the step y of the modes t′
 abbrev pub Hands : Scene → Move → List ℕ → Move → Type 0
-Hands s x t′ y = hands-by s (x .node) (x .place) (x .role) (stance-of (x .role) (node (s .ns) (x .node)) (modes (s .t) (x .node))) t′ y
+Hands s x t′ y = hands-by s (x .node) (x .place) (x .role) (stance-at s x) t′ y
 
 -- the modes after the step x are t′
 pub data Makes : Scene → Move → List ℕ → Type 0 where
   takes : {s : Scene} {x : Move} {t′ : List ℕ} {v : Sense} {e : ℕ} → x .role ≡ Plain v → stand-in s v (x .node) ≡ standing.Event e → Sets (s .t) (x .node) event-taken t′ → Makes s x t′
+  meets : {s : Scene} {x : Move} {p : Two} {t₁ t′ : List ℕ} → Meets (s .a) (x .role) (stance-at s x) p → Makes s (first-move s x p) t₁ → Makes (scene (s .ns) t₁ (s .a)) (second-move s x p) t′ → Makes s x t′
   hands : {s : Scene} {x y : Move} {t₁ t′ : List ℕ} → Hands s x t₁ y → Makes (scene (s .ns) t₁ (s .a)) y t′ → Makes s x t′

@@ -44,7 +44,7 @@ module _ (ns : List ℕ) (i : ℕ) where
         by true d = w
         by false true = w .one
         by false false = w .other
-    drawn-rests Parallel t m w = w
+    drawn-rests (Parallel k) t m w = w
 
     undoing-rests : (o : Operator) (t : Two) (m : ℕ) → Twins ns i t → Rests ns i (undoing-two o t m)
     unfolding undoing-two
@@ -58,7 +58,7 @@ module _ (ns : List ℕ) (i : ℕ) where
         by : (b : Bool) → Rests ns i (cond b (only (t .first) Undoing) (only (t .second) Undoing))
         by true = w .one
         by false = w .other
-    undoing-rests Parallel t m w = w
+    undoing-rests (Parallel k) t m w = w
 
     course-rests-two : (o : Operator) (t : Two) (m : ℕ) → Twins ns i t → CRests ns i (course-two o t m)
     unfolding course-two
@@ -73,7 +73,7 @@ module _ (ns : List ℕ) (i : ℕ) where
         by true d = w
         by false true = w .one
         by false false = w .other
-    course-rests-two Parallel t m w = w
+    course-rests-two (Parallel k) t m w = w
 
     stand-drawn-rests : (n : Node) → node ns i ≡ n → (m : ℕ) → Rests ns i (stand-drawn n m)
     unfolding stand-drawn

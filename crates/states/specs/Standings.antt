@@ -64,7 +64,7 @@ only node sense = standing.As (record { node = node; sense = sense })
 unfoldable pub drawn-two : Operator → Two → ℕ → Standing
 drawn-two Sequence t m = cond (eqb m as-drawn) (standing.Both Sequence t) (only (t .second) Drawn)
 drawn-two Choice t m = cond (eqb m as-drawn) (standing.Both Choice t) (cond (eqb m first-taken) (only (t .first) Drawn) (only (t .second) Drawn))
-drawn-two Parallel t m = standing.Both Parallel t
+drawn-two (Parallel k) t m = standing.Both (Parallel k) t
 
 unfoldable pub stand-drawn : Node → ℕ → Standing
 stand-drawn (Event e) m = cond (eqb m as-drawn) (standing.Event e) (standing.Basic Skip)
@@ -81,7 +81,7 @@ stand-drawn Unknown m = standing.Basic Skip
 unfoldable pub undoing-two : Operator → Two → ℕ → Standing
 undoing-two Sequence t m = cond (eqb m left-first) (only (t .first) Undoing) (standing.Both Sequence (two (t .second) (t .first)))
 undoing-two Choice t m = cond (eqb m first-taken) (only (t .first) Undoing) (only (t .second) Undoing)
-undoing-two Parallel t m = standing.Both Parallel t
+undoing-two (Parallel k) t m = standing.Both (Parallel k) t
 
 unfoldable pub stand-undoing : Node → ℕ → Standing
 stand-undoing (Event e) m = standing.Basic Skip
@@ -101,7 +101,7 @@ stand Undoing n m = stand-undoing n m
 unfoldable pub course-two : Operator → Two → ℕ → Course
 course-two Sequence t m = cond (eqb m as-drawn) (course.Both Sequence t) (course.Held t)
 course-two Choice t m = cond (eqb m as-drawn) (course.Both Choice t) (cond (eqb m first-taken) (course.As (t .first)) (course.As (t .second)))
-course-two Parallel t m = course.Both Parallel t
+course-two (Parallel k) t m = course.Both (Parallel k) t
 
 unfoldable pub course-of : Node → ℕ → Course
 course-of (Event e) m = course.Basic Skip

@@ -7,7 +7,7 @@ use lib.ListN.{getD}
 use Rattle.calculus.specs.Term.{Std, Cmp, skip, ev, hnd, blk, pair, held, skipp}
 use Rattle.flow.specs.declared.Node.{Node}
 use Rattle.flow.specs.Trees.{descend}
-use Rattle.flow.specs.Cues.{cued}
+use Rattle.flow.specs.Cues.{cued-leaf, cued}
 use Rattle.flow.specs.Kinds.{node, basic, paired, standard, compensable}
 use Rattle.states.specs.declared.Sense.{Sense}
 use Rattle.states.specs.declared.Sense.the-variants.{Drawn, Undoing}
@@ -27,9 +27,9 @@ nothing = record { std = λ s. skip; run = skipp }
 
 -- what the nodes stand for is `at`
 unfoldable pub std-of : Standing → Sense → (ℕ → Part) → Std
-std-of (standing.Event e) s at = ev (cued e)
+std-of (standing.Event e) s at = ev (cued-leaf e)
 std-of (standing.Basic b) s at = basic b
-std-of (standing.Both o t) s at = standard o (at (t .first) .std s) (at (t .second) .std s)
+std-of (standing.Both o t) s at = standard (cued .sets) o (at (t .first) .std s) (at (t .second) .std s)
 std-of (standing.Handler t) s at = hnd (at (t .first) .std s) (at (t .second) .std s)
 std-of (standing.Block c) s at = blk (at c .run)
 std-of (standing.As x) s at = at (x .node) .std (x .sense)
@@ -37,7 +37,7 @@ std-of (standing.As x) s at = at (x .node) .std (x .sense)
 unfoldable pub run-of : Course → (ℕ → Part) → Cmp
 run-of (course.Basic b) at = paired b
 run-of (course.Pair t) at = pair (at (t .first) .std Drawn) (at (t .second) .std Drawn)
-run-of (course.Both o t) at = compensable o (at (t .first) .run) (at (t .second) .run)
+run-of (course.Both o t) at = compensable (cued .sets) o (at (t .first) .run) (at (t .second) .run)
 run-of (course.Held t) at = held (at (t .second) .run) (at (t .first) .std Undoing)
 run-of (course.As c) at = at c .run
 

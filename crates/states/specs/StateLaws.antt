@@ -11,6 +11,7 @@ use Rattle.calculus.specs.Successors.{steps, csteps}
 use Rattle.flow.specs.Shapes.{Kid}
 use Rattle.flow.specs.Trees.{Under, self, up, Tree, Local}
 use Rattle.flow.specs.Nodes.{under-trans, descend-node, descend-frame}
+use Rattle.flow.specs.Cues.{cued}
 use Rattle.flow.specs.Kinds.{node, shape, standard, compensable}
 use Rattle.tallies.specs.Capped.{cap}
 use Rattle.states.specs.declared.Sense.{Sense}
@@ -33,7 +34,7 @@ module _ (ns : List ℕ) (i : ℕ) where
     unfolding std-of
     std-local (standing.Event v) s w = refl
     std-local (standing.Basic b) s w = refl
-    std-local (standing.Both o t) s w = λ z. standard o (e (t .first) (w .one) z .std s) (e (t .second) (w .other) z .std s)
+    std-local (standing.Both o t) s w = λ z. standard (cued .sets) o (e (t .first) (w .one) z .std s) (e (t .second) (w .other) z .std s)
     std-local (standing.Handler t) s w = λ z. hnd (e (t .first) (w .one) z .std s) (e (t .second) (w .other) z .std s)
     std-local (standing.Block c) s w = λ z. blk (e c w z .run)
     std-local (standing.As x) s w = λ z. e (x .node) w z .std (x .sense)
@@ -42,7 +43,7 @@ module _ (ns : List ℕ) (i : ℕ) where
     unfolding run-of
     run-local (course.Basic b) w = refl
     run-local (course.Pair t) w = λ z. pair (e (t .first) (w .one) z .std Drawn) (e (t .second) (w .other) z .std Drawn)
-    run-local (course.Both o t) w = λ z. compensable o (e (t .first) (w .one) z .run) (e (t .second) (w .other) z .run)
+    run-local (course.Both o t) w = λ z. compensable (cued .sets) o (e (t .first) (w .one) z .run) (e (t .second) (w .other) z .run)
     run-local (course.Held t) w = λ z. held (e (t .second) (w .other) z .run) (e (t .first) (w .one) z .std Undoing)
     run-local (course.As c) w = λ z. e c w z .run
 

@@ -9,6 +9,7 @@ ghost use mathlib.Core.Logic.{_≢_};
 ghost use Prim.Native.Nat.{_+_, _*_, _<_};
 ghost use lib.ListN.{length, set};
 ghost use Rattle.flow.specs.Kinds.{node};
+ghost use Rattle.flow.specs.Cues.{joint-at, joint-by};
 ghost use Rattle.states.specs.Standings.{as-drawn, only, drawn-two, undoing-two, stand-drawn, stand-undoing, stand, course-two, course-of};
 ghost use Rattle.states.specs.State.{modes};
 ghost use Rattle.states.specs.Contracts.{Spot, Redrawn};
@@ -124,7 +125,7 @@ fn drawn_two(operator: Operator, two: Two, mode: u8) -> Standing
                 only(two.second, Sense::Drawn)
             }
         }
-        Operator::Parallel => Standing::Both(operator, two),
+        Operator::Parallel(_) => Standing::Both(operator, two),
     }
 }
 
@@ -179,7 +180,7 @@ fn undoing_two(operator: Operator, two: Two, mode: u8) -> Standing
                 only(two.second, Sense::Undoing)
             }
         }
-        Operator::Parallel => Standing::Both(operator, two),
+        Operator::Parallel(_) => Standing::Both(operator, two),
     }
 }
 
@@ -233,7 +234,7 @@ fn course_two(operator: Operator, two: Two, mode: u8) -> Course
                 Course::As(two.second)
             }
         }
-        Operator::Parallel => Course::Both(operator, two),
+        Operator::Parallel(_) => Course::Both(operator, two),
     }
 }
 
@@ -248,6 +249,27 @@ pub fn course_at(ns: &[u16], t: &[u8], i: usize) -> Course
         Node::Compensable(operator, two) => course_two(operator, two, mode_of(t, i)),
         Node::Paired(word) => Course::Basic(word),
         _ => Course::Basic(Simple::Skip),
+    }
+}
+
+// Whether the event of a cue is joint in the set of this number; none is where there is no set.
+pub fn joint(cue: u64, set: u16) -> bool
+    ensures { λ r. ⌜ r ≡ joint-at cue set ⌝ }
+{
+    if set >= flow::NO_SET {
+        return false;
+    }
+    (cue >> (16 + set)) % 2 == 1
+}
+
+// Whether two parts that the operator joins take the event of a cue together.
+pub fn joint_by(cue: u64, operator: Operator) -> bool
+    ensures { λ r. ⌜ r ≡ joint-by cue operator ⌝ }
+{
+    match operator {
+        Operator::Sequence => false,
+        Operator::Choice => false,
+        Operator::Parallel(set) => joint(cue, set),
     }
 }
 

@@ -24,7 +24,7 @@ module _ (s : Sense) (n : Node) where
   After (standing.Basic b) = Unit {0}
   After (standing.Both Sequence t) = stand s n (gone s) ≡ only (t .second) s
   After (standing.Both Choice t) = (stand s n first-taken ≡ only (t .first) s) × (stand s n second-taken ≡ only (t .second) s)
-  After (standing.Both Parallel t) = Unit {0}
+  After (standing.Both (Parallel k) t) = Unit {0}
   After (standing.Handler t) = stand s n moved-on ≡ only (t .second) s
   After (standing.Block c) = (s ≡ Drawn) × (stand s n compensating ≡ only c Undoing)
   After (standing.As x) = Unit {0}
@@ -35,7 +35,7 @@ module _ (n : Node) where
   CAfter (course.Pair t) = Unit {0}
   CAfter (course.Both Sequence t) = course-of n holding ≡ course.Held t
   CAfter (course.Both Choice t) = (course-of n first-taken ≡ course.As (t .first)) × (course-of n second-taken ≡ course.As (t .second))
-  CAfter (course.Both Parallel t) = Unit {0}
+  CAfter (course.Both (Parallel k) t) = Unit {0}
   CAfter (course.Held t) = Unit {0}
   CAfter (course.As c) = Unit {0}
 
@@ -58,7 +58,7 @@ drawn-after (Standard Choice t) m = by (eqb m as-drawn) (eqb m first-taken)
     by true d = (refl, refl)
     by false true = tt
     by false false = tt
-drawn-after (Standard Parallel t) m = tt
+drawn-after (Standard (Parallel k) t) m = tt
 drawn-after (Handler t) m = by (eqb m as-drawn)
   where
     by : (b : Bool) → After Drawn (Handler t) (cond b (standing.Handler t) (only (t .second) Drawn))
@@ -96,7 +96,7 @@ undoing-after (Compensable Choice t) m = by (eqb m first-taken)
     by : (b : Bool) → After Undoing (Compensable Choice t) (cond b (only (t .first) Undoing) (only (t .second) Undoing))
     by true = tt
     by false = tt
-undoing-after (Compensable Parallel t) m = tt
+undoing-after (Compensable (Parallel k) t) m = tt
 undoing-after (Paired b) m = tt
 undoing-after Unknown m = tt
 
@@ -124,6 +124,6 @@ course-after (Compensable Choice t) m = by (eqb m as-drawn) (eqb m first-taken)
     by true d = (refl, refl)
     by false true = tt
     by false false = tt
-course-after (Compensable Parallel t) m = tt
+course-after (Compensable (Parallel k) t) m = tt
 course-after (Paired b) m = tt
 course-after Unknown m = tt

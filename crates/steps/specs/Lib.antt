@@ -4,3 +4,4 @@ pub mod Turns
 pub mod AfterLaws
 pub mod NodeLaws
 pub mod TurnLaws
+pub mod MeetLaws

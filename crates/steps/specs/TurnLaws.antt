@@ -7,7 +7,7 @@ use mathlib.Core.List.{List}
 use native.Mathlib.Omega.{arith}
 use lib.Dec.{T}
 use lib.ListN.{length, set}
-use Rattle.calculus.specs.Term.{Std, Cmp, done, failed, skip, throw, yield, seq, par, hnd, blk, pair, cseq, cpar, held}
+use Rattle.calculus.specs.Term.{Joint, Std, Cmp, done, failed, skip, throw, yield, seq, par, hnd, blk, pair, cseq, cpar, held}
 use Rattle.calculus.specs.Successors.{steps, csteps, comps}
 use Rattle.calculus.specs.Members.{and-left, and-right}
 use Rattle.flow.specs.declared.Simple.{Simple}
@@ -16,14 +16,14 @@ use Rattle.flow.specs.declared.Operator.{Operator}
 use Rattle.flow.specs.declared.Operator.the-variants.{Sequence, Choice, Parallel}
 use Rattle.flow.specs.declared.Two.{Two}
 use Rattle.flow.specs.declared.Node.{Node}
-use Rattle.flow.specs.Kinds.{node, shape, basic, paired, standard, compensable}
+use Rattle.flow.specs.Kinds.{node, shape, set-of, basic, paired, standard, compensable}
 use Rattle.flow.specs.Shapes.{Kid}
-use Rattle.flow.specs.Cues.{cued}
+use Rattle.flow.specs.Cues.{cued-leaf, cued, joint-by}
 use Rattle.tallies.specs.Capped.{cap}
 use Rattle.tallies.specs.Formulas.{movesG, holdG}
 use Rattle.tallies.specs.Counts.{sum-of, moves, weight}
 use Rattle.tallies.specs.Places.{At, Finds}
-use Rattle.tallies.specs.StepLaws.{at-ev, no-skip-step, no-throw-step, no-yield-step, at-seq-first, at-hnd-first, at-alt-first, at-par-first, seq-room, at-seq-second, hnd-room, at-hnd-second, alt-room, at-alt-second, par-room, at-par-second, at-blk-first, blk-room, blk-rest, at-blk-second, at-pair, pair-room, at-held, held-room, at-cseq-first, at-calt-first, at-cpar-first, cseq-room, cseq-rest, at-cseq-second, calt-room, at-calt-second, cpar-room, at-cpar-second}
+use Rattle.tallies.specs.StepLaws.{at-ev, no-skip-step, no-throw-step, no-yield-step, at-seq-first, at-hnd-first, at-alt-first, seq-room, at-seq-second, hnd-room, at-hnd-second, alt-room, at-alt-second, par-together, cpar-together, apart-at-first, apart-room, apart-at-second, at-blk-first, blk-room, blk-rest, at-blk-second, at-pair, pair-room, at-held, held-room, at-cseq-first, at-calt-first, cseq-room, cseq-rest, at-cseq-second, calt-room, at-calt-second}
 use Rattle.tallies.specs.declared.View.{View}
 use Rattle.tallies.specs.declared.Weight.{Weight}
 use Rattle.states.specs.declared.Sense.{Sense}
@@ -113,25 +113,25 @@ module _ {s : Scene} {r : Role} {c : List ℕ} {i k : ℕ} (h : Ready s r c i k)
 abbrev first-standing : Operator → Two → Sense → Standing
 first-standing Sequence p v = standing.Both Sequence p
 first-standing Choice p v = only (p .first) v
-first-standing Parallel p v = standing.Both Parallel p
+first-standing (Parallel n) p v = standing.Both (Parallel n) p
 
 abbrev second-standing : Operator → Two → Sense → Standing
 second-standing Sequence p v = only (p .second) v
 second-standing Choice p v = only (p .second) v
-second-standing Parallel p v = standing.Both Parallel p
+second-standing (Parallel n) p v = standing.Both (Parallel n) p
 
 module _ (v : Sense) (n : Node) (m : ℕ) {p : Two} where
   first-stands : (o : Operator) → stand v n m ≡ standing.Both o p → stand v n (first-mode o m) ≡ first-standing o p v
   unfolding first-mode
   first-stands Sequence e = e
   first-stands Choice e = subst (After v n) e (stand-after v n m) .0
-  first-stands Parallel e = e
+  first-stands (Parallel n) e = e
 
   second-stands : (o : Operator) → stand v n m ≡ standing.Both o p → stand v n (second-mode o (gone v) m) ≡ second-standing o p v
   unfolding second-mode
   second-stands Sequence e = subst (After v n) e (stand-after v n m)
   second-stands Choice e = subst (After v n) e (stand-after v n m) .1
-  second-stands Parallel e = e
+  second-stands (Parallel n) e = e
 
 -- the parts before are those of b, and those after of at
 module _ (a : ℕ) (v : Sense) (p : Two) (b at : ℕ → Part) (k : ℕ) where
@@ -141,29 +141,33 @@ module _ (a : ℕ) (v : Sense) (p : Two) (b at : ℕ → Part) (k : ℕ) where
   abbrev std-other : Std
   std-other = b (p .second) .std v
 
-  both-first : (o : Operator) → at (p .second) ≡ b (p .second) → At (steps std-one a) k (at (p .first) .std v) → At (steps (standard o std-one std-other) a) k (std-of (first-standing o p v) v at)
+  both-first : (o : Operator) → joint-by a o ≡ false → at (p .second) ≡ b (p .second) → At (steps std-one a) k (at (p .first) .std v) → At (steps (standard (cued .sets) o std-one std-other) a) k (std-of (first-standing o p v) v at)
   unfolding std-of
-  both-first Sequence e u = subst (λ z. At (steps (seq std-one std-other) a) k (seq (at (p .first) .std v) (z .std v))) (sym e) (at-seq-first a std-one std-other u)
-  both-first Choice e u = at-alt-first a std-one std-other u
-  both-first Parallel e u = subst (λ z. At (steps (par std-one std-other) a) k (par (at (p .first) .std v) (z .std v))) (sym e) (at-par-first a std-one std-other u)
+  both-first Sequence f e u = subst (λ z. At (steps (seq std-one std-other) a) k (seq (at (p .first) .std v) (z .std v))) (sym e) (at-seq-first a std-one std-other u)
+  both-first Choice f e u = at-alt-first a std-one std-other u
+  both-first (Parallel n) f e u =
+      let j : Joint = set-of (cued .sets) n in
+      subst (λ z. At (steps (par j std-one std-other) a) k (par j (at (p .first) .std v) (z .std v))) (sym e) (apart-at-first (par-together a j std-one std-other f) u)
 
   hnd-first : at (p .second) ≡ b (p .second) → At (steps std-one a) k (at (p .first) .std v) → At (steps (hnd std-one std-other) a) k (std-of (standing.Handler p) v at)
   unfolding std-of
   hnd-first e u = subst (λ z. At (steps (hnd std-one std-other) a) k (hnd (at (p .first) .std v) (z .std v))) (sym e) (at-hnd-first a std-one std-other u)
 
   module _ {n : ℕ} (d : n ≡ cap (length (steps std-one a))) (g : n ≤ k) where
-    both-room : (o : Operator) → k < cap (length (steps (standard o std-one std-other) a)) → k - n < cap (length (steps std-other a))
+    both-room : (o : Operator) → joint-by a o ≡ false → k < cap (length (steps (standard (cued .sets) o std-one std-other) a)) → k - n < cap (length (steps std-other a))
     unfolding moves
-    both-room Sequence h = seq-room a std-one std-other d h g
-    both-room Choice h = alt-room a std-one std-other d h g
-    both-room Parallel h = par-room a std-one std-other d h g
+    both-room Sequence f h = seq-room a std-one std-other d h g
+    both-room Choice f h = alt-room a std-one std-other d h g
+    both-room (Parallel m) f h = apart-room (par-together a (set-of (cued .sets) m) std-one std-other f) d h g
 
-    both-second : (o : Operator) → k < cap (length (steps (standard o std-one std-other) a)) → at (p .first) ≡ b (p .first)
-        → At (steps std-other a) (k - n) (at (p .second) .std v) → At (steps (standard o std-one std-other) a) k (std-of (second-standing o p v) v at)
+    both-second : (o : Operator) → joint-by a o ≡ false → k < cap (length (steps (standard (cued .sets) o std-one std-other) a)) → at (p .first) ≡ b (p .first)
+        → At (steps std-other a) (k - n) (at (p .second) .std v) → At (steps (standard (cued .sets) o std-one std-other) a) k (std-of (second-standing o p v) v at)
     unfolding std-of moves
-    both-second Sequence h e u = at-seq-second a std-one std-other d h g u
-    both-second Choice h e u = at-alt-second a std-one std-other d h g u
-    both-second Parallel h e u = subst (λ z. At (steps (par std-one std-other) a) k (par (z .std v) (at (p .second) .std v))) (sym e) (at-par-second a std-one std-other d h g u)
+    both-second Sequence f h e u = at-seq-second a std-one std-other d h g u
+    both-second Choice f h e u = at-alt-second a std-one std-other d h g u
+    both-second (Parallel m) f h e u =
+        let j : Joint = set-of (cued .sets) m in
+        subst (λ z. At (steps (par j std-one std-other) a) k (par j (z .std v) (at (p .second) .std v))) (sym e) (apart-at-second (par-together a j std-one std-other f) d h g u)
 
 module _ {s : Scene} {v : Sense} {c : List ℕ} {i k : ℕ} (h : Ready s (Plain v) c i k) {p : Two} where
   both-twins : {o : Operator} → stand-in s v i ≡ standing.Both o p → Twins (s .ns) i p
@@ -185,38 +189,38 @@ module _ {s : Scene} {v : Sense} {c : List ℕ} {i k : ℕ} (h : Ready s (Plain 
   handler-small e = number-small h (handler-twins e .one)
 
   -- the first makes the step
-  pub both-first-turned : {t′ : List ℕ} {y : Turn} {o : Operator} → stand-in s v i ≡ standing.Both o p → Forked c (s .t) k (halves i o p (gone v)) t′ y → y .second ≡ false
+  pub both-first-turned : {t′ : List ℕ} {y : Turn} {o : Operator} → joint-by (s .a) o ≡ false → stand-in s v i ≡ standing.Both o p → Forked c (s .t) k (halves i o p (gone v)) t′ y → y .second ≡ false
       → Turned s c (move (Plain v) i k) t′ (move (Plain v) (y .node) (y .at))
   unfolding std-of std-right
-  both-first-turned {o = o} e (in-first l w) b =
+  both-first-turned {o = o} f e (in-first l w) b =
       let tw = both-twins e in
-      at-first h e tw (parts-right h e) w (first-stands v (node (s .ns) i) (modes (s .t) i) o e) l (λ at d u. both-first (s .a) v p (part-at s) at k o d u)
-      (to-first (truly-below h e tw (parts-right h e) l) (record { sets = w; is = refl }))
-  both-first-turned e (in-second g w) b = absurd (true≢false b)
+      at-first h e tw (parts-right h e) w (first-stands v (node (s .ns) i) (modes (s .t) i) o e) l (λ at d u. both-first (s .a) v p (part-at s) at k o f d u)
+      (f, to-first (truly-below h e tw (parts-right h e) l) (record { sets = w; is = refl }))
+  both-first-turned f e (in-second g w) b = absurd (true≢false b)
 
-  module _ {o : Operator} (e : stand-in s v i ≡ standing.Both o p) (g : counts c (p .first) ≤ k) {t′ : List ℕ} (w : Sets (s .t) i (second-mode o (gone v) (modes (s .t) i)) t′) where
+  module _ {o : Operator} (f : joint-by (s .a) o ≡ false) (e : stand-in s v i ≡ standing.Both o p) (g : counts c (p .first) ≤ k) {t′ : List ℕ} (w : Sets (s .t) i (second-mode o (gone v) (modes (s .t) i)) t′) where
     beside-turned : Passed (s .ns) o (p .first) t′ t′ → Turned s c (move (Plain v) i k) t′ (move (Plain v) (p .second) (k - counts c (p .first)))
     unfolding std-of std-right
     beside-turned z =
         let tw = both-twins e in
         let n = first-count h e tw (parts-right h e) in
-        at-second h e tw (parts-right h e) w (second-stands v (node (s .ns) i) (modes (s .t) i) o e) (both-room (s .a) v p (part-at s) (part-at s) k n g o (step-room h e))
-        (λ at d u. both-second (s .a) v p (part-at s) at k n g o (step-room h e) d u)
-        (to-second (truly-past h e tw (parts-right h e) g) (record { between = t′; sets = w; passed = z; is = true-place h e tw (parts-right h e) }))
+        at-second h e tw (parts-right h e) w (second-stands v (node (s .ns) i) (modes (s .t) i) o e) (both-room (s .a) v p (part-at s) (part-at s) k n g o f (step-room h e))
+        (λ at d u. both-second (s .a) v p (part-at s) at k n g o f (step-room h e) d u)
+        (f, to-second (truly-past h e tw (parts-right h e) g) (record { between = t′; sets = w; passed = z; is = true-place h e tw (parts-right h e) }))
 
   -- the second makes it, and the first of a sequence is passed
-  pub both-second-turned : {t₁ t′ : List ℕ} {y : Turn} {o : Operator} → stand-in s v i ≡ standing.Both o p → Forked c (s .t) k (halves i o p (gone v)) t₁ y → y .second ≡ true → Passed (s .ns) o (p .first) t₁ t′
+  pub both-second-turned : {t₁ t′ : List ℕ} {y : Turn} {o : Operator} → joint-by (s .a) o ≡ false → stand-in s v i ≡ standing.Both o p → Forked c (s .t) k (halves i o p (gone v)) t₁ y → y .second ≡ true → Passed (s .ns) o (p .first) t₁ t′
       → Turned s c (move (Plain v) i k) t′ (move (Plain v) (y .node) (y .at))
   unfolding std-of std-right moves
-  both-second-turned e (in-first l w) b z = absurd (true≢false (sym b))
-  both-second-turned {o = Sequence} e (in-second g w) b z =
+  both-second-turned f e (in-first l w) b z = absurd (true≢false (sym b))
+  both-second-turned {o = Sequence} f e (in-second g w) b z =
       let n = first-count h e (both-twins e) (parts-right h e) in
       past-first h e (both-twins e) (parts-right h e) w (second-stands v (node (s .ns) i) (modes (s .t) i) Sequence e) (z .kept) (z .long)
-      (both-room (s .a) v p (part-at s) (part-at s) k n g Sequence (step-room h e))
+      (both-room (s .a) v p (part-at s) (part-at s) k n g Sequence refl (step-room h e))
       (λ at u. at-seq-second (s .a) (part-at s (p .first) .std v) (part-at s (p .second) .std v) n (step-room h e) g u)
-      (to-second (truly-past h e (both-twins e) (parts-right h e) g) (record { between = _; sets = w; passed = z; is = true-place h e (both-twins e) (parts-right h e) }))
-  both-second-turned {y = y} {o = Choice} e (in-second g w) b z = subst (λ t. Turned s c (move (Plain v) i k) t (move (Plain v) (y .node) (y .at))) (sym z) (beside-turned e g w refl)
-  both-second-turned {y = y} {o = Parallel} e (in-second g w) b z = subst (λ t. Turned s c (move (Plain v) i k) t (move (Plain v) (y .node) (y .at))) (sym z) (beside-turned e g w refl)
+      (refl, to-second (truly-past h e (both-twins e) (parts-right h e) g) (record { between = _; sets = w; passed = z; is = true-place h e (both-twins e) (parts-right h e) }))
+  both-second-turned {y = y} {o = Choice} f e (in-second g w) b z = subst (λ t. Turned s c (move (Plain v) i k) t (move (Plain v) (y .node) (y .at))) (sym z) (beside-turned f e g w refl)
+  both-second-turned {y = y} {o = Parallel n} f e (in-second g w) b z = subst (λ t. Turned s c (move (Plain v) i k) t (move (Plain v) (y .node) (y .at))) (sym z) (beside-turned f e g w refl)
 
   -- a handler goes on as a sequence does
   pub handler-first-turned : {t′ : List ℕ} {y : Turn} → stand-in s v i ≡ standing.Handler p → Forked c (s .t) k (halves i Sequence p moved-on) t′ y → y .second ≡ false
@@ -243,31 +247,31 @@ module _ {s : Scene} {v : Sense} {c : List ℕ} {i k : ℕ} (h : Ready s (Plain 
 abbrev first-course : Operator → Two → Course
 first-course Sequence p = course.Both Sequence p
 first-course Choice p = course.As (p .first)
-first-course Parallel p = course.Both Parallel p
+first-course (Parallel n) p = course.Both (Parallel n) p
 
 first-runs : (n : Node) (m : ℕ) {p : Two} (o : Operator) → course-of n m ≡ course.Both o p → course-of n (first-mode o m) ≡ first-course o p
 unfolding first-mode
 first-runs n m Sequence e = e
 first-runs n m Choice e = subst (CAfter n) e (course-after n m) .0
-first-runs n m Parallel e = e
+first-runs n m (Parallel j) e = e
 
 -- and after one of the second; of PP;QQ a compensation of PP's is held
 abbrev second-course : Operator → Two → Course
 second-course Sequence p = course.Held p
 second-course Choice p = course.As (p .second)
-second-course Parallel p = course.Both Parallel p
+second-course (Parallel n) p = course.Both (Parallel n) p
 
 second-runs : (n : Node) (m : ℕ) {p : Two} (o : Operator) → course-of n m ≡ course.Both o p → course-of n (second-mode o holding m) ≡ second-course o p
 unfolding second-mode
 second-runs n m Sequence e = subst (CAfter n) e (course-after n m)
 second-runs n m Choice e = subst (CAfter n) e (course-after n m) .1
-second-runs n m Parallel e = e
+second-runs n m (Parallel j) e = e
 
 -- nothing is held for the second part
 abbrev pub Apart : Operator → Type 0
 Apart Sequence = ⊥
 Apart Choice = Unit {0}
-Apart Parallel = Unit {0}
+Apart (Parallel n) = Unit {0}
 
 module _ (a : ℕ) (p : Two) (b at : ℕ → Part) (k : ℕ) where
   abbrev run-one : Cmp
@@ -276,24 +280,28 @@ module _ (a : ℕ) (p : Two) (b at : ℕ → Part) (k : ℕ) where
   abbrev run-other : Cmp
   run-other = b (p .second) .run
 
-  run-first : (o : Operator) → at (p .second) ≡ b (p .second) → At (csteps run-one a) k (at (p .first) .run) → At (csteps (compensable o run-one run-other) a) k (run-of (first-course o p) at)
+  run-first : (o : Operator) → joint-by a o ≡ false → at (p .second) ≡ b (p .second) → At (csteps run-one a) k (at (p .first) .run) → At (csteps (compensable (cued .sets) o run-one run-other) a) k (run-of (first-course o p) at)
   unfolding run-of
-  run-first Sequence e u = subst (λ z. At (csteps (cseq run-one run-other) a) k (cseq (at (p .first) .run) (z .run))) (sym e) (at-cseq-first a run-one run-other u)
-  run-first Choice e u = at-calt-first a run-one run-other u
-  run-first Parallel e u = subst (λ z. At (csteps (cpar run-one run-other) a) k (cpar (at (p .first) .run) (z .run))) (sym e) (at-cpar-first a run-one run-other u)
+  run-first Sequence f e u = subst (λ z. At (csteps (cseq run-one run-other) a) k (cseq (at (p .first) .run) (z .run))) (sym e) (at-cseq-first a run-one run-other u)
+  run-first Choice f e u = at-calt-first a run-one run-other u
+  run-first (Parallel n) f e u =
+      let j : Joint = set-of (cued .sets) n in
+      subst (λ z. At (csteps (cpar j run-one run-other) a) k (cpar j (at (p .first) .run) (z .run))) (sym e) (apart-at-first (cpar-together a j run-one run-other f) u)
 
   module _ {n : ℕ} (d : n ≡ cap (length (csteps run-one a))) (g : n ≤ k) where
-    run-room : (o : Operator) → Apart o → k < cap (length (csteps (compensable o run-one run-other) a)) → k - n < cap (length (csteps run-other a))
-    run-room Sequence z h = absurd z
-    run-room Choice z h = calt-room a run-one run-other d h g
-    run-room Parallel z h = cpar-room a run-one run-other d h g
+    run-room : (o : Operator) → Apart o → joint-by a o ≡ false → k < cap (length (csteps (compensable (cued .sets) o run-one run-other) a)) → k - n < cap (length (csteps run-other a))
+    run-room Sequence z f h = absurd z
+    run-room Choice z f h = calt-room a run-one run-other d h g
+    run-room (Parallel m) z f h = apart-room (cpar-together a (set-of (cued .sets) m) run-one run-other f) d h g
 
-    run-second : (o : Operator) → Apart o → k < cap (length (csteps (compensable o run-one run-other) a)) → at (p .first) ≡ b (p .first)
-        → At (csteps run-other a) (k - n) (at (p .second) .run) → At (csteps (compensable o run-one run-other) a) k (run-of (second-course o p) at)
+    run-second : (o : Operator) → Apart o → joint-by a o ≡ false → k < cap (length (csteps (compensable (cued .sets) o run-one run-other) a)) → at (p .first) ≡ b (p .first)
+        → At (csteps run-other a) (k - n) (at (p .second) .run) → At (csteps (compensable (cued .sets) o run-one run-other) a) k (run-of (second-course o p) at)
     unfolding run-of
-    run-second Sequence z h e u = absurd z
-    run-second Choice z h e u = at-calt-second a run-one run-other d h g u
-    run-second Parallel z h e u = subst (λ y. At (csteps (cpar run-one run-other) a) k (cpar (y .run) (at (p .second) .run))) (sym e) (at-cpar-second a run-one run-other d h g u)
+    run-second Sequence z f h e u = absurd z
+    run-second Choice z f h e u = at-calt-second a run-one run-other d h g u
+    run-second (Parallel m) z f h e u =
+        let j : Joint = set-of (cued .sets) m in
+        subst (λ y. At (csteps (cpar j run-one run-other) a) k (cpar j (y .run) (at (p .second) .run))) (sym e) (apart-at-second (cpar-together a j run-one run-other f) d h g u)
 
 module _ {s : Scene} {c : List ℕ} {i k : ℕ} (h : Ready s Running c i k) {p : Two} where
   module _ {o : Operator} (e : course-in s i ≡ course.Both o p) where
@@ -307,27 +315,27 @@ module _ {s : Scene} {c : List ℕ} {i k : ℕ} (h : Ready s Running c i k) {p :
     unfolding run-right
     both-right = parts-right h e
 
-  pub into-first : {t′ : List ℕ} {y : Turn} {o : Operator} → course-in s i ≡ course.Both o p → Forked c (s .t) k (halves i o p holding) t′ y → y .second ≡ false
+  pub into-first : {t′ : List ℕ} {y : Turn} {o : Operator} → joint-by (s .a) o ≡ false → course-in s i ≡ course.Both o p → Forked c (s .t) k (halves i o p holding) t′ y → y .second ≡ false
       → Turned s c (move Running i k) t′ (move Running (y .node) (y .at))
   unfolding run-of
-  into-first {o = o} e (in-first l w) b = at-first h e (run-twins e) (both-right e) w (first-runs (node (s .ns) i) (modes (s .t) i) o e) l (λ at d u. run-first (s .a) p (part-at s) at k o d u)
-      (to-first (truly-below h e (run-twins e) (both-right e) l) (record { sets = w; is = refl }))
-  into-first e (in-second g w) b = absurd (true≢false b)
+  into-first {o = o} f e (in-first l w) b = at-first h e (run-twins e) (both-right e) w (first-runs (node (s .ns) i) (modes (s .t) i) o e) l (λ at d u. run-first (s .a) p (part-at s) at k o f d u)
+      (f, to-first (truly-below h e (run-twins e) (both-right e) l) (record { sets = w; is = refl }))
+  into-first f e (in-second g w) b = absurd (true≢false b)
 
-  pub apart-turned : {t′ : List ℕ} {y : Turn} {o : Operator} → Apart o → course-in s i ≡ course.Both o p → Forked c (s .t) k (halves i o p holding) t′ y
+  pub apart-turned : {t′ : List ℕ} {y : Turn} {o : Operator} → Apart o → joint-by (s .a) o ≡ false → course-in s i ≡ course.Both o p → Forked c (s .t) k (halves i o p holding) t′ y
       → Turned s c (move Running i k) t′ (move Running (y .node) (y .at))
   unfolding run-of
-  apart-turned z e (in-first l w) = into-first e (in-first l w) refl
-  apart-turned {o = o} z e (in-second g w) =
+  apart-turned z f e (in-first l w) = into-first f e (in-first l w) refl
+  apart-turned {o = o} z f e (in-second g w) =
       let n = first-count h e (run-twins e) (both-right e) in
-      at-second h e (run-twins e) (both-right e) w (second-runs (node (s .ns) i) (modes (s .t) i) o e) (run-room (s .a) p (part-at s) (part-at s) k n g o z (step-room h e))
-      (λ at d u. run-second (s .a) p (part-at s) at k n g o z (step-room h e) d u)
-      (to-second (truly-past h e (run-twins e) (both-right e) g) (apart-goes o z (record { sets = w; is = true-place h e (run-twins e) (both-right e) })))
+      at-second h e (run-twins e) (both-right e) w (second-runs (node (s .ns) i) (modes (s .t) i) o e) (run-room (s .a) p (part-at s) (part-at s) k n g o z f (step-room h e))
+      (λ at d u. run-second (s .a) p (part-at s) at k n g o z f (step-room h e) d u)
+      (f, to-second (truly-past h e (run-twins e) (both-right e) g) (apart-goes o z (record { sets = w; is = true-place h e (run-twins e) (both-right e) })))
     where
       apart-goes : (o : Operator) → Apart o → {t′ : List ℕ} {y : Move} → Marked s i (second-mode o holding (modes (s .t) i)) (move Running (p .second) (k - many Running (s .a) (part-at s (p .first)))) t′ y → goes-on s i k o p t′ y
       apart-goes Sequence z m = absurd z
       apart-goes Choice z m = m
-      apart-goes Parallel z m = m
+      apart-goes (Parallel n) z m = m
 
   -- PP;QQ goes on: one of PP's compensations is held, and QQ makes a step
   module _ (e : course-in s i ≡ course.Both Sequence p) (g : counts c (p .first) ≤ k) {t₁ : List ℕ} (w : Sets (s .t) i holding t₁) where
@@ -369,7 +377,7 @@ module _ {s : Scene} {c : List ℕ} {i k : ℕ} (h : Ready s Running c i k) {p :
           handed-past h e Running (tw .other) (tw .one) (tw .free) w (ch .kept) long (subst (CAfter (node (s .ns) i)) e (course-after (node (s .ns) i) (modes (s .t) i)))
           (second-right h e tw (both-right e)) (cseq-rest (s .a) pp qq n on-left g second-count on-found)
           (λ at d u. subst (λ z. At (csteps (cseq pp qq) (s .a)) k (held (at (p .second) .run) (z .std Undoing))) (sym d) (at-cseq-second (s .a) pp qq n on-left g second-count on-found u))
-          (to-second (truly-past h e tw (both-right e) g) (record { between = t₁; picked = y; sets = w; chosen = on-chosen; long = long; is = refl }))
+          (refl, to-second (truly-past h e tw (both-right e) g) (record { between = t₁; picked = y; sets = w; chosen = on-chosen; long = long; is = refl }))
 
   module _ (e : course-in s i ≡ course.Both Sequence p) where
     pub held-spot : {t₁ : List ℕ} {y : Turn} → Forked c (s .t) k (halves i Sequence p holding) t₁ y → y .second ≡ true → Spot (s .ns) t₁ (p .first)
@@ -518,7 +526,7 @@ module _ {s : Scene} {c : List ℕ} {i k : ℕ} where
   event-stepped {v} h {x} e {t′} d =
       let w : Sets (s .t) i event-taken t′ = set-sets (h .spot .room) d in
       record {
-        goes = step-goes h e t′ (ap (stand v (node (s .ns) i)) (w .here) ∙ subst (After v (node (s .ns) i)) e (stand-after v (node (s .ns) i) (modes (s .t) i))) (at-ev (cued x) (s .a) (step-room h e));
+        goes = step-goes h e t′ (ap (stand v (node (s .ns) i)) (w .here) ∙ subst (After v (node (s .ns) i)) e (stand-after v (node (s .ns) i) (modes (s .t) i))) (at-ev (cued-leaf x) (s .a) (step-room h e));
         kept = kept-set (s .ns) w;
         makes = takes refl e w;
       }

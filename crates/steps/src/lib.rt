@@ -1,6 +1,6 @@
 // The k-th step of a part by the cue: the modes in t are those of the state before, and become those of its k-th successor. A
 // step is found by the counts that the counting pass left. A node hands its step down to a live part, at a place among that part's
-// steps; standard and compensable nodes call each other, and child numbers fall.
+// steps, or to both sides of a parallel that meet; standard and compensable nodes call each other, and child numbers fall.
 use flow::Operator;
 use flow::Two;
 use states::Course;
@@ -11,7 +11,9 @@ use tallies::Weight;
 ghost use mathlib.Core.Path.{_≡_};
 ghost use Prim.Native.Nat.{_<_, _≤_};
 ghost use lib.ListN.{length};
+ghost use mathlib.Core.Bool.{false};
 ghost use Rattle.calculus.specs.Term.{done};
+ghost use Rattle.flow.specs.Cues.{joint-by};
 ghost use Rattle.tallies.specs.Formulas.{holdG};
 ghost use Rattle.states.specs.declared.Standing.the-variants as standing;
 ghost use Rattle.states.specs.declared.Course.the-variants as course;
@@ -19,7 +21,7 @@ ghost use Rattle.states.specs.declared.Sense.the-variants.{Drawn, Undoing};
 ghost use Rattle.states.specs.declared.Role.the-variants.{Plain, Running};
 ghost use Rattle.states.specs.State.{modes, counts};
 ghost use Rattle.states.specs.Contracts.{Spot, Sets, scene, weight-of, ask, Chosen, Ready, Stepped};
-ghost use Rattle.states.specs.Hands.{move, stand-in, course-in, gone, first-mode, second-mode, Passed};
+ghost use Rattle.states.specs.Hands.{move, stand-in, course-in, gone, first-mode, second-mode, Passed, Meets};
 ghost use Rattle.steps.specs.Turns.{Turned, halves, Forked};
 
 // Where a step goes on: a live part, the place among its steps, and whether it is the second of two.
@@ -44,7 +46,7 @@ fn enter_first(t: &mut [u8], i: usize, operator: Operator)
     match operator {
         Operator::Sequence => {}
         Operator::Choice => states::set_mode(t, i, states::FIRST_TAKEN),
-        Operator::Parallel => {}
+        Operator::Parallel(_) => {}
     }
 }
 
@@ -56,7 +58,7 @@ fn enter_second(t: &mut [u8], i: usize, operator: Operator, gone: u8)
     match operator {
         Operator::Sequence => states::set_mode(t, i, gone),
         Operator::Choice => states::set_mode(t, i, states::SECOND_TAKEN),
-        Operator::Parallel => {}
+        Operator::Parallel(_) => {}
     }
 }
 
@@ -110,12 +112,12 @@ fn pass(ns: &[u16], t: &mut [u8], operator: Operator, first: usize)
     match operator {
         Operator::Sequence => states::redraw(ns, t, first),
         Operator::Choice => {}
-        Operator::Parallel => {}
+        Operator::Parallel(_) => {}
     }
 }
 
 // PP;QQ has gone on: a compensation of PP's done ending is chosen and held, and QQ makes the step, at the place answered.
-fn hold(ns: &[u16], t: &mut [u8], a: u32, c: &[u32; 64], two: Two, j: u32) -> Picked
+fn hold(ns: &[u16], t: &mut [u8], a: u64, c: &[u32; 64], two: Two, j: u32) -> Picked
     requires { ⌜ Spot (now ns) (now t) (two .first) ⌝ }
     requires { ⌜ two .second < 64 ⌝ }
     requires { ⌜ j < weight-of (scene (now ns) (now t) a) (two .first) done (holdG (counts (now c) (two .second))) ⌝ }
@@ -134,7 +136,7 @@ fn hold(ns: &[u16], t: &mut [u8], a: u32, c: &[u32; 64], two: Two, j: u32) -> Pi
 fn turn_run(
     ns: &[u16],
     t: &mut [u8],
-    a: u32,
+    a: u64,
     c: &[u32; 64],
     i: usize,
     operator: Operator,
@@ -143,6 +145,7 @@ fn turn_run(
 ) -> Turn
     requires { ⌜ Ready (scene (now ns) (now t) a) Running (now c) i k ⌝ }
     requires { ⌜ course-in (scene (now ns) (now t) a) i ≡ course.Both operator two ⌝ }
+    requires { ⌜ joint-by a operator ≡ false ⌝ }
     ensures { λ r. ⌜ Turned (scene (now (ns .entry)) (now (t .entry)) a) (now (c .entry)) (move Running i k) (now (t .exit)) (move Running (r .node) (r .at)) ⌝ }
 {
     let x = turn_two(t, c, i, operator, two, states::HELD, k);
@@ -161,7 +164,7 @@ fn turn_run(
             }
         }
         Operator::Choice => x,
-        Operator::Parallel => x,
+        Operator::Parallel(_) => x,
     }
 }
 
@@ -169,7 +172,7 @@ fn turn_run(
 fn turn_out(
     ns: &[u16],
     t: &mut [u8],
-    a: u32,
+    a: u64,
     c: &[u32; 64],
     d: &mut [u32; 64],
     i: usize,
@@ -194,7 +197,7 @@ fn turn_out(
 }
 
 // The k-th step of a standard part. It is handed down in a loop, which costs half of what a call for each level does.
-pub fn step_std(ns: &[u16], t: &mut [u8], a: u32, c: &[u32; 64], i: usize, sense: Sense, k: u32)
+pub fn step_std(ns: &[u16], t: &mut [u8], a: u64, c: &[u32; 64], i: usize, sense: Sense, k: u32)
     requires { ⌜ Ready (scene (now ns) (now t) a) (Plain sense) (now c) i k ⌝ }
     ensures { λ r. ⌜ Stepped (scene (now (ns .entry)) (now (t .entry)) a) (Plain sense) i k (now (t .exit)) ⌝ }
 {
@@ -207,6 +210,9 @@ pub fn step_std(ns: &[u16], t: &mut [u8], a: u32, c: &[u32; 64], i: usize, sense
             Standing::Event(_) => return states::set_mode(t, here, states::TAKEN),
             Standing::Basic(_) => return,
             Standing::Both(operator, two) => {
+                if states::joint_by(a, operator) {
+                    return meet_std(ns, t, a, c, here, two, live, at);
+                }
                 let x = turn_two(t, c, here, operator, two, gone_on(live), at);
                 if x.second {
                     pass(ns, t, operator, two.first);
@@ -231,8 +237,28 @@ pub fn step_std(ns: &[u16], t: &mut [u8], a: u32, c: &[u32; 64], i: usize, sense
     }
 }
 
+// Both sides of a parallel, by a joint event: each step of the first goes with all of the second.
+fn meet_std(
+    ns: &[u16],
+    t: &mut [u8],
+    a: u64,
+    c: &[u32; 64],
+    i: usize,
+    two: Two,
+    sense: Sense,
+    k: u32,
+)
+    requires { ⌜ Ready (scene (now ns) (now t) a) (Plain sense) (now c) i k ⌝ }
+    requires { ⌜ Meets a (Plain sense) (stand-in (scene (now ns) (now t) a) sense i) two ⌝ }
+    ensures { λ r. ⌜ Stepped (scene (now (ns .entry)) (now (t .entry)) a) (Plain sense) i k (now (t .exit)) ⌝ }
+{
+    let n = count_at(c, two.second);
+    step_std(ns, t, a, c, two.first, sense, k / n);
+    step_std(ns, t, a, c, two.second, sense, k % n);
+}
+
 // Of a block: inside, or out of it by a compensation.
-fn step_block(ns: &[u16], t: &mut [u8], a: u32, c: &[u32; 64], i: usize, child: usize, k: u32)
+fn step_block(ns: &[u16], t: &mut [u8], a: u64, c: &[u32; 64], i: usize, child: usize, k: u32)
     requires { ⌜ Ready (scene (now ns) (now t) a) (Plain Drawn) (now c) i k ⌝ }
     requires { ⌜ stand-in (scene (now ns) (now t) a) Drawn i ≡ standing.Block child ⌝ }
     ensures { λ r. ⌜ Stepped (scene (now (ns .entry)) (now (t .entry)) a) (Plain Drawn) i k (now (t .exit)) ⌝ }
@@ -247,7 +273,7 @@ fn step_block(ns: &[u16], t: &mut [u8], a: u32, c: &[u32; 64], i: usize, child: 
 }
 
 // The k-th step of a compensable part that runs.
-pub fn step_run(ns: &[u16], t: &mut [u8], a: u32, c: &[u32; 64], i: usize, k: u32)
+pub fn step_run(ns: &[u16], t: &mut [u8], a: u64, c: &[u32; 64], i: usize, k: u32)
     requires { ⌜ Ready (scene (now ns) (now t) a) Running (now c) i k ⌝ }
     ensures { λ r. ⌜ Stepped (scene (now (ns .entry)) (now (t .entry)) a) Running i k (now (t .exit)) ⌝ }
 {
@@ -256,10 +282,24 @@ pub fn step_run(ns: &[u16], t: &mut [u8], a: u32, c: &[u32; 64], i: usize, k: u3
         Course::Basic(_) => {}
         Course::Pair(two) => step_std(ns, t, a, c, two.first, Sense::Drawn, k),
         Course::Both(operator, two) => {
+            if states::joint_by(a, operator) {
+                return meet_run(ns, t, a, c, i, two, k);
+            }
             let x = turn_run(ns, t, a, c, i, operator, two, k);
             step_run(ns, t, a, c, x.node, x.at);
         }
         Course::Held(two) => step_run(ns, t, a, c, two.second, k),
         Course::As(child) => step_run(ns, t, a, c, child, k),
     }
+}
+
+// Both sides of a parallel that runs, by a joint event.
+fn meet_run(ns: &[u16], t: &mut [u8], a: u64, c: &[u32; 64], i: usize, two: Two, k: u32)
+    requires { ⌜ Ready (scene (now ns) (now t) a) Running (now c) i k ⌝ }
+    requires { ⌜ Meets a Running (course-in (scene (now ns) (now t) a) i) two ⌝ }
+    ensures { λ r. ⌜ Stepped (scene (now (ns .entry)) (now (t .entry)) a) Running i k (now (t .exit)) ⌝ }
+{
+    let n = count_at(c, two.second);
+    step_run(ns, t, a, c, two.first, k / n);
+    step_run(ns, t, a, c, two.second, k % n);
 }

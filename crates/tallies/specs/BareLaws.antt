@@ -61,9 +61,9 @@ pub bare-after : (x : Tally) (g : Weight) → afterG (bareT x) g ≡ afterG x g
 unfolding afterG
 bare-after x g = refl
 
-pub bare-beside : (x : Tally) (g : Weight) → besideG (bareT x) g ≡ besideG x g
+pub bare-beside : (b : Bool) (x : Tally) (g : Weight) → besideG b (bareT x) g ≡ besideG b x g
 unfolding besideG
-bare-beside x g = refl
+bare-beside b x g = refl
 
 pub total-by-bare : (p : Word) (x : Closing) (g : Weight) → total (byW (bareW p) x) g ≡ total (byW p x) g
 total-by-bare p x g = ap (λ t. total t g) (bare-by p x) ∙ bare-total (byW p x) g
@@ -71,15 +71,15 @@ total-by-bare p x g = ap (λ t. total t g) (bare-by p x) ∙ bare-total (byW p x
 pub after-by-bare : (p : Word) (x : Closing) (g : Weight) → afterG (byW (bareW p) x) g ≡ afterG (byW p x) g
 after-by-bare p x g = ap (λ t. afterG t g) (bare-by p x) ∙ bare-after (byW p x) g
 
-pub beside-partners-bare : (q : Word) (u x : Closing) (g : Weight) → besideG (partnersT (bareW q) u x) g ≡ besideG (partnersT q u x) g
-beside-partners-bare q u x g = ap (λ t. besideG t g) (bare-partners q u x) ∙ bare-beside (partnersT q u x) g
+pub beside-partners-bare : (b : Bool) (q : Word) (u x : Closing) (g : Weight) → besideG b (partnersT (bareW q) u x) g ≡ besideG b (partnersT q u x) g
+beside-partners-bare b q u x g = ap (λ t. besideG b t g) (bare-partners q u x) ∙ bare-beside b (partnersT q u x) g
 
 pub total-when-bare : (p : Word) (x : Closing) (g : Weight) (b : Bool) → total (whenT b (byW (bareW p) x)) g ≡ total (whenT b (byW p x)) g
 total-when-bare p x g b = ap (λ t. total t g) (ap (whenT b) (bare-by p x) ∙ bare-when b (byW p x)) ∙ bare-total (whenT b (byW p x)) g
 
 -- all compensations of the first side by x, with all that go with them
-pub side-bare : (p q : Word) (u x : Closing) (g : Weight) → total (byW (bareW p) x) (besideG (partnersT (bareW q) u x) g) ≡ total (byW p x) (besideG (partnersT q u x) g)
-side-bare p q u x g = ap (total (byW (bareW p) x)) (beside-partners-bare q u x g) ∙ total-by-bare p x (besideG (partnersT q u x) g)
+pub side-bare : (b : Bool) (p q : Word) (u x : Closing) (g : Weight) → total (byW (bareW p) x) (besideG b (partnersT (bareW q) u x) g) ≡ total (byW p x) (besideG b (partnersT q u x) g)
+side-bare b p q u x g = ap (total (byW (bareW p) x)) (beside-partners-bare b q u x g) ∙ total-by-bare p x (besideG b (partnersT q u x) g)
 
 pub fitting-bare : (q : Word) (u x y : Closing) (g : Weight) → total (fittingT (bareW q) u x y) g ≡ total (fittingT q u x y) g
 fitting-bare q u x y g = ap (λ t. total t g) (bare-fitting q u x y) ∙ bare-total (fittingT q u x y) g

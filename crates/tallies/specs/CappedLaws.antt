@@ -1,9 +1,9 @@
--- Laws of numbers that stop at the greatest 32-bit number: sums and products of capped numbers are capped sums and products.
--- Assumes nothing.
-use Prim.Native.Nat.{ℕ, suc, zero, _+_, _*_}
+-- Laws of numbers that stop at the greatest 32-bit number: sums and products of capped numbers are capped sums and products, and a
+-- number below is divided by a capped number as by the number itself. Assumes nothing.
+use Prim.Native.Nat.{ℕ, suc, zero, _+_, _*_, _/_, _%_, _<_}
 use mathlib.Core.Path.{_≡_, sym, _∙_, ap, ap₂}
 use native.Mathlib.Omega.{arith, min-cases}
-use native.Mathlib.Nat.{mul-comm}
+use native.Mathlib.Nat.{mul-comm, mod-lt, mod-eq-of-lt, div-eq-of-lt, div-add-mod', div-lt-iff-lt-mul}
 use Rattle.tallies.specs.Capped.{most, cap}
 
 pub cap-cap : (x : ℕ) → cap (cap x) ≡ cap x
@@ -44,3 +44,22 @@ capped-product n x y e = ap cap e ∙ sym (cap-mul x y)
 
 pub capped-products : (n x y z w : ℕ) → n ≡ x * y + z * w → cap n ≡ cap (cap (cap x * cap y) + cap (cap z * cap w))
 capped-products n x y z w e = capped-sum n (x * y) (z * w) e ∙ ap₂ (λ u v. cap (u + v)) (sym (cap-mul x y)) (sym (cap-mul z w))
+
+-- Division --------------------------------------------------------------------------------------------------------------
+
+-- a number below a product, divided by the second factor
+module _ (m n : ℕ) {k : ℕ} (h : k < m * n) where
+  pub factor-some : 0 < n
+  factor-some = elim n as (λ n. k < m * n → 0 < n) [ zero ↦ λ z. absurd (omega arith) | suc n ↦ λ z. omega arith ] h
+
+  pub factor-first : k / n < m
+  factor-first = div-lt-iff-lt-mul factor-some .1 h
+
+  pub factor-second : k % n < n
+  factor-second = mod-lt k factor-some
+
+-- where x is not below the greatest number, neither is what it stops at; so all of k is left over
+pub cap-divided : (k n x : ℕ) → n ≡ cap x → k < most → k ≡ k / n * x + k % n
+cap-divided k n x e b = min-cases x most _
+    (λ h d. rw (e ∙ d) (sym (div-add-mod' k x)))
+    (λ h d. rw (e ∙ d, div-eq-of-lt b, mod-eq-of-lt b) (omega arith))

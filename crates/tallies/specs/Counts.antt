@@ -1,7 +1,7 @@
 -- Views, tallies and words of terms: the counts themselves, that the formulas of Formulas give from part to whole (CountsLaws).
 -- Throughout, a is the event of the next record. Definitions only. Assumes nothing.
 use Prim.Native.Nat.{ℕ, _+_, _*_}
-use mathlib.Core.Bool.{cond}
+use mathlib.Core.Bool.{Bool, cond}
 use mathlib.Core.List.{List, [], _∷_}
 use lib.ListN.{length}
 use Rattle.calculus.specs.Term.{done, withdrawn, failed, Std, Cmp}
@@ -18,6 +18,10 @@ module _ {A : Type 0} where
   unfoldable pub sum-of : (A → ℕ) → List A → ℕ
   sum-of f [] = 0
   sum-of f (x ∷ xs) = f x + sum-of f xs
+
+-- how many steps two sides have that have m and n, where b says that the event is joint
+abbrev pub moves-both : Bool → ℕ → ℕ → ℕ
+moves-both b m n = cond b (m * n) (m + n)
 
 module _ (a : ℕ) where
   -- how many steps, and 1 if the term can end done

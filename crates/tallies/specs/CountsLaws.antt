@@ -9,13 +9,13 @@ use native.Mathlib.Numerals.{add-one}
 use native.Mathlib.Nat.{add-comm, add-zero, zero-add, mul-comm, mul-one, one-mul}
 use lib.Dec.{eqb, eqb·suc-zero}
 use lib.ListN.{length, length-append, length-map}
-use Rattle.calculus.specs.Term.{Closing, done, withdrawn, failed, Leaf, Std, Cmp, skip, throw, yield, ev, seq, alt, par, hnd, blk, pair, cseq, calt, cpar, held, skipp, throww, yieldd, join}
-use Rattle.calculus.specs.Successors.{eqc, closings, only, some-of, each, any-at-all, ends, steps, comps, csteps}
+use Rattle.calculus.specs.Term.{Closing, done, withdrawn, failed, Leaf, Joint, Std, Cmp, skip, throw, yield, ev, seq, alt, par, hnd, blk, pair, cseq, calt, cpar, held, skipp, throww, yieldd, join}
+use Rattle.calculus.specs.Successors.{eqc, closings, only, some-of, each, any-at-all, beside, ends, steps, comps, csteps}
 use Rattle.calculus.specs.Equations.{ends-seq, ends-hnd, ends-alt, ends-par, ends-blk, comps-pair, comps-cseq, comps-calt, comps-cpar, comps-held, steps-seq, steps-hnd, steps-alt, steps-par, steps-blk, csteps-pair, csteps-cseq, csteps-calt, csteps-cpar, csteps-held}
 use Rattle.tallies.specs.Capped.{cap}
 use Rattle.tallies.specs.CappedLaws.{cap-add, cap-mul, cap-mul-right, capped-sum, capped-product, capped-products}
-use Rattle.tallies.specs.Formulas.{viewed, skipV, throwV, yieldV, evV, altV, seqV, hndV, endsV, meetV, bothV, parV, tallied, some?, noneT, oneT, whenT, plusT, seqT, anyV, parT, overT, worded, byW, blkV, pairW, cseqW, heldW, caltW, cparW, skippW, throwwW, yielddW, fittingT, partnersT, bothT, total}
-use Rattle.tallies.specs.Counts.{sum-of, moves, able, view, tally, word, weight}
+use Rattle.tallies.specs.Formulas.{viewed, skipV, throwV, yieldV, evV, altV, seqV, hndV, endsV, meetV, bothV, sides, parV, tallied, some?, noneT, oneT, whenT, plusT, seqT, anyV, sidesT, parT, overT, worded, byW, blkV, pairW, cseqW, heldW, caltW, cparW, skippW, throwwW, yielddW, fittingT, partnersT, bothT, total}
+use Rattle.tallies.specs.Counts.{sum-of, moves-both, moves, able, view, tally, word, weight}
 use Rattle.tallies.specs.Grids.{afters, besides, partners}
 use Rattle.tallies.specs.SumsLaws.{turned, numbers, truths, sum-append, sum-plus, sum-products, sum-products₂, sum-pairs, grid-nil, sum-right, sum-same, length-is, length-each, length-grid}
 use Rattle.tallies.specs.declared.View.{View}
@@ -24,9 +24,9 @@ use Rattle.tallies.specs.declared.Weight.{Weight}
 
 -- How a term ends that has two sides ------------------------------------------------------------------------------------
 
-pub both-done : (p q : Std) → ends (par p q) done ≡ (ends p done && ends q done)
+pub both-done : (j : Joint) (p q : Std) → ends (par j p q) done ≡ (ends p done && ends q done)
 unfolding some-of
-both-done p q = ends-par p q done ∙ or-false _ ∙ or-false _
+both-done j p q = ends-par j p q done ∙ or-false _ ∙ or-false _
 
 -- two sides end together by the views of them
 both-by : {p q : View} (u : Closing) {f g : Closing → Bool} → ((x : Closing) → f x ≡ endsV p x) → ((y : Closing) → g y ≡ endsV q y) →
@@ -50,6 +50,20 @@ unfolding only
 length-only true l = omega arith
 length-only false l = omega arith
 
+-- how many steps two sides have, and up to the greatest number
+length-beside : {A : Type 0} (b : Bool) (f : A → A → A) (p q : A) (ps qs : List A) → length (beside b f p q ps qs) ≡ moves-both b (length ps) (length qs)
+unfolding beside
+length-beside true f p q ps qs = length-grid f ps qs
+length-beside false f p q ps qs = simp (length-append, length-map)
+
+capped-sides : (b : Bool) (k m n : ℕ) → k ≡ moves-both b m n → cap k ≡ sides b (cap m) (cap n)
+unfolding sides
+capped-sides true k m n e = capped-product k m n e
+capped-sides false k m n e = capped-sum k m n e
+
+pub sides-beside : {A : Type 0} (b : Bool) (f : A → A → A) (p q : A) (ps qs : List A) → cap (length (beside b f p q ps qs)) ≡ sides b (cap (length ps)) (cap (length qs))
+sides-beside b f p q ps qs = capped-sides b _ _ _ (length-beside b f p q ps qs)
+
 able-both : (b c : Bool) → cond (b && c) 1 0 ≡ cond b 1 0 * cond c 1 0
 able-both true true = refl
 able-both true false = refl
@@ -61,9 +75,9 @@ module _ (a : ℕ) where
   unfolding able
   able-seq p q = ap (λ b. cond b 1 0) (ends-seq p q done) ∙ able-both (ends p done) (ends q done)
 
-  pub able-par : (p q : Std) → able a (par p q) ≡ able a p * able a q
+  pub able-par : (j : Joint) (p q : Std) → able a (par j p q) ≡ able a p * able a q
   unfolding able
-  able-par p q = ap (λ b. cond b 1 0) (both-done p q) ∙ able-both (ends p done) (ends q done)
+  able-par j p q = ap (λ b. cond b 1 0) (both-done j p q) ∙ able-both (ends p done) (ends q done)
 
   pub moves-seq : (p q : Std) → moves a (seq p q) ≡ moves a p + able a p * moves a q
   unfolding moves able
@@ -77,9 +91,12 @@ module _ (a : ℕ) where
   unfolding moves
   moves-alt p q = ap length (steps-alt p q a) ∙ simp length-append
 
-  pub moves-par : (p q : Std) → moves a (par p q) ≡ moves a p + moves a q
+  pub moves-par : (j : Joint) (p q : Std) → moves a (par j p q) ≡ moves-both (j a) (moves a p) (moves a q)
   unfolding moves
-  moves-par p q = ap length (steps-par p q a) ∙ simp (length-append, length-map)
+  moves-par j p q = ap length (steps-par j p q a) ∙ length-beside (j a) (par j) p q (steps p a) (steps q a)
+
+  pub par-counted : (j : Joint) (p q : Std) → cap (moves a (par j p q)) ≡ sides (j a) (cap (moves a p)) (cap (moves a q))
+  par-counted j p q = capped-sides (j a) _ _ _ (moves-par j p q)
 
   pub moves-blk : (pp : Cmp) → moves a (blk pp) ≡ length (csteps pp a) + sum-of (moves a) (comps pp failed)
   unfolding moves
@@ -117,12 +134,12 @@ module _ (a : ℕ) where
   view-ends p withdrawn = refl
   view-ends p failed = refl
 
-  pub view-par : (p q : Std) → view a (par p q) ≡ parV (view a p) (view a q)
+  pub view-par : (j : Joint) (p q : Std) → view a (par j p q) ≡ parV (j a) (view a p) (view a q)
   unfolding view parV
-  view-par p q = λ i. viewed ((ap cap (moves-par p q) ∙ sym (cap-add _ _)) i) (both done i) (both withdrawn i) (both failed i)
+  view-par j p q = λ i. viewed (par-counted j p q i) (both done i) (both withdrawn i) (both failed i)
     where
-      both : (u : Closing) → ends (par p q) u ≡ bothV (view a p) (view a q) u
-      both u = ends-par p q u ∙ both-by u (view-ends p) (view-ends q)
+      both : (u : Closing) → ends (par j p q) u ≡ bothV (view a p) (view a q) u
+      both u = ends-par j p q u ∙ both-by u (view-ends p) (view-ends q)
 
   pub view-seq : (p q : Std) → view a (seq p q) ≡ seqV (view a p) (view a q)
   unfolding view able seqV
@@ -176,9 +193,9 @@ map-chosen h b g (v ∷ vs) = map-append h (only (b v) (g v)) _ ∙ ap₂ _++_ (
     by true = refl
     by false = refl
 
-pub comps-partners : (pp qq : Cmp) (u : Closing) → comps (cpar pp qq) u ≡ each closings (λ w. besides (comps pp w) (partners (comps qq) u w))
+pub comps-partners : (j : Joint) (pp qq : Cmp) (u : Closing) → comps (cpar j pp qq) u ≡ each closings (λ w. besides j (comps pp w) (partners (comps qq) u w))
 unfolding partners
-comps-partners pp qq u = comps-cpar pp qq u ∙ ap (each closings) (fun-ext (λ w. ap (each (comps pp w)) (fun-ext (λ k. sym (map-chosen (par k) (λ v. eqc u (join w v)) (comps qq) closings)))))
+comps-partners j pp qq u = comps-cpar j pp qq u ∙ ap (each closings) (fun-ext (λ w. ap (each (comps pp w)) (fun-ext (λ k. sym (map-chosen (par j k) (λ v. eqc u (join w v)) (comps qq) closings)))))
 
 module _ (a : ℕ) where
   pub tally-nil : tally a [] ≡ noneT
@@ -239,10 +256,16 @@ module _ (a : ℕ) where
       (some-afters withdrawn (λ p q. ends-seq p q withdrawn) y ys ls i)
       (some-afters failed (λ p q. ends-seq p q failed) y ys ls i))
 
-  pub moves-besides : (ks ls : List Std) → sum-of (moves a) (besides ks ls) ≡ sum-of (moves a) ks * length ls + length ks * sum-of (moves a) ls
-  moves-besides ks ls =
-      sum-products₂ numbers par (moves a) ks ls (moves a) (λ k. 1) (λ l. 1) (moves a) (λ k l. moves-par a k l ∙ ap₂ _+_ (sym (mul-one (moves a k))) (sym (one-mul (moves a l))))
-      ∙ ap₂ (λ y z. sum-of (moves a) ks * y + z * sum-of (moves a) ls) (sym (length-is ls)) (sym (length-is ks))
+  -- how many steps all k beside l have: steps multiply by what is joint; by what is not, each has its own with each of the others
+  sides-besides : (j : Joint) (ks ls : List Std) → cap (sum-of (moves a) (besides j ks ls)) ≡ sidesT (j a) (tally a ks) (tally a ls)
+  unfolding sidesT tally
+  sides-besides j ks ls = by (j a) (moves-par a j)
+    where
+      by : (b : Bool) → ((k l : Std) → moves a (par j k l) ≡ moves-both b (moves a k) (moves a l)) → cap (sum-of (moves a) (besides j ks ls)) ≡ sidesT b (tally a ks) (tally a ls)
+      by true e = capped-product _ _ _ (sum-products numbers (par j) (moves a) ks ls (moves a) (moves a) e)
+      by false e = capped-products _ _ _ _ _ (
+          sum-products₂ numbers (par j) (moves a) ks ls (moves a) (λ k. 1) (λ l. 1) (moves a) (λ k l. e k l ∙ ap₂ _+_ (sym (mul-one (moves a k))) (sym (one-mul (moves a l))))
+          ∙ ap₂ (λ y z. sum-of (moves a) ks * y + z * sum-of (moves a) ls) (sym (length-is ls)) (sym (length-is ks)))
 
   any-ends : (l : List Std) (w : Closing) → some-of (λ k. ends k w) l ≡ endsV (anyV (tally a l)) w
   unfolding tally
@@ -250,22 +273,22 @@ module _ (a : ℕ) where
   any-ends l withdrawn = refl
   any-ends l failed = refl
 
-  some-besides : (u : Closing) (ks ls : List Std) → some-of (λ k. ends k u) (besides ks ls) ≡ bothV (anyV (tally a ks)) (anyV (tally a ls)) u
-  some-besides u ks ls =
-      sum-pairs truths par (λ k. ends k u) ks ls closings closings (λ x y. eqc u (join x y)) (λ x k. ends k x) (λ y l. ends l y) (λ p q. ends-par p q u)
+  some-besides : (j : Joint) (u : Closing) (ks ls : List Std) → some-of (λ k. ends k u) (besides j ks ls) ≡ bothV (anyV (tally a ks)) (anyV (tally a ls)) u
+  some-besides j u ks ls =
+      sum-pairs truths (par j) (λ k. ends k u) ks ls closings closings (λ x y. eqc u (join x y)) (λ x k. ends k x) (λ y l. ends l y) (λ p q. ends-par j p q u)
       ∙ both-by u (any-ends ks) (any-ends ls)
 
-  pub tally-par : (ks ls : List Std) → tally a (besides ks ls) ≡ parT (tally a ks) (tally a ls)
+  pub tally-par : (j : Joint) (ks ls : List Std) → tally a (besides j ks ls) ≡ parT (j a) (tally a ks) (tally a ls)
   unfolding tally parT each
-  tally-par = guarded (λ ks ls. tally a (besides ks ls)) (λ ks ls. noneT) (λ ks ls. noneT) _ (λ ls. tally-nil) (λ k ks. ap (tally a) (grid-nil par (k ∷ ks)) ∙ tally-nil) (λ x y xs ys.
+  tally-par j = guarded (λ ks ls. tally a (besides j ks ls)) (λ ks ls. noneT) (λ ks ls. noneT) _ (λ ls. tally-nil) (λ k ks. ap (tally a) (grid-nil (par j) (k ∷ ks)) ∙ tally-nil) (λ x y xs ys.
       let ks = x ∷ xs in
       let ls = y ∷ ys in
       λ i. tallied
-      (capped-product _ _ _ (length-grid par ks ls) i)
-      (capped-product _ _ _ (sum-products numbers par (able a) ks ls (able a) (able a) (able-par a)) i)
-      (capped-products _ _ _ _ _ (moves-besides ks ls) i)
-      (some-besides withdrawn ks ls i)
-      (some-besides failed ks ls i))
+      (capped-product _ _ _ (length-grid (par j) ks ls) i)
+      (capped-product _ _ _ (sum-products numbers (par j) (able a) ks ls (able a) (able a) (able-par a j)) i)
+      (sides-besides j ks ls i)
+      (some-besides j withdrawn ks ls i)
+      (some-besides j failed ks ls i))
 
   -- of three lists, one for each closing
   tally-each : (l : Closing → List Std) → tally a (each closings l) ≡ overT (λ w. tally a (l w))
@@ -347,15 +370,15 @@ module _ (a : ℕ) where
   unfolding partners partnersT fittingT
   word-partners qq u w = tally-each (λ v. only (eqc u (join w v)) (comps qq v)) ∙ ap overT (fun-ext (λ v. tally-only (eqc u (join w v)) (comps qq v) ∙ ap (whenT (eqc u (join w v))) (sym (by-word qq v))))
 
-  pub word-cpar : (pp qq : Cmp) → word a (cpar pp qq) ≡ cparW (word a pp) (word a qq)
+  pub word-cpar : (j : Joint) (pp qq : Cmp) → word a (cpar j pp qq) ≡ cparW (j a) (word a pp) (word a qq)
   unfolding cparW bothT word
-  word-cpar pp qq = word-by (cpar pp qq) (capped-sum _ _ _ (ap length (csteps-cpar pp qq a) ∙ simp (length-append, length-map))) (both done) (both withdrawn) (both failed)
+  word-cpar j pp qq = word-by (cpar j pp qq) (ap (λ l. cap (length l)) (csteps-cpar j pp qq a) ∙ sides-beside (j a) (cpar j) pp qq (csteps pp a) (csteps qq a)) (both done) (both withdrawn) (both failed)
     where
-      both : (u : Closing) → tally a (comps (cpar pp qq) u) ≡ bothT (word a pp) (word a qq) u
+      both : (u : Closing) → tally a (comps (cpar j pp qq) u) ≡ bothT (j a) (word a pp) (word a qq) u
       both u =
-          ap (tally a) (comps-partners pp qq u)
-          ∙ tally-each (λ w. besides (comps pp w) (partners (comps qq) u w))
-          ∙ ap overT (fun-ext (λ w. tally-par (comps pp w) (partners (comps qq) u w) ∙ ap₂ parT (sym (by-word pp w)) (word-partners qq u w)))
+          ap (tally a) (comps-partners j pp qq u)
+          ∙ tally-each (λ w. besides j (comps pp w) (partners (comps qq) u w))
+          ∙ ap overT (fun-ext (λ w. tally-par j (comps pp w) (partners (comps qq) u w) ∙ ap₂ (parT (j a)) (sym (by-word pp w)) (word-partners qq u w)))
 
   -- Weights ---------------------------------------------------------------------------------------------------------------
 

@@ -4,7 +4,8 @@
 -- A name ends in the letter of what it makes: V a view, T a tally, W a word, G a weight; one that reads something out of views or of
 -- a word ends in theirs (endsV, meetV, bothV, byW). It begins with the calculus's own word for the whole (skip throw yield ev seq
 -- alt par hnd blk; pair cseq held calt cpar skipp throww yieldd), or with what is done to tallies or weights (none one when plus over
--- fitting partners both; after inside beside within). Of two sides p and q that end by x and y, both end by u.
+-- fitting partners both; after inside beside within). Of two sides p and q that end by x and y, both end by u. What is put together of
+-- two sides takes first whether the record's event is joint there: then a step of the whole is one of each side.
 use Prim.Native.Nat.{ℕ, _+_, _*_}
 use mathlib.Core.Bool.{Bool, true, false, not, _&&_, _||_, cond}
 use lib.Dec.{eqb}
@@ -67,8 +68,12 @@ meetV p q u x y = eqc u (join x y) && (endsV p x && endsV q y)
 unfoldable pub bothV : View → View → Closing → Bool
 bothV p q u = some-of (λ x. some-of (meetV p q u x) closings) closings
 
-unfoldable pub parV : View → View → View
-parV p q = viewed (cap (p .moves + q .moves)) (bothV p q done) (bothV p q withdrawn) (bothV p q failed)
+-- how many steps two sides have that have m and n
+unfoldable pub sides : Bool → ℕ → ℕ → ℕ
+sides b m n = cond b (cap (m * n)) (cap (m + n))
+
+unfoldable pub parV : Bool → View → View → View
+parV b p q = viewed (sides b (p .moves) (q .moves)) (bothV p q done) (bothV p q withdrawn) (bothV p q failed)
 
 -- Tallies ---------------------------------------------------------------------------------------------------------------
 
@@ -109,12 +114,16 @@ seqT x y = cond (eqb (x .many) 0) noneT (cond (eqb (y .many) 0) noneT (tallied
 abbrev pub anyV : Tally → View
 anyV t = viewed 0 (some? (t .able)) (t .withdraws) (t .fails)
 
+-- how many steps all k beside l have, k of x and l of y
+unfoldable pub sidesT : Bool → Tally → Tally → ℕ
+sidesT b x y = cond b (cap (x .moves * y .moves)) (cap (cap (x .moves * y .many) + cap (x .many * y .moves)))
+
 -- of all k beside l, k of x and l of y; those that can end done multiply, since only done and done join to done
-unfoldable pub parT : Tally → Tally → Tally
-parT x y = cond (eqb (x .many) 0) noneT (cond (eqb (y .many) 0) noneT (tallied
+unfoldable pub parT : Bool → Tally → Tally → Tally
+parT b x y = cond (eqb (x .many) 0) noneT (cond (eqb (y .many) 0) noneT (tallied
     (cap (x .many * y .many))
     (cap (x .able * y .able))
-    (cap (cap (x .moves * y .many) + cap (x .many * y .moves)))
+    (sidesT b x y)
     (bothV (anyV x) (anyV y) withdrawn)
     (bothV (anyV x) (anyV y) failed)))
 
@@ -170,11 +179,11 @@ unfoldable pub partnersT : Word → Closing → Closing → Tally
 partnersT q u x = overT (fittingT q u x)
 
 -- of both sides
-unfoldable pub bothT : Word → Word → Closing → Tally
-bothT p q u = overT (λ x. parT (byW p x) (partnersT q u x))
+unfoldable pub bothT : Bool → Word → Word → Closing → Tally
+bothT b p q u = overT (λ x. parT b (byW p x) (partnersT q u x))
 
-unfoldable pub cparW : Word → Word → Word
-cparW x y = worded (cap (x .moves + y .moves)) (bothT x y done) (bothT x y withdrawn) (bothT x y failed)
+unfoldable pub cparW : Bool → Word → Word → Word
+cparW b x y = worded (sides b (x .moves) (y .moves)) (bothT b x y done) (bothT b x y withdrawn) (bothT b x y failed)
 
 abbrev pub skippW : Word
 skippW = worded 0 (oneT skipV) noneT noneT
@@ -219,9 +228,13 @@ unfoldable pub insideG : Weight → ℕ → Bool → Weight
 insideG g n b = weighs (g .own) (g .moves) (cap (cap (g .moves * n) + cond b (g .able) 0))
 
 -- what p weighs with all q beside it, q of t
-unfoldable pub besideG : Tally → Weight → Weight
-besideG t g = weighs (cap (cap (g .own * t .many) + cap (g .moves * t .moves))) (cap (g .moves * t .many)) (cap (g .able * t .able))
+unfoldable pub besideG : Bool → Tally → Weight → Weight
+besideG b t g = cond b
+    (weighs (cap (g .own * t .many)) (cap (g .moves * t .moves)) (cap (g .able * t .able)))
+    (weighs (cap (cap (g .own * t .many) + cap (g .moves * t .moves))) (cap (g .moves * t .many)) (cap (g .able * t .able)))
 
 -- what q weighs beside p, where p has so many steps and can end done or not
-unfoldable pub withinG : Weight → ℕ → Bool → Weight
-withinG g n b = weighs (cap (g .own + cap (g .moves * n))) (g .moves) (cond b (g .able) 0)
+unfoldable pub withinG : Bool → Weight → ℕ → Bool → Weight
+withinG b g n c = cond b
+    (weighs (g .own) (cap (g .moves * n)) (cond c (g .able) 0))
+    (weighs (cap (g .own + cap (g .moves * n))) (g .moves) (cond c (g .able) 0))

@@ -30,25 +30,33 @@ module _ (g : Weight) (own : is-own g ≡ true) where
       ∙ ap (λ z. cap (cap (cap (g .own * t .many) + cap (0 * t .moves)) + cap (z * t .able))) no-able
       ∙ omega arith
 
-  pub own-beside : (t : Tally) → besideG t g ≡ weighs (cap (g .own * t .many)) 0 0
-  unfolding besideG
-  own-beside t =
-      ap (λ z. weighs (cap (cap (g .own * t .many) + cap (z * t .moves))) (cap (z * t .many)) (cap (g .able * t .able))) no-moves
-      ∙ ap (λ z. weighs (cap (cap (g .own * t .many) + cap (0 * t .moves))) (cap (0 * t .many)) (cap (z * t .able))) no-able
-      ∙ nothing (cap (cap (g .own * t .many) + cap (0 * t .moves))) (cap (0 * t .many)) (cap (0 * t .able)) (omega arith) (omega arith) (omega arith)
-    where
-      nothing : (a b c : ℕ) → a ≡ cap (g .own * t .many) → b ≡ 0 → c ≡ 0 → weighs a b c ≡ weighs (cap (g .own * t .many)) 0 0
-      nothing a b c ea eb ec = λ i. weighs (ea i) (eb i) (ec i)
+  no-more : (n : ℕ) → cap (g .moves * n) ≡ 0
+  no-more n = ap (λ z. cap (z * n)) no-moves ∙ omega arith
 
-  pub own-within : g .own ≤ most → (n : ℕ) (b : Bool) → withinG g n b ≡ g
+  no-ending : (n : ℕ) → cap (g .able * n) ≡ 0
+  no-ending n = ap (λ z. cap (z * n)) no-able ∙ omega arith
+
+  -- joint or not, since what is joint is a step
+  pub own-beside : (b : Bool) (t : Tally) → besideG b t g ≡ weighs (cap (g .own * t .many)) 0 0
+  unfolding besideG
+  own-beside true t = λ i. weighs (cap (g .own * t .many)) (no-more (t .moves) i) (no-ending (t .able) i)
+  own-beside false t =
+      let e : cap (cap (g .own * t .many) + cap (g .moves * t .moves)) ≡ cap (g .own * t .many) = omega (arith, no-more (t .moves)) in
+      λ i. weighs (e i) (no-more (t .many) i) (no-ending (t .able) i)
+
+  pub own-within : g .own ≤ most → (b : Bool) (n : ℕ) (c : Bool) → withinG b g n c ≡ g
   unfolding withinG
-  own-within h n b =
-      let e : cap (g .own + cap (g .moves * n)) ≡ g .own = ap (λ z. cap (g .own + cap (z * n))) no-moves ∙ omega arith in
-      (λ i. weighs (e i) (g .moves) (either b i))
+  own-within h b n c = by b
     where
-      either : (b : Bool) → cond b (g .able) 0 ≡ g .able
+      either : (c : Bool) → cond c (g .able) 0 ≡ g .able
       either true = refl
       either false = sym no-able
+
+      by : (b : Bool) → cond b (weighs (g .own) (cap (g .moves * n)) (cond c (g .able) 0)) (weighs (cap (g .own + cap (g .moves * n))) (g .moves) (cond c (g .able) 0)) ≡ g
+      by true = λ i. weighs (g .own) ((no-more n ∙ sym no-moves) i) (either c i)
+      by false =
+          let e : cap (g .own + cap (g .moves * n)) ≡ g .own = omega (arith, no-more n) in
+          λ i. weighs (e i) (g .moves) (either c i)
 
 -- how many two lists have together
 plus-many : (x y : Tally) → x .many ≤ most → y .many ≤ most → (plusT x y) .many ≡ cap (x .many + y .many)

@@ -1,16 +1,17 @@
--- Laws of places and of what a number falls on: over two lists one after the other, mapped lists and lists of lists; and that
+-- Laws of places and of what a number falls on: over two lists one after the other, mapped lists, all pairs and lists of lists; and that
 -- weights may be exchanged where they agree up to the greatest number. Theorems only, over any lists. Assumes nothing.
-use Prim.Native.Nat.{ℕ, suc, _+_, _-_, _≤_, _<_}
+use Prim.Native.Nat.{ℕ, suc, _+_, _*_, _-_, _≤_, _<_}
 use native.Mathlib.Omega.{arith}
 use native.Mathlib.Nat.{suc-add}
 use mathlib.Core.Path.{_≡_, refl}
 use mathlib.Core.Bool.{Bool, true, false}
 use mathlib.Core.List.{List, [], _∷_, _++_, map}
 use lib.Dec.{T}
-use lib.ListN.{length, drop}
+use lib.ListN.{length, length-map, drop}
 use Rattle.calculus.specs.Successors.{only, each}
 use Rattle.tallies.specs.Capped.{cap, most}
 use Rattle.tallies.specs.Counts.{sum-of}
+use Rattle.tallies.specs.Grids.{grid}
 use Rattle.tallies.specs.Places.{At, Finds}
 
 -- Places ----------------------------------------------------------------------------------------------------------------
@@ -44,6 +45,12 @@ module _ {A B : Type 0} where
   pub at-map : (f : A → B) {l : List A} {k : ℕ} {x : A} → At l k x → At (map f l) k (f x)
   at-map f At.here = At.here
   at-map f (At.past h) = At.past (at-map f h)
+
+-- all pairs, by the order of the first and then of the second
+pub at-grid : {A B C : Type 0} (h : A → B → C) {k : List A} {l : List B} {i m : ℕ} {x : A} {y : B} → At k i x → At l m y → At (grid h k l) (i * length l + m) (h x y)
+unfolding each
+at-grid h {l} (At.here {x}) u = at-is (omega arith) (at-left _ (at-map (h x) u))
+at-grid h {l} (At.past {y} p) u = at-is (let e = length-map l (h y) in omega arith) (at-right (map (h y) l) (at-grid h p u))
 
 -- What a number falls on ------------------------------------------------------------------------------------------------
 

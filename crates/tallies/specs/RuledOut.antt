@@ -2,10 +2,10 @@
 -- in CountsLaws. All lines follow by computation. Theorems only; no proof of code needs them. Assumes nothing.
 use Prim.Native.Nat.{_+_, _*_}
 use mathlib.Core.Path.{_≡_, refl}
-use mathlib.Core.Bool.{true}
+use mathlib.Core.Bool.{true, false}
 use Rattle.calculus.specs.Successors.{some-of}
 use Rattle.tallies.specs.Capped.{cap}
-use Rattle.tallies.specs.Formulas.{skipV, throwV, yieldV, evV, meetV, bothV, parV, oneT, plusT, seqT, blkV, pairW, cseqW, throwwW}
+use Rattle.tallies.specs.Formulas.{viewed, skipV, throwV, yieldV, evV, meetV, bothV, sides, parV, oneT, plusT, seqT, blkV, pairW, cseqW, throwwW}
 
 -- Counts stop at 4294967295, neither earlier nor by turning to 0 -----------------------------------------------------------
 
@@ -21,22 +21,35 @@ product-capped = refl
 -- Two sides ----------------------------------------------------------------------------------------------------------------
 
 -- one side done is not both done, and failed beside whatever ends is failed
-pub one-side-done : parV skipV throwV ≡ throwV
-unfolding parV bothV meetV some-of
+pub one-side-done : parV false skipV throwV ≡ throwV
+unfolding sides parV bothV meetV some-of
 one-side-done = refl
 
-pub failed-beside-withdrawn : parV throwV yieldV ≡ throwV
-unfolding parV bothV meetV some-of
+pub failed-beside-withdrawn : parV false throwV yieldV ≡ throwV
+unfolding sides parV bothV meetV some-of
 failed-beside-withdrawn = refl
 
-pub withdrawn-beside-done : parV yieldV skipV ≡ yieldV
-unfolding parV bothV meetV some-of
+pub withdrawn-beside-done : parV false yieldV skipV ≡ yieldV
+unfolding sides parV bothV meetV some-of
 withdrawn-beside-done = refl
 
 -- failed beside what cannot end yet does not end
-pub failed-beside-open : parV throwV (evV true) ≡ evV true
-unfolding parV bothV meetV some-of
+pub failed-beside-open : parV false throwV (evV true) ≡ evV true
+unfolding sides parV bothV meetV some-of
 failed-beside-open = refl
+
+-- a joint event is one step of both sides, and none where one of them does not take it; any other is a step of each
+pub joint-event-once : parV true (evV true) (evV true) ≡ evV true
+unfolding sides parV bothV meetV some-of
+joint-event-once = refl
+
+pub joint-event-awaited : parV true (evV true) (evV false) ≡ evV false
+unfolding sides parV bothV meetV some-of
+joint-event-awaited = refl
+
+pub other-event-twice : parV false (evV true) (evV true) ≡ viewed 2 false false false
+unfolding sides parV bothV meetV some-of
+other-event-twice = refl
 
 -- Sequences ----------------------------------------------------------------------------------------------------------------
 

@@ -1,6 +1,6 @@
 -- The search for a compensation, one lemma to a branch, over terms: which compensation of a whole an index falls on, from what
 -- it falls on in the parts, and that an index handed to a part lies below what the part's compensations weigh in all.
--- a is the event of the next record. Theorems only. Assumes nothing.
+-- a is the event of the next record, js a set of joint events. Theorems only. Assumes nothing.
 use Prim.Native.Nat.{ℕ, _+_, _*_, _-_, _≤_, _<_}
 use native.Mathlib.Omega.{arith}
 use native.Mathlib.Nat.{mul-comm}
@@ -10,16 +10,16 @@ use mathlib.Core.Bool.{Bool, true, false, not, _&&_, cond}
 use mathlib.Core.List.{List, [], _∷_, _++_, map}
 use lib.Dec.{T, eqb, not-T, eqb→eq}
 use lib.ListN.{length}
-use Rattle.calculus.specs.Term.{Closing, done, withdrawn, failed, Std, Cmp, skip, seq, par, pair, cseq, calt, cpar, held, join}
+use Rattle.calculus.specs.Term.{Closing, done, withdrawn, failed, Joint, Std, Cmp, skip, seq, par, pair, cseq, calt, cpar, held, join}
 use Rattle.calculus.specs.Successors.{eqc, closings, only, ends, comps, csteps}
 use Rattle.calculus.specs.Equations.{ends-skip, ends-seq, steps-skip, comps-pair, comps-cseq, comps-calt, comps-held}
 use Rattle.tallies.specs.Capped.{cap}
 use Rattle.tallies.specs.CappedLaws.{cap-cap, cap-add, cap-add-left, cap-add-right, cap-mul-left, cap-mul-right, cap-sum, cap-product}
-use Rattle.tallies.specs.Formulas.{whenT, byW, weighs, total, oneG, afterG, insideG, besideG, withinG, fittingT, partnersT, closing}
-use Rattle.tallies.specs.Counts.{sum-of, moves, able, view, tally, word, weight}
+use Rattle.tallies.specs.Formulas.{whenT, byW, weighs, total, oneG, afterG, insideG, sides, besideG, withinG, fittingT, partnersT, closing}
+use Rattle.tallies.specs.Counts.{sum-of, moves-both, moves, able, view, tally, word, weight}
 use Rattle.tallies.specs.Grids.{besides, partners}
-use Rattle.tallies.specs.SumsLaws.{numbers, number-nil, sum-append, sum-map, sum-each, sum-by, length-is}
-use Rattle.tallies.specs.CountsLaws.{both-done, able-seq, able-par, moves-seq, moves-par, tally-only, by-word, comps-partners, word-partners, weight-total}
+use Rattle.tallies.specs.SumsLaws.{numbers, number-nil, sum-append, sum-map, sum-each, sum-by, sum-same, length-is}
+use Rattle.tallies.specs.CountsLaws.{both-done, able-seq, able-par, moves-seq, moves-par, par-counted, tally-only, by-word, comps-partners, word-partners, weight-total}
 use Rattle.tallies.specs.Places.{At, Finds}
 use Rattle.tallies.specs.PlacesLaws.{at-is, finds-is, finds-left, finds-after, finds-one, finds-rest, finds-rest-le, finds-only, finds-map, finds-each, finds-cap, sum-cap, only-holds, only-room}
 use Rattle.tallies.specs.Sought.{Sought, Falls, by-closing}
@@ -47,33 +47,46 @@ able-times : (n : ℕ) (b : Bool) → cond b n 0 ≡ n * cond b 1 0
 able-times n true = omega arith
 able-times n false = omega arith
 
--- what k weighs with all of a list, where an element x and k are put together by `on`: k takes its steps as often as s says
-module _ (a : ℕ) (g : Weight) (on : Std → Std → Std) (s : Std → ℕ) (em : (x k : Std) → moves a (on x k) ≡ moves a x + s x * moves a k) (ea : (x k : Std) → able a (on x k) ≡ able a x * able a k) (k : Std) where
-  sum-with : (l : List Std) → sum-of (λ x. weight a g (on x k)) l ≡ g .own * length l + g .moves * sum-of (moves a) l + g .moves * sum-of s l * moves a k + g .able * sum-of (able a) l * able a k
+-- what k weighs with all of a list, where an element x and k are put together by `on`: x takes r x steps by itself, and k takes its
+-- own as often as s says
+module _ (a : ℕ) (g : Weight) (on : Std → Std → Std) (r s : Std → ℕ) (em : (x k : Std) → moves a (on x k) ≡ r x + s x * moves a k) (ea : (x k : Std) → able a (on x k) ≡ able a x * able a k) (k : Std) where
+  sum-with : (l : List Std) → sum-of (λ x. weight a g (on x k)) l ≡ g .own * length l + g .moves * sum-of r l + g .moves * sum-of s l * moves a k + g .able * sum-of (able a) l * able a k
   unfolding sum-of weight
   sum-with [] = omega arith
   sum-with (x ∷ l) = let e = sum-with l in rw (em x k, ea x k) (omega arith)
 
-  with-weight : (l : List Std) {n : ℕ} → n ≡ sum-of s l →
-      cap (weight a (weighs (cap (cap (g .own * cap (length l)) + cap (g .moves * cap (sum-of (moves a) l)))) (cap (g .moves * cap n)) (cap (g .able * cap (sum-of (able a) l)))) k)
-      ≡ cap (sum-of (λ x. weight a g (on x k)) l)
+  with-weight : (l : List Std) (o : ℕ) {n : ℕ} → cap o ≡ cap (g .own * length l + g .moves * sum-of r l) → n ≡ sum-of s l →
+      cap (weight a (weighs o (cap (g .moves * cap n)) (cap (g .able * cap (sum-of (able a) l)))) k) ≡ cap (sum-of (λ x. weight a g (on x k)) l)
   unfolding weight
-  with-weight l {n} e =
-      three-cap _ (g .own * length l + g .moves * sum-of (moves a) l) _ (g .moves * n * moves a k) _ (g .able * sum-of (able a) l * able a k)
-      (own-cap (g .own) (g .moves) (length l) (sum-of (moves a) l)) (part-cap (g .moves) n (moves a k)) (part-cap (g .able) (sum-of (able a) l) (able a k))
-      ∙ ap (λ z. cap (g .own * length l + g .moves * sum-of (moves a) l + g .moves * z * moves a k + g .able * sum-of (able a) l * able a k)) e
+  with-weight l o {n} d e =
+      three-cap o (g .own * length l + g .moves * sum-of r l) _ (g .moves * n * moves a k) _ (g .able * sum-of (able a) l * able a k)
+      d (part-cap (g .moves) n (moves a k)) (part-cap (g .able) (sum-of (able a) l) (able a k))
+      ∙ ap (λ z. cap (g .own * length l + g .moves * sum-of r l + g .moves * z * moves a k + g .able * sum-of (able a) l * able a k)) e
       ∙ ap cap (sym (sum-with l))
 
 module _ (a : ℕ) (g : Weight) where
   -- what k weighs with all l;k
   after-weight : (l : List Std) (k : Std) → cap (weight a (afterG (tally a l) g) k) ≡ cap (sum-of (weight a g) (map (λ x. seq x k) l))
   unfolding tally afterG
-  after-weight l k = with-weight a g seq (able a) (moves-seq a) (able-seq a) k l refl ∙ ap cap (sym (sum-map numbers (weight a g) (λ x. seq x k) l))
+  after-weight l k =
+      with-weight a g seq (moves a) (able a) (moves-seq a) (able-seq a) k l _ (own-cap (g .own) (g .moves) (length l) (sum-of (moves a) l)) refl
+      ∙ ap cap (sym (sum-map numbers (weight a g) (λ x. seq x k) l))
 
   -- what k weighs beside all of a list
-  beside-weight : (l : List Std) (k : Std) → cap (weight a (besideG (tally a l) g) k) ≡ cap (sum-of (λ x. weight a g (par k x)) l)
+  beside-weight : (js : Joint) (l : List Std) (k : Std) → cap (weight a (besideG (js a) (tally a l) g) k) ≡ cap (sum-of (λ x. weight a g (par js k x)) l)
   unfolding tally besideG
-  beside-weight l k = with-weight a g (λ x k. par k x) (λ x. 1) (λ x k. let e = moves-par a k x in omega arith) (λ x k. able-par a k x ∙ mul-comm (able a k) (able a x)) k l (length-is l)
+  beside-weight js l k = by (js a) (moves-par a js)
+    where
+      able-turned : (x k : Std) → able a (par js k x) ≡ able a x * able a k
+      able-turned x k = able-par a js k x ∙ mul-comm (able a k) (able a x)
+
+      by : (b : Bool) → ((p q : Std) → moves a (par js p q) ≡ moves-both b (moves a p) (moves a q)) → cap (weight a (besideG b (tally a l) g) k) ≡ cap (sum-of (λ x. weight a g (par js k x)) l)
+      by true e =
+          with-weight a g (λ x k. par js k x) (λ x. 0) (moves a) (λ x k. let z = e k x in omega arith) able-turned k l _
+          (cap-cap _ ∙ cap-mul-right (g .own) (length l) ∙ ap cap (rw (sum-same 0 l) (omega arith))) refl
+      by false e =
+          with-weight a g (λ x k. par js k x) (moves a) (λ x. 1) (λ x k. let z = e k x in omega arith) able-turned k l _
+          (own-cap (g .own) (g .moves) (length l) (sum-of (moves a) l)) (length-is l)
 
   -- what l weighs in l;k
   inside-sum : (k x : Std) → g .own + g .moves * moves a x + (g .moves * moves a k + cond (ends k done) (g .able) 0) * able a x ≡ weight a g (seq x k)
@@ -87,16 +100,21 @@ module _ (a : ℕ) (g : Weight) where
       ∙ ap cap (inside-sum k x))
 
   -- what l weighs beside k
-  within-sum : (k x : Std) → g .own + g .moves * moves a k + g .moves * moves a x + cond (ends k done) (g .able) 0 * able a x ≡ weight a g (par k x)
-  unfolding weight able
-  within-sum k x = rw (able-times (g .able) (ends k done), moves-par a k x, able-par a k x) (omega arith)
+  within-weight : (js : Joint) {n : ℕ} {c : Bool} (k : Std) → n ≡ cap (moves a k) → c ≡ ends k done → (x : Std) → cap (weight a (withinG (js a) g n c) x) ≡ cap (weight a g (par js k x))
+  unfolding weight withinG able
+  within-weight js k e d x = rw (e, d) (by (js a) (moves-par a js k x))
+    where
+      on : ℕ
+      on = cond (ends k done) (g .able) 0
 
-  within-weight : {n : ℕ} {b : Bool} (k : Std) → n ≡ cap (moves a k) → b ≡ ends k done → (x : Std) → cap (weight a (withinG g n b) x) ≡ cap (weight a g (par k x))
-  unfolding weight withinG
-  within-weight k e d x = rw (e, d)
-      (three-cap _ (g .own + g .moves * moves a k) _ (g .moves * moves a x) _ (cond (ends k done) (g .able) 0 * able a x)
-      (cap-cap _ ∙ cap-add-right (g .own) (g .moves * cap (moves a k)) ∙ cap-sum (g .own) (g .own) _ (g .moves * moves a k) refl (cap-mul-right (g .moves) (moves a k))) refl refl
-      ∙ ap cap (within-sum k x))
+      by : (b : Bool) → moves a (par js k x) ≡ moves-both b (moves a k) (moves a x) → cap (weight a (withinG b g (cap (moves a k)) (ends k done)) x) ≡ cap (weight a g (par js k x))
+      by true m =
+          three-cap _ (g .own) _ (g .moves * moves a k * moves a x) _ (on * able a x) refl (part-cap (g .moves) (moves a k) (moves a x)) refl
+          ∙ ap cap (rw (able-times (g .able) (ends k done), m, able-par a js k x) (omega arith))
+      by false m =
+          three-cap _ (g .own + g .moves * moves a k) _ (g .moves * moves a x) _ (on * able a x)
+          (cap-cap _ ∙ cap-add-right (g .own) (g .moves * cap (moves a k)) ∙ cap-sum (g .own) (g .own) _ (g .moves * moves a k) refl (cap-mul-right (g .moves) (moves a k))) refl refl
+          ∙ ap cap (rw (able-times (g .able) (ends k done), m, able-par a js k x) (omega arith))
 
 -- Closings as small numbers ---------------------------------------------------------------------------------------------
 
@@ -294,55 +312,52 @@ each-closing f e d done = e
 each-closing f e d withdrawn = d
 each-closing f e d failed = refl
 
-par-counted : (a : ℕ) (p q : Std) → cap (cap (moves a p) + cap (moves a q)) ≡ cap (moves a (par p q))
-par-counted a p q = cap-add (moves a p) (moves a q) ∙ ap cap (sym (moves-par a p q))
-
 -- QQ's compensations by y that go with an ending x of PP, where both end by u
 abbrev side : Cmp → Closing → Closing → Closing → List Std
 side qq u x y = only (eqc u (join x y)) (comps qq y)
 
-module _ (a : ℕ) (g : Weight) (pp qq : Cmp) (u : Closing) {xw yw : Word} (ex : xw ≡ word a pp) (ey : yw ≡ word a qq) where
+module _ (a : ℕ) (g : Weight) (js : Joint) (pp qq : Cmp) (u : Closing) {xw yw : Word} (ex : xw ≡ word a pp) (ey : yw ≡ word a qq) where
   -- what k weighs beside all that go with it
-  beside-is : (x : Closing) (k : Std) → cap (weight a (besideG (partnersT yw u x) g) k) ≡ cap (sum-of (weight a g) (map (par k) (partners (comps qq) u x)))
+  beside-is : (x : Closing) (k : Std) → cap (weight a (besideG (js a) (partnersT yw u x) g) k) ≡ cap (sum-of (weight a g) (map (par js k) (partners (comps qq) u x)))
   beside-is x k =
-      ap (λ t. cap (weight a (besideG t g) k)) (ap (λ z. partnersT z u x) ey ∙ sym (word-partners a qq u x))
-      ∙ beside-weight a g (partners (comps qq) u x) k
-      ∙ ap cap (sym (sum-map numbers (weight a g) (par k) (partners (comps qq) u x)))
+      ap (λ t. cap (weight a (besideG (js a) t g) k)) (ap (λ z. partnersT z u x) ey ∙ sym (word-partners a qq u x))
+      ∙ beside-weight a g js (partners (comps qq) u x) k
+      ∙ ap cap (sym (sum-map numbers (weight a g) (par js k) (partners (comps qq) u x)))
 
   -- what PP's compensations by x weigh in all with what goes with them
-  block-is : (x : Closing) → cap (sum-of (weight a (besideG (partnersT yw u x) g)) (comps pp x)) ≡ cap (sum-of (weight a g) (besides (comps pp x) (partners (comps qq) u x)))
-  block-is x = sum-cap _ _ (beside-is x) (comps pp x) ∙ ap cap (sym (sum-each numbers (weight a g) (λ k. map (par k) (partners (comps qq) u x)) (comps pp x)))
+  block-is : (x : Closing) → cap (sum-of (weight a (besideG (js a) (partnersT yw u x) g)) (comps pp x)) ≡ cap (sum-of (weight a g) (besides js (comps pp x) (partners (comps qq) u x)))
+  block-is x = sum-cap _ _ (beside-is x) (comps pp x) ∙ ap cap (sym (sum-each numbers (weight a g) (λ k. map (par js k) (partners (comps qq) u x)) (comps pp x)))
 
-  module _ {t : Closing → ℕ} (et : (x : Closing) → t x ≡ total (byW xw x) (besideG (partnersT yw u x) g)) {j : ℕ} (h : j < cap (sum-of (weight a g) (comps (cpar pp qq) u))) where
-    first-total : (x : Closing) → t x ≡ cap (sum-of (weight a (besideG (partnersT yw u x) g)) (comps pp x))
-    first-total x = total-by a (besideG (partnersT yw u x) g) pp x ex refl (et x)
+  module _ {t : Closing → ℕ} (et : (x : Closing) → t x ≡ total (byW xw x) (besideG (js a) (partnersT yw u x) g)) {j : ℕ} (h : j < cap (sum-of (weight a g) (comps (cpar js pp qq) u))) where
+    first-total : (x : Closing) → t x ≡ cap (sum-of (weight a (besideG (js a) (partnersT yw u x) g)) (comps pp x))
+    first-total x = total-by a (besideG (js a) (partnersT yw u x) g) pp x ex refl (et x)
 
-    first-block : (x : Closing) → cap (t x) ≡ cap (sum-of (weight a g) (besides (comps pp x) (partners (comps qq) u x)))
+    first-block : (x : Closing) → cap (t x) ≡ cap (sum-of (weight a g) (besides js (comps pp x) (partners (comps qq) u x)))
     first-block x = ap cap (first-total x ∙ block-is x) ∙ cap-cap _
 
     -- the index falls on one of the three endings of PP
     ending-room : j < cap (sum-of t closings)
     ending-room =
         let z = sum-cap _ _ first-block closings in
-        let y = ap (sum-of (weight a g)) (comps-partners pp qq u) ∙ sum-each numbers (weight a g) (λ x. besides (comps pp x) (partners (comps qq) u x)) closings in omega arith
+        let y = ap (sum-of (weight a g)) (comps-partners js pp qq u) ∙ sum-each numbers (weight a g) (λ x. besides js (comps pp x) (partners (comps qq) u x)) closings in omega arith
 
-    module _ {x : Closing} {i : ℕ} (f : Finds t closings j x i) {g₁ : Weight} (e₁ : g₁ ≡ besideG (partnersT yw u x) g) where
+    module _ {x : Closing} {i : ℕ} (f : Finds t closings j x i) {g₁ : Weight} (e₁ : g₁ ≡ besideG (js a) (partnersT yw u x) g) where
       -- then on one of PP's compensations by that ending
       first-room : i < cap (sum-of (weight a g₁) (comps pp x))
       first-room = rw e₁ (let z = first-total x in let y = finds-rest f in omega arith)
 
-      module _ {p : Std} {r n : ℕ} {b : Bool} (s : Sought a g₁ (comps pp x) i p r n b) {g₂ : Weight} (e₂ : g₂ ≡ withinG g n b) {v : Closing → ℕ} (ev : (y : Closing) → v y ≡ total (fittingT yw u x y) g₂) where
-        around-weight : (k : Std) → cap (weight a g₁ k) ≡ cap (sum-of (weight a g) (map (par k) (partners (comps qq) u x)))
+      module _ {p : Std} {r n : ℕ} {b : Bool} (s : Sought a g₁ (comps pp x) i p r n b) {g₂ : Weight} (e₂ : g₂ ≡ withinG (js a) g n b) {v : Closing → ℕ} (ev : (y : Closing) → v y ≡ total (fittingT yw u x y) g₂) where
+        around-weight : (k : Std) → cap (weight a g₁ k) ≡ cap (sum-of (weight a g) (map (par js k) (partners (comps qq) u x)))
         around-weight k = ap (λ z. cap (weight a z k)) e₁ ∙ beside-is x k
 
-        inner-weight : (q : Std) → cap (weight a g₂ q) ≡ cap (weight a g (par p q))
-        inner-weight q = ap (λ z. cap (weight a z q)) e₂ ∙ within-weight a g p (s .counted) (s .ended) q
+        inner-weight : (q : Std) → cap (weight a g₂ q) ≡ cap (weight a g (par js p q))
+        inner-weight q = ap (λ z. cap (weight a z q)) e₂ ∙ within-weight a g js p (s .counted) (s .ended) q
 
         second-total : (y : Closing) → v y ≡ cap (sum-of (weight a g₂) (side qq u x y))
         unfolding fittingT
         second-total y = total-when a g₂ qq y (eqc u (join x y)) ey (ev y)
 
-        second-block : (y : Closing) → cap (v y) ≡ cap (sum-of (λ q. weight a g (par p q)) (side qq u x y))
+        second-block : (y : Closing) → cap (v y) ≡ cap (sum-of (λ q. weight a g (par js p q)) (side qq u x y))
         second-block y = ap cap (second-total y ∙ sum-cap _ _ inner-weight (side qq u x y)) ∙ cap-cap _
 
         -- what is left falls on one of the three endings of QQ
@@ -350,7 +365,7 @@ module _ (a : ℕ) (g : Weight) (pp qq : Cmp) (u : Closing) {xw yw : Word} (ex :
         unfolding partners
         between-room =
             let z = sum-cap _ _ second-block closings in
-            let y = sum-map numbers (weight a g) (par p) (partners (comps qq) u x) ∙ sum-each numbers (λ q. weight a g (par p q)) (side qq u x) closings in
+            let y = sum-map numbers (weight a g) (par js p) (partners (comps qq) u x) ∙ sum-each numbers (λ q. weight a g (par js p q)) (side qq u x) closings in
             let w = around-weight p in
             let m = finds-rest (s .found) in
             let l = finds-rest-le (s .found) in
@@ -367,46 +382,46 @@ module _ (a : ℕ) (g : Weight) (pp qq : Cmp) (u : Closing) {xw yw : Word} (ex :
           last-room : i′ < cap (sum-of (weight a g₂) (comps qq y))
           last-room = only-room (sum-of (weight a g₂)) (number-nil _) (eqc u (join x y)) (comps qq y) last-below
 
-          both-sought : {q : Std} {o n′ : ℕ} {b′ : Bool} → Sought a g₂ (comps qq y) i′ q o n′ b′ → Sought a g (comps (cpar pp qq) u) j (par p q) o (cap (n + n′)) (b && b′)
+          both-sought : {q : Std} {o n′ : ℕ} {b′ : Bool} → Sought a g₂ (comps qq y) i′ q o n′ b′ → Sought a g (comps (cpar js pp qq) u) j (par js p q) o (sides (js a) n n′) (b && b′)
           unfolding partners
           both-sought {q} s′ =
               let l = finds-rest-le (s .found) in
               let k = finds-rest-le f in
               let k′ = finds-rest-le f′ in
-              let inner = finds-only {f = λ q. weight a g (par p q)} (eqc u (join x y)) fits (finds-cap _ _ inner-weight (omega arith) (s′ .found)) in
-              let middle = finds-map (weight a g) (par p) (finds-each (λ q. weight a g (par p q)) (side qq u x) (finds-cap _ _ second-block (omega arith) f′) inner) in
-              let outer = finds-each (weight a g) (λ k. map (par k) (partners (comps qq) u x)) (finds-cap _ _ around-weight (omega arith) (s .found)) middle in
+              let inner = finds-only {f = λ q. weight a g (par js p q)} (eqc u (join x y)) fits (finds-cap _ _ inner-weight (omega arith) (s′ .found)) in
+              let middle = finds-map (weight a g) (par js p) (finds-each (λ q. weight a g (par js p q)) (side qq u x) (finds-cap _ _ second-block (omega arith) f′) inner) in
+              let outer = finds-each (weight a g) (λ k. map (par js k) (partners (comps qq) u x)) (finds-cap _ _ around-weight (omega arith) (s .found)) middle in
               record {
-                found = rw comps-partners (finds-each (weight a g) (λ x. besides (comps pp x) (partners (comps qq) u x)) (finds-cap _ _ first-block (omega arith) f) outer);
-                counted = rw (s .counted, s′ .counted) (par-counted a p q);
-                ended = rw (s .ended, s′ .ended) (sym (both-done p q));
+                found = rw comps-partners (finds-each (weight a g) (λ x. besides js (comps pp x) (partners (comps qq) u x)) (finds-cap _ _ first-block (omega arith) f) outer);
+                counted = rw (s .counted, s′ .counted) (sym (par-counted a js p q));
+                ended = rw (s .ended, s′ .ended) (sym (both-done js p q));
               }
 
 -- The same as the code learns it: PP's endings done and withdrawn weigh x₁ and y₁ with what goes with them, the index falls on the
 -- ending w, and within it on p; then QQ's endings done and withdrawn that go with w weigh x₂ and y₂ beside p, and so on.
-module _ (a : ℕ) (g : Weight) (pp qq : Cmp) (u : Closing) {xw yw : Word} (ex : xw ≡ word a pp) (ey : yw ≡ word a qq) {j : ℕ} (h : j < cap (sum-of (weight a g) (comps (cpar pp qq) u))) where
-  module _ {x₁ y₁ : ℕ} (dx : x₁ ≡ total (byW xw done) (besideG (partnersT yw u done) g)) (dy : y₁ ≡ total (byW xw withdrawn) (besideG (partnersT yw u withdrawn) g)) {w : Closing} {i : ℕ} (f : Falls x₁ y₁ j w i) {g₁ : Weight} (e₁ : g₁ ≡ besideG (partnersT yw u w) g) where
-    totals : (x : Closing) → by-closing x₁ y₁ (total (byW xw failed) (besideG (partnersT yw u failed) g)) x ≡ total (byW xw x) (besideG (partnersT yw u x) g)
-    totals = each-closing (λ x. total (byW xw x) (besideG (partnersT yw u x) g)) dx dy
+module _ (a : ℕ) (g : Weight) (js : Joint) (pp qq : Cmp) (u : Closing) {xw yw : Word} (ex : xw ≡ word a pp) (ey : yw ≡ word a qq) {j : ℕ} (h : j < cap (sum-of (weight a g) (comps (cpar js pp qq) u))) where
+  module _ {x₁ y₁ : ℕ} (dx : x₁ ≡ total (byW xw done) (besideG (js a) (partnersT yw u done) g)) (dy : y₁ ≡ total (byW xw withdrawn) (besideG (js a) (partnersT yw u withdrawn) g)) {w : Closing} {i : ℕ} (f : Falls x₁ y₁ j w i) {g₁ : Weight} (e₁ : g₁ ≡ besideG (js a) (partnersT yw u w) g) where
+    totals : (x : Closing) → by-closing x₁ y₁ (total (byW xw failed) (besideG (js a) (partnersT yw u failed) g)) x ≡ total (byW xw x) (besideG (js a) (partnersT yw u x) g)
+    totals = each-closing (λ x. total (byW xw x) (besideG (js a) (partnersT yw u x) g)) dx dy
 
-    fallen : Finds (by-closing x₁ y₁ (total (byW xw failed) (besideG (partnersT yw u failed) g))) closings j w i
-    fallen = f .falls _ (ending-room a g pp qq u ex ey totals h)
+    fallen : Finds (by-closing x₁ y₁ (total (byW xw failed) (besideG (js a) (partnersT yw u failed) g))) closings j w i
+    fallen = f .falls _ (ending-room a g js pp qq u ex ey totals h)
 
     pub seek-par-first-room : i < cap (sum-of (weight a g₁) (comps pp w))
-    seek-par-first-room = first-room a g pp qq u ex ey totals h fallen e₁
+    seek-par-first-room = first-room a g js pp qq u ex ey totals h fallen e₁
 
-    module _ {p : Std} {r n : ℕ} {b : Bool} (s : Sought a g₁ (comps pp w) i p r n b) {g₂ : Weight} (e₂ : g₂ ≡ withinG g n b) {x₂ y₂ : ℕ} (cx : x₂ ≡ total (fittingT yw u w done) g₂) (cy : y₂ ≡ total (fittingT yw u w withdrawn) g₂) {v : Closing} {i′ : ℕ} (f′ : Falls x₂ y₂ r v i′) where
+    module _ {p : Std} {r n : ℕ} {b : Bool} (s : Sought a g₁ (comps pp w) i p r n b) {g₂ : Weight} (e₂ : g₂ ≡ withinG (js a) g n b) {x₂ y₂ : ℕ} (cx : x₂ ≡ total (fittingT yw u w done) g₂) (cy : y₂ ≡ total (fittingT yw u w withdrawn) g₂) {v : Closing} {i′ : ℕ} (f′ : Falls x₂ y₂ r v i′) where
       totals′ : (y : Closing) → by-closing x₂ y₂ (total (fittingT yw u w failed) g₂) y ≡ total (fittingT yw u w y) g₂
       totals′ = each-closing (λ y. total (fittingT yw u w y) g₂) cx cy
 
       fallen′ : Finds (by-closing x₂ y₂ (total (fittingT yw u w failed) g₂)) closings r v i′
-      fallen′ = f′ .falls _ (between-room a g pp qq u ex ey totals h fallen e₁ s e₂ totals′)
+      fallen′ = f′ .falls _ (between-room a g js pp qq u ex ey totals h fallen e₁ s e₂ totals′)
 
       pub seek-par-second-room : i′ < cap (sum-of (weight a g₂) (comps qq v))
-      seek-par-second-room = last-room a g pp qq u ex ey totals h fallen e₁ s e₂ totals′ fallen′
+      seek-par-second-room = last-room a g js pp qq u ex ey totals h fallen e₁ s e₂ totals′ fallen′
 
-      pub seek-par : {q : Std} {o n′ : ℕ} {b′ : Bool} → Sought a g₂ (comps qq v) i′ q o n′ b′ → Sought a g (comps (cpar pp qq) u) j (par p q) o (cap (n + n′)) (b && b′)
-      seek-par = both-sought a g pp qq u ex ey totals h fallen e₁ s e₂ totals′ fallen′
+      pub seek-par : {q : Std} {o n′ : ℕ} {b′ : Bool} → Sought a g₂ (comps qq v) i′ q o n′ b′ → Sought a g (comps (cpar js pp qq) u) j (par js p q) o (sides (js a) n n′) (b && b′)
+      seek-par = both-sought a g js pp qq u ex ey totals h fallen e₁ s e₂ totals′ fallen′
 
 -- Each compensation once ------------------------------------------------------------------------------------------------
 

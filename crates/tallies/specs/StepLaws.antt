@@ -1,21 +1,23 @@
 -- Where the steps of a part stand among the steps of the whole, for each way of putting parts together; and that an index
 -- that is left over for a part lies among that part's steps. An index is compared with counts that stop at the greatest
--- number. a is the event of the next record. Theorems only. Assumes nothing.
-use Prim.Native.Nat.{ℕ, _-_, _≤_, _<_}
+-- number. a is the event of the next record, j a set of joint events. Theorems only. Assumes nothing.
+use Prim.Native.Nat.{ℕ, _*_, _-_, _/_, _%_, _≤_, _<_}
 use native.Mathlib.Omega.{arith}
 use mathlib.Core.Path.{_≡_, refl, _∙_, ap}
 use mathlib.Core.Bool.{Bool, true, false}
 use mathlib.Core.List.{List, [], _∷_, _++_, map}
 use lib.ListN.{length, length-append, length-map}
-use Rattle.calculus.specs.Term.{Closing, done, failed, Leaf, Std, Cmp, skip, throw, yield, ev, seq, alt, par, hnd, blk, pair, cseq, calt, cpar, held}
-use Rattle.calculus.specs.Successors.{only, each, ends, steps, comps, csteps}
+use Rattle.calculus.specs.Term.{Closing, done, failed, Leaf, Joint, Std, Cmp, skip, throw, yield, ev, seq, alt, par, hnd, blk, pair, cseq, calt, cpar, held}
+use Rattle.calculus.specs.Successors.{only, each, beside, ends, steps, comps, csteps}
 use Rattle.calculus.specs.Equations.{steps-skip, steps-throw, steps-yield, steps-ev, steps-seq, steps-hnd, steps-alt, steps-par, steps-blk, csteps-pair, csteps-cseq, csteps-calt, csteps-cpar, csteps-held}
 use Rattle.tallies.specs.Capped.{cap}
-use Rattle.tallies.specs.Formulas.{movesG, holdG}
+use Rattle.tallies.specs.CappedLaws.{factor-some, factor-first, factor-second, cap-divided}
+use Rattle.tallies.specs.Formulas.{sides, movesG, holdG}
 use Rattle.tallies.specs.Counts.{sum-of, moves, weight}
 use Rattle.tallies.specs.SumsLaws.{length-each}
+use Rattle.tallies.specs.CountsLaws.{sides-beside}
 use Rattle.tallies.specs.Places.{At, Finds}
-use Rattle.tallies.specs.PlacesLaws.{at-is, at-left, at-after, at-map, at-only, at-each, finds-rest, finds-rest-le, finds-cap, sum-cap, only-holds, only-room}
+use Rattle.tallies.specs.PlacesLaws.{at-is, at-left, at-after, at-map, at-grid, at-only, at-each, finds-rest, finds-rest-le, finds-cap, sum-cap, only-holds, only-room}
 
 -- Two lists, one after the other ----------------------------------------------------------------------------------------
 
@@ -51,6 +53,53 @@ module _ {A B : Type 0} (f : A → ℕ) (lists : A → List B) (e : (x : A) → 
 
   at-each-second : {x : A} {r : ℕ} {y : B} → Finds f xs (k - c) x r → At (lists x) r y → At w k y
   at-each-second p u = at-second s d h g (at-each lists (finds-cap f (λ x. length (lists x)) e (omega arith) p) u)
+
+-- Two sides --------------------------------------------------------------------------------------------------------------
+
+-- w are the steps of two sides p and q put together by f, where ps and qs are their own, and b says that the event is joint
+pub record Together {A : Type 0} (b : Bool) (f : A → A → A) (p q : A) (w ps qs : List A) : Type 0 where
+  pub whole : w ≡ beside b f p q ps qs
+
+pub par-together : (a : ℕ) (j : Joint) (p q : Std) {b : Bool} → j a ≡ b → Together b (par j) p q (steps (par j p q) a) (steps p a) (steps q a)
+par-together a j p q o = record { whole = steps-par j p q a ∙ ap (λ b. beside b (par j) p q (steps p a) (steps q a)) o }
+
+pub cpar-together : (a : ℕ) (j : Joint) (pp qq : Cmp) {b : Bool} → j a ≡ b → Together b (cpar j) pp qq (csteps (cpar j pp qq) a) (csteps pp a) (csteps qq a)
+cpar-together a j pp qq o = record { whole = csteps-cpar j pp qq a ∙ ap (λ b. beside b (cpar j) pp qq (csteps pp a) (csteps qq a)) o }
+
+-- by an event that is not joint, the first's steps and then the second's
+module _ {A : Type 0} {f : A → A → A} {p q : A} {w ps qs : List A} (s : Together false f p q w ps qs) where
+  apart-split : Split w (map (λ r. f r q) ps) (map (f p) qs) (length ps)
+  unfolding beside
+  apart-split = record { whole = s .whole; many = length-map ps (λ r. f r q) }
+
+  pub apart-at-first : {k : ℕ} {x : A} → At ps k x → At w k (f x q)
+  apart-at-first u = at-first apart-split (at-map (λ r. f r q) u)
+
+  module _ {c k : ℕ} (e : c ≡ cap (length ps)) (h : k < cap (length w)) (g : c ≤ k) where
+    pub apart-room : k - c < cap (length qs)
+    apart-room = rw (length-map qs (f p)) at (room apart-split e h g)
+
+    pub apart-at-second : {x : A} → At qs (k - c) x → At w k (f p x)
+    apart-at-second u = at-second apart-split e h g (at-map (f p) u)
+
+-- by a joint event, a step of both: by the first's order and then by the second's, which has n
+module _ {A : Type 0} {f : A → A → A} {p q : A} {w ps qs : List A} (s : Together true f p q w ps qs) {n k : ℕ} (e : n ≡ cap (length qs)) (h : k < cap (length w)) where
+  joint-below : k < cap (length ps) * n
+  unfolding sides
+  joint-below = let z = ap (λ l. cap (length l)) (s .whole) ∙ sides-beside true f p q ps qs in rw e (omega arith)
+
+  pub joint-some : 0 < n
+  joint-some = factor-some (cap (length ps)) n joint-below
+
+  pub joint-first-room : k / n < cap (length ps)
+  joint-first-room = factor-first (cap (length ps)) n joint-below
+
+  pub joint-second-room : k % n < cap (length qs)
+  joint-second-room = let z = factor-second (cap (length ps)) n joint-below in omega arith
+
+  pub joint-goes : {x y : A} → At ps (k / n) x → At qs (k % n) y → At w k (f x y)
+  unfolding beside
+  joint-goes u v = rw (s .whole) (at-is (cap-divided k n (length qs) e (omega arith)) (at-grid f u v))
 
 -- Standard parts --------------------------------------------------------------------------------------------------------
 
@@ -104,10 +153,6 @@ module _ (a : ℕ) (p q : Std) where
   unfolding moves
   alt-split = record { whole = steps-alt p q a; many = refl }
 
-  par-split : Split (steps (par p q) a) (map (λ r. par r q) (steps p a)) (map (λ r. par p r) (steps q a)) (moves a p)
-  unfolding moves
-  par-split = record { whole = steps-par p q a; many = length-map (steps p a) (λ r. par r q) }
-
   pub at-seq-first : {k : ℕ} {p′ : Std} → At (steps p a) k p′ → At (steps (seq p q) a) k (seq p′ q)
   at-seq-first = at-on-first seq done a p q (steps-seq p q a)
 
@@ -116,9 +161,6 @@ module _ (a : ℕ) (p q : Std) where
 
   pub at-alt-first : {k : ℕ} {p′ : Std} → At (steps p a) k p′ → At (steps (alt p q) a) k p′
   at-alt-first u = at-first alt-split u
-
-  pub at-par-first : {k : ℕ} {p′ : Std} → At (steps p a) k p′ → At (steps (par p q) a) k (par p′ q)
-  at-par-first u = at-first par-split (at-map (λ r. par r q) u)
 
   module _ {c k : ℕ} (e : c ≡ cap (moves a p)) (h : k < cap (moves a (seq p q))) (g : c ≤ k) where
     pub seq-room : k - c < cap (moves a q)
@@ -142,15 +184,6 @@ module _ (a : ℕ) (p q : Std) where
     pub at-alt-second : {q′ : Std} → At (steps q a) (k - c) q′ → At (steps (alt p q) a) k q′
     unfolding moves
     at-alt-second u = at-second alt-split e h g u
-
-  module _ {c k : ℕ} (e : c ≡ cap (moves a p)) (h : k < cap (moves a (par p q))) (g : c ≤ k) where
-    pub par-room : k - c < cap (moves a q)
-    unfolding moves
-    par-room = rw (length-map (steps q a) (λ r. par p r)) at (room par-split e h g)
-
-    pub at-par-second : {q′ : Std} → At (steps q a) (k - c) q′ → At (steps (par p q) a) k (par p q′)
-    unfolding moves
-    at-par-second u = at-second par-split e h g (at-map (λ r. par p r) u)
 
 -- Blocks ----------------------------------------------------------------------------------------------------------------
 
@@ -203,17 +236,11 @@ module _ (a : ℕ) (pp qq : Cmp) where
   calt-split : Split (csteps (calt pp qq) a) (csteps pp a) (csteps qq a) (length (csteps pp a))
   calt-split = record { whole = csteps-calt pp qq a; many = refl }
 
-  cpar-split : Split (csteps (cpar pp qq) a) (map (λ r. cpar r qq) (csteps pp a)) (map (λ r. cpar pp r) (csteps qq a)) (length (csteps pp a))
-  cpar-split = record { whole = csteps-cpar pp qq a; many = length-map (csteps pp a) (λ r. cpar r qq) }
-
   pub at-cseq-first : {k : ℕ} {pp′ : Cmp} → At (csteps pp a) k pp′ → At (csteps (cseq pp qq) a) k (cseq pp′ qq)
   at-cseq-first u = at-first cseq-split (at-map (λ r. cseq r qq) u)
 
   pub at-calt-first : {k : ℕ} {pp′ : Cmp} → At (csteps pp a) k pp′ → At (csteps (calt pp qq) a) k pp′
   at-calt-first u = at-first calt-split u
-
-  pub at-cpar-first : {k : ℕ} {pp′ : Cmp} → At (csteps pp a) k pp′ → At (csteps (cpar pp qq) a) k (cpar pp′ qq)
-  at-cpar-first u = at-first cpar-split (at-map (λ r. cpar r qq) u)
 
   -- PP;QQ goes on: PP has become a compensation r, which is held while QQ takes a step
   module _ {c k n : ℕ} (e : c ≡ cap (length (csteps pp a))) (h : k < cap (length (csteps (cseq pp qq) a))) (g : c ≤ k) (d : n ≡ cap (length (csteps qq a))) where
@@ -237,10 +264,3 @@ module _ (a : ℕ) (pp qq : Cmp) where
 
     pub at-calt-second : {qq′ : Cmp} → At (csteps qq a) (k - c) qq′ → At (csteps (calt pp qq) a) k qq′
     at-calt-second u = at-second calt-split e h g u
-
-  module _ {c k : ℕ} (e : c ≡ cap (length (csteps pp a))) (h : k < cap (length (csteps (cpar pp qq) a))) (g : c ≤ k) where
-    pub cpar-room : k - c < cap (length (csteps qq a))
-    cpar-room = rw (length-map (csteps qq a) (λ r. cpar pp r)) at (room cpar-split e h g)
-
-    pub at-cpar-second : {qq′ : Cmp} → At (csteps qq a) (k - c) qq′ → At (csteps (cpar pp qq) a) k (cpar pp qq′)
-    at-cpar-second u = at-second cpar-split e h g (at-map (λ r. cpar pp r) u)

@@ -1,10 +1,11 @@
 // Views, tallies and words: what is known of a term, of several terms and of a running part without going through
 // their steps and compensations one by one. Counts stop at MOST, one more than any index a search can use: an
-// allowance is a 32-bit number, and the root is counted too.
+// allowance is a 32-bit number, and the root is counted too. What is put together of two parallel sides takes first whether the record's
+// event is joint there.
 ghost use mathlib.Core.Path.{_≡_};
 ghost use Prim.Native.Nat.{_+_, _*_, _<_};
 ghost use Rattle.tallies.specs.Capped.{cap};
-ghost use Rattle.tallies.specs.Formulas.{closing, rank, viewed, skipV, throwV, yieldV, evV, altV, seqV, hndV, endsV, meetV, bothV, parV, tallied, noneT, oneT, whenT, plusT, seqT, anyV, parT, worded, byW, blkV, pairW, cseqW, heldW, caltW, fittingT, partnersT, bothT, cparW, skippW, throwwW, yielddW, weighs, is-own, total, afterG, insideG, besideG, withinG};
+ghost use Rattle.tallies.specs.Formulas.{closing, rank, viewed, skipV, throwV, yieldV, evV, altV, seqV, hndV, endsV, meetV, bothV, sides, parV, tallied, noneT, oneT, whenT, plusT, seqT, anyV, sidesT, parT, worded, byW, blkV, pairW, cseqW, heldW, caltW, fittingT, partnersT, bothT, cparW, skippW, throwwW, yielddW, weighs, is-own, total, afterG, insideG, besideG, withinG};
 ghost use mathlib.Core.Bool.{cond};
 ghost use Rattle.calculus.specs.Term.{join};
 ghost use Rattle.calculus.specs.Successors.{eqc, closings, some-of};
@@ -222,11 +223,18 @@ fn both_end(p: View, q: View, u: u8) -> bool
         | (meets_some(p, q, u, RANK_WITHDRAWN) | meets_some(p, q, u, RANK_FAILED))
 }
 
-pub fn parallel_view(p: View, q: View) -> View
-    ensures { λ r. ⌜ r ≡ parV p q ⌝ }
+// How many steps two sides have that have m and n: a joint event is one step of both.
+pub fn sides(joint: bool, m: u32, n: u32) -> u32
+    ensures { λ r. ⌜ r ≡ sides joint m n ⌝ }
+{
+    if joint { product(m, n) } else { sum(m, n) }
+}
+
+pub fn parallel_view(joint: bool, p: View, q: View) -> View
+    ensures { λ r. ⌜ r ≡ parV joint p q ⌝ }
 {
     view_of(
-        sum(p.moves, q.moves),
+        sides(joint, p.moves, q.moves),
         both_end(p, q, RANK_DONE),
         both_end(p, q, RANK_WITHDRAWN),
         both_end(p, q, RANK_FAILED),
@@ -322,9 +330,20 @@ fn any_view(t: Tally) -> View
     view_of(0, t.able != 0, t.withdraws, t.fails)
 }
 
+// How many steps all k beside l have, k of x and l of y.
+fn steps_beside(joint: bool, x: Tally, y: Tally) -> u32
+    ensures { λ r. ⌜ r ≡ sidesT joint x y ⌝ }
+{
+    if joint {
+        product(x.moves, y.moves)
+    } else {
+        sum(product(x.moves, y.many), product(x.many, y.moves))
+    }
+}
+
 // Of all k beside l, k of x and l of y. Those that can end done multiply: only done and done join to done.
-fn parallel_tally(x: Tally, y: Tally) -> Tally
-    ensures { λ r. ⌜ r ≡ parT x y ⌝ }
+fn parallel_tally(joint: bool, x: Tally, y: Tally) -> Tally
+    ensures { λ r. ⌜ r ≡ parT joint x y ⌝ }
 {
     if x.many == 0 {
         return no_tally();
@@ -337,7 +356,7 @@ fn parallel_tally(x: Tally, y: Tally) -> Tally
     tally_of(
         product(x.many, y.many),
         product(x.able, y.able),
-        sum(product(x.moves, y.many), product(x.many, y.moves)),
+        steps_beside(joint, x, y),
         both_end(p, q, RANK_WITHDRAWN),
         both_end(p, q, RANK_FAILED),
     )
@@ -456,38 +475,38 @@ pub fn partners(q: Word, u: u8, x: u8) -> Tally
 
 // Of all k beside what goes with it, k of t: where the first side ends by x and both by u. Most lists are empty, so this is told before
 // what goes with them is put together.
-fn beside_partners(t: Tally, q: Word, u: u8, x: u8) -> Tally
+fn beside_partners(joint: bool, t: Tally, q: Word, u: u8, x: u8) -> Tally
     requires { ⌜ (u < 3) × (x < 3) ⌝ }
-    ensures { λ r. ⌜ r ≡ parT t (partnersT q (closing u) (closing x)) ⌝ }
+    ensures { λ r. ⌜ r ≡ parT joint t (partnersT q (closing u) (closing x)) ⌝ }
 {
     if t.many == 0 {
         return no_tally();
     }
-    parallel_tally(t, partners(q, u, x))
+    parallel_tally(joint, t, partners(q, u, x))
 }
 
 // Compensations of both sides, where both end by u.
-fn both_tally(p: Word, q: Word, u: u8) -> Tally
+fn both_tally(joint: bool, p: Word, q: Word, u: u8) -> Tally
     requires { ⌜ u < 3 ⌝ }
-    ensures { λ r. ⌜ r ≡ bothT p q (closing u) ⌝ }
+    ensures { λ r. ⌜ r ≡ bothT joint p q (closing u) ⌝ }
 {
     plus(
         plus(
-            beside_partners(p.done, q, u, RANK_DONE),
-            beside_partners(p.withdrawn, q, u, RANK_WITHDRAWN),
+            beside_partners(joint, p.done, q, u, RANK_DONE),
+            beside_partners(joint, p.withdrawn, q, u, RANK_WITHDRAWN),
         ),
-        beside_partners(p.failed, q, u, RANK_FAILED),
+        beside_partners(joint, p.failed, q, u, RANK_FAILED),
     )
 }
 
-pub fn parallel_word(x: Word, y: Word) -> Word
-    ensures { λ r. ⌜ r ≡ cparW x y ⌝ }
+pub fn parallel_word(joint: bool, x: Word, y: Word) -> Word
+    ensures { λ r. ⌜ r ≡ cparW joint x y ⌝ }
 {
     word_of(
-        sum(x.moves, y.moves),
-        both_tally(x, y, RANK_DONE),
-        both_tally(x, y, RANK_WITHDRAWN),
-        both_tally(x, y, RANK_FAILED),
+        sides(joint, x.moves, y.moves),
+        both_tally(joint, x, y, RANK_DONE),
+        both_tally(joint, x, y, RANK_WITHDRAWN),
+        both_tally(joint, x, y, RANK_FAILED),
     )
 }
 
@@ -563,26 +582,31 @@ pub fn weight_inside(g: Weight, moves: u32, able: bool) -> Weight
 }
 
 // What p weighs with all q beside it, q of t.
-pub fn weight_beside(t: Tally, g: Weight) -> Weight
-    ensures { λ r. ⌜ r ≡ besideG t g ⌝ }
+pub fn weight_beside(joint: bool, t: Tally, g: Weight) -> Weight
+    ensures { λ r. ⌜ r ≡ besideG joint t g ⌝ }
 {
-    weight_of(
-        sum(product(g.own, t.many), product(g.moves, t.moves)),
-        product(g.moves, t.many),
-        product(g.able, t.able),
-    )
+    let own = product(g.own, t.many);
+    let moves = product(g.moves, t.moves);
+    let able = product(g.able, t.able);
+    if joint {
+        weight_of(own, moves, able)
+    } else {
+        weight_of(sum(own, moves), product(g.moves, t.many), able)
+    }
 }
 
 // What q weighs beside p, where p has so many steps, and can end done or not.
-pub fn weight_within(g: Weight, moves: u32, able: bool) -> Weight
-    ensures { λ r. ⌜ r ≡ withinG g moves able ⌝ }
+pub fn weight_within(joint: bool, g: Weight, moves: u32, able: bool) -> Weight
+    ensures { λ r. ⌜ r ≡ withinG joint g moves able ⌝ }
 {
     if own_only(g) {
         return g;
     }
-    weight_of(
-        sum(g.own, product(g.moves, moves)),
-        g.moves,
-        if_able(able, g.able),
-    )
+    let more = product(g.moves, moves);
+    let ends = if_able(able, g.able);
+    if joint {
+        weight_of(g.own, more, ends)
+    } else {
+        weight_of(sum(g.own, more), g.moves, ends)
+    }
 }

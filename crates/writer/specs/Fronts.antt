@@ -6,7 +6,7 @@ use native.Mathlib.Numerals.{add-one}
 use native.Mathlib.Omega.{arith}
 use lib.ListN.{length, getD, take, drop, set, length-append, length-drop, drop-of-length-le}
 use lib.Seq.{drop-drop, take-all, take-at, take-length, take-suc, drop-at}
-use Rattle.format.specs.Format.{number-bytes, numbers-bytes, numbers-section}
+use Rattle.format.specs.Format.{number-bytes, numbers-bytes, numbers-section, sets-section}
 use Rattle.format.specs.Told.{at-front}
 use Rattle.format.specs.Lengths.{section-length}
 use Rattle.writer.specs.Writing.{lists-bytes}
@@ -62,9 +62,12 @@ pub numbers-bytes-next : (ns : List ℕ) (i : ℕ) → i < length ns
 numbers-bytes-next ns i h =
     sym (ap (λ (k : ℕ). numbers-bytes (take k ns)) (add-one i) ∙ ap numbers-bytes (take-suc ns i 0 h) ∙ numbers-bytes-more (take i ns) (getD ns i 0))
 
----- The three sections ----
+---- The sections ----
 
-pub lists-length : (s ns rs : List ℕ) → length (lists-bytes s ns rs) ≡ length s + 4 + 2 * (length ns + length rs)
+pub lists-length : (s ns rs sets : List ℕ) → length (lists-bytes s ns rs sets) ≡ length s + 4 + 2 * (length ns + length rs) + length (sets-section sets)
 unfolding lists-bytes
-lists-length s ns rs =
-    omega (arith, length-append s (numbers-section 3 ns ++ numbers-section 1 rs), length-append (numbers-section 3 ns) (numbers-section 1 rs), section-length 3 ns, section-length 1 rs)
+lists-length s ns rs sets =
+    let a = numbers-section 3 ns in
+    let b = numbers-section 1 rs in
+    let c = sets-section sets in
+    omega (arith, length-append s (a ++ (b ++ c)), length-append a (b ++ c), length-append b c, section-length 3 ns, section-length 1 rs)

@@ -4,7 +4,7 @@ use super::{Reply, MOST_WORK};
 use crate::by_hand::MILLION;
 use crate::judge::Lent;
 use crate::next::{Beginning, LIST_ROOM};
-use crate::refusals::work_wanted;
+use crate::refusals::{work_wanted, Refusal};
 use crate::writer::{file_of, write};
 
 /// The functions by their numbers.
@@ -27,12 +27,12 @@ pub struct Call {
     pub names: Vec<u8>,
     pub nodes: Vec<u16>,
     pub records: Vec<u16>,
-    /// None so far.
+    /// Bytes, 32 to a set.
     pub sets: Vec<u8>,
 }
 
 impl Call {
-    /// A call of the judge, lent just the work bytes that it wants, as far as `replay` has so many.
+    /// A call of the judge, lent no sets and just the work bytes that it wants, as far as `replay` has so many.
     pub fn judge(names: Option<Vec<u8>>, nodes: Vec<u16>, records: Vec<u16>) -> Call {
         let work_len = work_wanted(&nodes, &records).min(MOST_WORK) as u32;
         let (function, edition, names_lent) = (JUDGE, 1, names.is_some() as u8);
@@ -40,17 +40,31 @@ impl Call {
         Call { function, edition, names_lent, allowance, work_len, room, names, nodes, records, sets }
     }
 
-    /// A call that asks what may come next, lent just the table and the work bytes that it wants, as far as `replay` has so many.
+    /// A call that asks what may come next, lent no sets and just the table and the work bytes that it wants, as far as `replay` has so many.
     pub fn next(names: Option<Vec<u8>>, nodes: Vec<u16>, records: Vec<u16>) -> Call {
         Call { function: NEXT, room: LIST_ROOM as u32, ..Call::judge(names, nodes, records) }
     }
 
-    /// A write of these three sections, lent just the bytes that it wants.
+    /// A write of these three sections, lent no sets and just the bytes that it wants.
     pub fn write(names: Vec<u8>, nodes: Vec<u16>, records: Vec<u16>) -> Call {
-        let room = file_of(&names, &nodes, &records).len() as u32;
+        let room = file_of(&names, &nodes, &records, &[]).len() as u32;
         let (function, edition, names_lent) = (WRITE, 1, 1);
         let (allowance, work_len, sets) = (0, 0, vec![]);
         Call { function, edition, names_lent, allowance, work_len, room, names, nodes, records, sets }
+    }
+
+    /// The same call lent these sets, and room for them if it is a write.
+    pub fn with_sets(self, sets: Vec<u8>) -> Call {
+        let call = Call { sets, ..self };
+        match call.function {
+            WRITE => Call { room: call.file().len() as u32, ..call },
+            _ => call,
+        }
+    }
+
+    /// The file of what is lent, whatever stands in it.
+    pub fn file(&self) -> Vec<u8> {
+        file_of(&self.names, &self.nodes, &self.records, &self.sets)
     }
 
     /// `C`; function, edition, names lent; allowance, work length, room; the four lengths; the four lists.
@@ -75,6 +89,7 @@ impl Call {
             names: self.names(),
             nodes: &self.nodes,
             records: &self.records,
+            sets: &self.sets,
             work_len: self.work_len as usize,
             allowance: self.allowance,
         }
@@ -86,10 +101,16 @@ impl Call {
             names: self.names(),
             nodes: &self.nodes,
             records: &self.records,
+            sets: &self.sets,
             list_room: self.room as usize,
             work_len: self.work_len as usize,
             allowance: self.allowance,
         }
+    }
+
+    /// What a write answers.
+    pub fn written(&self) -> Result<Vec<u8>, Refusal> {
+        write(&self.names, &self.nodes, &self.records, &self.sets, self.room as usize)
     }
 
     /// The call without names.
@@ -102,7 +123,7 @@ impl Call {
         match self.function {
             JUDGE => self.lent().judged_within(patience).map(Reply::Judged),
             NEXT => self.beginning().listed_within(patience).map(Reply::Next),
-            WRITE => Some(match write(&self.names, &self.nodes, &self.records, self.room as usize) {
+            WRITE => Some(match self.written() {
                 Ok(file) => Reply::Written(file),
                 Err(refusal) => Reply::Refused(refusal),
             }),

@@ -1,7 +1,7 @@
-//! A names section, nodes and records, lent one by one to whatever takes them: with one or two damages, or at the limits.
+//! A names section, nodes, records and sets, lent one by one to whatever takes them: with one or two damages, or at the limits.
 
 use super::spoiling::{spoil, AIMS};
-use super::{filing, MOST_NUMBERS};
+use super::{filing, MOST_NUMBERS, MOST_SET_BYTES};
 use crate::flowfile::{FlowFile, ItemKind};
 use crate::rng::Rng;
 use crate::term::DONE;
@@ -10,13 +10,14 @@ pub struct Lists {
     pub names: Vec<u8>,
     pub nodes: Vec<u16>,
     pub records: Vec<u16>,
+    pub sets: Vec<u8>,
     /// Whether the room or the work bytes are to be too short.
     pub short: bool,
 }
 
 #[derive(Clone, Copy)]
 enum Damage {
-    /// Aimed at one of 1 to 13.
+    /// Aimed at one of 1 to 13, 22 or 23.
     Tables(u32),
     /// 14.
     Short,
@@ -51,6 +52,9 @@ fn any_damage(rng: &mut Rng) -> Damage {
     if rng.once_in(2) {
         return *rng.pick(&DAMAGES_TO_NAMES);
     }
+    if rng.once_in(8) {
+        return Damage::Tables(23);
+    }
     match *rng.pick(&AIMS) {
         14 => Damage::Short,
         number => Damage::Tables(number),
@@ -71,21 +75,23 @@ pub fn lists(rng: &mut Rng, mut file: FlowFile) -> Lists {
     to_names.iter().for_each(|&damage| filing::damage_items(rng, damage, &mut items));
     let mut names = filing::bytes(&items);
     to_names.iter().for_each(|&damage| filing::damage_bytes(rng, damage, &mut names));
+    let mut sets = file.lent_sets();
     let (mut nodes, mut records) = (file.nodes, file.records);
     for damage in &damages {
         match damage {
-            Damage::Tables(number) => spoil(rng, *number, &mut nodes, &mut records),
+            Damage::Tables(number) => spoil(rng, *number, &mut nodes, &mut records, &mut sets),
             Damage::Cut => names.truncate(rng.below(names.len().max(1))),
             Damage::Short | Damage::Names(_) => {}
         }
     }
     nodes.truncate(MOST_NUMBERS);
     records.truncate(MOST_NUMBERS);
+    sets.truncate(MOST_SET_BYTES);
     let short = damages.iter().any(|damage| matches!(damage, Damage::Short));
-    Lists { names, nodes, records, short }
+    Lists { names, nodes, records, sets, short }
 }
 
-/// 255 to 257 names, 63 to 65 nodes, 255 to 257 records, alone or together, and the most numbers that `replay` takes.
+/// 255 to 257 names, 63 to 65 nodes, 255 to 257 records, 15 to 17 sets, alone or together, and the most numbers that `replay` takes.
 pub fn at_limits(rng: &mut Rng) -> FlowFile {
     let mut file = filing::at_limits(rng);
     if rng.once_in(6) {

@@ -1,6 +1,7 @@
 //! Flow files: whole ones, files cut at every kind of item, damaged ones, and files at the limits.
 
 use super::spoiling::spoil;
+use super::tandem::{self, Tandem};
 use super::{judging, naming};
 use crate::flowfile::{FlowFile, Item, ItemKind};
 use crate::matching::Matching;
@@ -8,13 +9,18 @@ use crate::random::{self, TASTES};
 use crate::reader::MOST_NAMES;
 use crate::refusals::{MOST_NODES, MOST_RECORDS};
 use crate::rng::Rng;
+use crate::sets::{sets_of, MOST_SETS};
 use crate::term::{kind, root, MOST_EVENT};
 
 /// A file that the reader takes, whatever comes of its judging.
 pub fn whole(rng: &mut Rng) -> FlowFile {
+    if rng.once_in(3) {
+        let tandem = tandem::any(rng);
+        return naming::file(rng, &tandem);
+    }
     let events = rng.between(1, 4);
     let flow = judging::flow(rng, events);
-    naming::file(rng, &flow)
+    naming::file(rng, &Tandem::plain(flow))
 }
 
 /// The events of nodes.
@@ -49,7 +55,7 @@ pub fn bytes(items: &[Item]) -> Vec<u8> {
 
 #[derive(Clone, Copy, PartialEq, Eq)]
 pub enum Damage {
-    /// 4 to 9, 12, 13.
+    /// 4 to 9, 12, 13, 22.
     Tables,
     /// 18.
     EqualEntry,
@@ -57,17 +63,17 @@ pub enum Damage {
     FewerNames,
     /// 20.
     RecordBeyondNames,
-    /// 16, 17, 17, 1 and 3, 10 and 11: a count or length out of range.
+    /// 16, 17, 17, 1 and 3, 10 and 11, 23: a count or length out of range.
     OutOfRange(ItemKind),
     /// A count that is one off, so that everything after it is read as something else.
     CountOffByOne,
-    /// 21.
+    /// 21, or where there are no sets 15 or 23.
     MoreBytes,
     ChangedBytes,
     MissingByte,
 }
 
-const DAMAGES: [Damage; 19] = [
+const DAMAGES: [Damage; 21] = [
     Damage::Tables,
     Damage::Tables,
     Damage::Tables,
@@ -82,6 +88,8 @@ const DAMAGES: [Damage; 19] = [
     Damage::OutOfRange(ItemKind::MachineLength),
     Damage::OutOfRange(ItemKind::NodeCount),
     Damage::OutOfRange(ItemKind::RecordCount),
+    Damage::OutOfRange(ItemKind::SetCount),
+    Damage::OutOfRange(ItemKind::SetCount),
     Damage::CountOffByOne,
     Damage::MoreBytes,
     Damage::MoreBytes,
@@ -105,8 +113,10 @@ pub fn damaged(rng: &mut Rng) -> Vec<u8> {
 pub fn damage_lists(rng: &mut Rng, damage: Damage, file: &mut FlowFile) {
     match damage {
         Damage::Tables => {
-            let number = *rng.pick(&[4, 5, 6, 7, 7, 8, 8, 9, 12, 13]);
-            spoil(rng, number, &mut file.nodes, &mut file.records);
+            let number = *rng.pick(&[4, 5, 6, 7, 7, 8, 8, 9, 12, 13, 22, 22]);
+            let mut sets = file.lent_sets();
+            spoil(rng, number, &mut file.nodes, &mut file.records, &mut sets);
+            file.sets = sets_of(&sets);
         }
         Damage::EqualEntry if !file.names.is_empty() => {
             let copied = rng.pick(&file.names).clone();
@@ -132,7 +142,9 @@ pub fn damage_lists(rng: &mut Rng, damage: Damage, file: &mut FlowFile) {
 pub fn damage_items(rng: &mut Rng, damage: Damage, items: &mut [Item]) {
     let kinds = match damage {
         Damage::OutOfRange(kind) => vec![kind],
-        Damage::CountOffByOne => vec![ItemKind::NameCount, ItemKind::NodeCount, ItemKind::RecordCount],
+        Damage::CountOffByOne => {
+            vec![ItemKind::NameCount, ItemKind::NodeCount, ItemKind::RecordCount, ItemKind::SetCount]
+        }
         _ => return,
     };
     let of_kinds: Vec<usize> = (0..items.len()).filter(|&i| kinds.contains(&items[i].kind)).collect();
@@ -149,6 +161,7 @@ pub fn damage_items(rng: &mut Rng, damage: Damage, items: &mut [Item]) {
         ItemKind::StepLength => &[0, 41, 42, 64, 127, 255],
         ItemKind::MachineLength => &[41, 42, 64, 128, 255],
         ItemKind::NodeCount => &[0, 65, 66, 256, 65535],
+        ItemKind::SetCount => &[0, 0, 17, 17, 18, 256, 257, 65535],
         _ => &[0, 257, 258, 512, 65535],
     };
     let length = bytes.len();
@@ -171,21 +184,28 @@ pub fn damage_bytes(rng: &mut Rng, damage: Damage, bytes: &mut Vec<u8>) {
 
 // ---- limits ----
 
-/// 255 to 257 names, 63 to 65 nodes, 255 to 257 records, alone or together.
+/// 255 to 257 names, 63 to 65 nodes, 255 to 257 records, 15 to 17 sets, alone or together.
 pub fn at_limits(rng: &mut Rng) -> FlowFile {
     let (taste, sort) = (*rng.pick(&TASTES), random::sort(rng));
     let size = if rng.once_in(2) { rng.between(MOST_NODES - 1, MOST_NODES + 1) } else { rng.between(3, 20) };
-    let nodes = random::drawing_of_size(rng, taste, sort, size, 3).table_in_any_order(rng);
+    let mut flow = random::drawing_of_size(rng, taste, sort, size, 3);
+    let mut sets = vec![];
+    if rng.once_in(2) {
+        flow = random::joined(rng, &flow, MOST_SETS);
+        sets = random::sets(rng, MOST_SETS + 1, 3);
+    }
+    let nodes = flow.table_in_any_order(rng);
     let count = if rng.once_in(2) { rng.between(MOST_NAMES - 1, MOST_NAMES + 1) } else { 3 };
     let names = naming::names(rng, count);
-    let mut records = random::records_for(rng, &root(&nodes), &Matching::ByName(names.clone()), 3);
+    let mut records = random::records_for(rng, &root(&nodes, &sets), &Matching::ByName(names.clone()), 3);
+    sets.truncate(*rng.pick(&[MOST_SETS - 1, MOST_SETS, MOST_SETS, MOST_SETS, MOST_SETS + 1]));
     if rng.once_in(2) {
         let length = rng.between(MOST_RECORDS - 1, MOST_RECORDS + 1);
         while records.len() < length {
             records.insert(records.len() - 1, rng.between(1, 3) as u16);
         }
     }
-    FlowFile { names, nodes, records }
+    FlowFile { names, nodes, records, sets }
 }
 
 /// The same, now and then with bytes after the end.

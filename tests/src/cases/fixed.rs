@@ -1,7 +1,7 @@
 //! The cases that every stream begins with, whatever its seed: those of document 01 and one or more for
 //! each boundary that chance might miss.
 
-use super::{lending, listing, reading, writing, Case, MOST_WORK};
+use super::{lending, listing, meeting, reading, writing, Case, MOST_WORK};
 use crate::by_hand::{self, A, B, C, MILLION};
 use crate::drawing::*;
 use crate::flowfile::{self, entry, Entry, FlowFile};
@@ -29,6 +29,7 @@ pub fn cases() -> Vec<(&'static str, Case)> {
     add("fixed: any machine", lending::fixed());
     add("fixed: any machine", lending::files());
     add("fixed: next", listing::fixed());
+    add("fixed: meeting", meeting::fixed());
     all
 }
 
@@ -51,7 +52,7 @@ pub fn four_names() -> Vec<Entry> {
 }
 
 fn file(names: Vec<Entry>, flow: &Drawing, records: &[u16]) -> Case {
-    Case::File(FlowFile { names, nodes: flow.table(), records: records.to_vec() }.bytes())
+    Case::File(FlowFile::plain(names, flow.table(), records.to_vec()).bytes())
 }
 
 /// "64 nodes are judged, 65 refused 3; 256 records, 257 refused 11", as calls and as files.
@@ -269,7 +270,7 @@ pub fn six_lines() -> (Drawing, Vec<u16>) {
 /// Searches of thousands of millions of states of which some thousand differ: in no stream, because a judge that goes through equal states
 /// again would take hours.
 pub fn long() -> Vec<Case> {
-    let mut all = listing::long();
+    let mut all = [listing::long(), meeting::long()].concat();
     for (flow, records) in [orders(12), six_lines()] {
         let count = count(&flow, &records);
         all.extend([1 << 31, count - 1, count, u32::MAX].map(|allowance| judge(&flow, &records, allowance)));
@@ -351,7 +352,7 @@ pub fn longest() -> FlowFile {
     let long_name = |i: usize| ([&[i as u8][..], &[b'x'; 39]].concat(), vec![b','; 40]);
     let flow = seq(block(skipp()), tower(31, &event(256), seq));
     let records = [vec![256; 255], vec![DONE]].concat();
-    FlowFile { names: (0..256).map(long_name).collect(), nodes: flow.table(), records }
+    FlowFile::plain((0..256).map(long_name).collect(), flow.table(), records)
 }
 
 /// The longest file, one byte more, many bytes more, and one cut near its end.

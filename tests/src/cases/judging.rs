@@ -1,44 +1,43 @@
 //! Calls of the judge on flows that are not refused, or only for want of work bytes, with allowances and
 //! work lengths at their boundaries; and calls at the limits of 64 nodes and 256 records.
 
+use super::tandem::Tandem;
 use super::{Case, MOST_NUMBERS, MOST_WORK};
 use crate::drawing::Drawing;
+use crate::flowfile::FlowFile;
 use crate::judge::{Answer, Lent};
 use crate::matching::Matching;
 use crate::random::{self, TASTES};
 use crate::refusals::{work_wanted, MOST_NODES, MOST_RECORDS};
 use crate::rng::Rng;
+use crate::sets::EventSet;
 use crate::term::{is_event, kind, root, Sort, CLOSING_RECORDS, MOST_EVENT};
 
 /// The count of a search is looked for among this many states; a longer one is only ever undecided.
 const PATIENCE: u32 = 30_000;
 
 pub fn case(rng: &mut Rng) -> Case {
-    let (nodes, records) = flow_and_records(rng, MOST_EVENT as usize);
+    let FlowFile { nodes, records, .. } = flow_and_records(rng, MOST_EVENT as usize);
     around_the_count(rng, PATIENCE, nodes, records)
 }
 
-/// A node table and records that fit its root; events are numbers up to `most_event`, few different ones.
-pub fn flow_and_records(rng: &mut Rng, most_event: usize) -> (Vec<u16>, Vec<u16>) {
+/// A node table and records that fit its root, without names or sets; events are numbers up to `most_event`, few different ones.
+pub fn flow_and_records(rng: &mut Rng, most_event: usize) -> FlowFile {
     let events = rng.between(1, 4.min(most_event));
     let flow = flow(rng, events);
-    records_of_flow(rng, &flow, events, most_event)
+    records_of_flow(rng, &Tandem::plain(flow), events, most_event)
 }
 
-/// The same of this flow, which has events 1 to `events`.
-pub fn records_of_flow(
-    rng: &mut Rng,
-    flow: &Drawing,
-    events: usize,
-    most_event: usize,
-) -> (Vec<u16>, Vec<u16>) {
-    let mut nodes = flow.table_in_any_order(rng);
-    let mut records = random::records_for(rng, &root(&nodes), &Matching::ByNumber, events);
+/// The same of this flow, which has events 1 to `events`, with its sets.
+pub fn records_of_flow(rng: &mut Rng, tandem: &Tandem, events: usize, most_event: usize) -> FlowFile {
+    let nodes = tandem.flow.table_in_any_order(rng);
+    let records = random::records_for(rng, &root(&nodes, &tandem.sets), &Matching::ByNumber, events);
+    let mut file = FlowFile { names: vec![], nodes, records, sets: tandem.sets.clone() };
     if rng.once_in(2) {
         let numbers = different_numbers(rng, events, most_event);
-        rename(&mut nodes, &mut records, &numbers);
+        rename(&mut file, &numbers);
     }
-    (nodes, records)
+    file
 }
 
 pub fn flow(rng: &mut Rng, events: usize) -> Drawing {
@@ -67,13 +66,20 @@ pub fn different_numbers(rng: &mut Rng, how_many: usize, most: usize) -> Vec<u16
 }
 
 /// Event k becomes the k-th of the numbers.
-pub fn rename(nodes: &mut [u16], records: &mut [u16], numbers: &[u16]) {
+pub fn rename(file: &mut FlowFile, numbers: &[u16]) {
     let new = |event: u16| numbers[event as usize - 1];
-    for node in nodes.chunks_mut(3).filter(|node| node[0] == kind::EVENT) {
+    for node in file.nodes.chunks_mut(3).filter(|node| node[0] == kind::EVENT) {
         node[1] = new(node[1]);
     }
-    for record in records.iter_mut().filter(|record| is_event(**record)) {
+    for record in file.records.iter_mut().filter(|record| is_event(**record)) {
         *record = new(*record);
+    }
+    for set in &mut file.sets {
+        // Events in a set that the flow does not have stay, but where one has got their number.
+        let (own, others): (Vec<u16>, Vec<u16>) =
+            set.events().iter().partition(|event| **event as usize <= numbers.len());
+        let others = others.into_iter().filter(|other| !numbers.contains(other));
+        *set = EventSet::of(&own.into_iter().map(new).chain(others).collect::<Vec<_>>());
     }
 }
 
@@ -135,7 +141,7 @@ pub fn case_at_limits(rng: &mut Rng) -> Case {
     };
     let flow = random::drawing_of_size(rng, taste, sort, size, events);
     let mut nodes = flow.table_in_any_order(rng);
-    let mut records = random::records_for(rng, &root(&nodes), &Matching::ByNumber, events);
+    let mut records = random::records_for(rng, &root(&nodes, &[]), &Matching::ByNumber, events);
     if rng.once_in(2) {
         let length = match rng.below(6) {
             0 => MOST_NUMBERS,

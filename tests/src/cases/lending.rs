@@ -3,6 +3,7 @@
 use super::calling::Call;
 use super::damaging::{self, Lists};
 use super::judging::{count_within, near, near_the_count};
+use super::tandem::{self, Tandem};
 use super::writing::{self, Fault, FAULTS};
 use super::{filing, fixed, judging, naming, undoing, wide, Case, MOST_WORK};
 use crate::by_hand;
@@ -12,7 +13,6 @@ use crate::judge::Lent;
 use crate::refusals::work_wanted;
 use crate::rng::Rng;
 use crate::term::{kind, DONE, FAILED, WITHDRAWN};
-use crate::writer::file_of;
 
 /// Pressing and what undoes it, without a machine and on either of two: events 1 to 6.
 pub fn presses() -> Vec<Entry> {
@@ -51,12 +51,13 @@ pub fn similar() -> Vec<Entry> {
 }
 
 fn judge(names: &[Entry], flow: &Drawing, records: &[u16]) -> Call {
-    judge_of(FlowFile { names: names.to_vec(), nodes: flow.table(), records: records.to_vec() })
+    judge_of(FlowFile::plain(names.to_vec(), flow.table(), records.to_vec()))
 }
 
-/// A judging of what stands in a file, with its names.
-fn judge_of(file: FlowFile) -> Call {
-    Call::judge(Some(file.names_section()), file.nodes, file.records)
+/// A judging of what stands in a file, with its names and its sets.
+pub fn judge_of(file: FlowFile) -> Call {
+    let (names, sets) = (file.names_section(), file.lent_sets());
+    Call::judge(Some(names), file.nodes, file.records).with_sets(sets)
 }
 
 // ---- the fixed ones ----
@@ -82,7 +83,7 @@ pub fn files() -> Vec<Case> {
     let mut calls: Vec<Call> = single.take(5 * similar().len()).collect();
     calls.extend(undone().into_iter().step_by(5));
     calls.extend(presses_at_the_limit());
-    calls.iter().map(|call| Case::File(file_of(&call.names, &call.nodes, &call.records))).collect()
+    calls.iter().map(|call| Case::File(call.file())).collect()
 }
 
 /// "Judged by hand", with names and without.
@@ -181,7 +182,7 @@ pub fn planned() -> Call {
 /// names: here 10 and 11 come after the nodes.
 fn faults() -> Vec<Call> {
     let with_names = writing::faults_alone_and_in_pairs(&planned(), &FAULTS.each_ref());
-    let others: Vec<&Fault> = FAULTS.iter().filter(|fault| fault.refusal.number <= 14).collect();
+    let others: Vec<&Fault> = FAULTS.iter().filter(|fault| !fault.is_about_names()).collect();
     let without = writing::faults_alone_and_in_pairs(&planned().nameless(), &others);
     let faulty = with_names.into_iter().chain(without).map(|(_, call)| call);
     [planned(), planned().nameless()].into_iter().chain(faulty).collect()
@@ -329,8 +330,8 @@ const PATIENCE: u32 = 30_000;
 
 /// A flow of any sort, but with events, with names that much hangs on; or now and then without the names that its records follow.
 pub fn case(rng: &mut Rng) -> Case {
-    let flow = any_flow(rng);
-    let file = naming::file_of_machines(rng, &flow);
+    let tandem = if rng.once_in(3) { tandem::any(rng) } else { Tandem::plain(any_flow(rng)) };
+    let file = naming::file_of_machines(rng, &tandem);
     around_the_count(rng, file)
 }
 
@@ -348,15 +349,20 @@ pub fn any_flow(rng: &mut Rng) -> Drawing {
     }
 }
 
-/// 255 to 257 names, 63 to 65 nodes, 255 to 257 records, alone or together, and the most numbers that `replay` takes.
+/// 255 to 257 names, 63 to 65 nodes, 255 to 257 records, 15 to 17 sets, alone or together, and the most numbers that `replay` takes.
 pub fn case_at_limits(rng: &mut Rng) -> Case {
     let file = damaging::at_limits(rng);
     around_the_count(rng, file)
 }
 
-/// The call with an allowance near the count of its search and a work length near the one wanted.
+/// What stands in a file, now and then without its names.
 fn around_the_count(rng: &mut Rng, file: FlowFile) -> Case {
     let call = if rng.once_in(8) { judge_of(file).nameless() } else { judge_of(file) };
+    near_its_count(rng, call)
+}
+
+/// The call with an allowance near the count of its search and a work length near the one wanted.
+pub fn near_its_count(rng: &mut Rng, call: Call) -> Case {
     let count = count_within(PATIENCE, Lent { allowance: u32::MAX, ..call.lent() });
     let allowance = near_the_count(rng, PATIENCE, count);
     let work_len = near(rng, work_wanted(&call.nodes, &call.records), MOST_WORK) as u32;
@@ -366,8 +372,13 @@ fn around_the_count(rng: &mut Rng, file: FlowFile) -> Case {
 /// A call with one or two damages.
 pub fn damaged_case(rng: &mut Rng) -> Case {
     let file = filing::whole(rng);
-    let Lists { names, nodes, records, short } = damaging::lists(rng, file);
-    let call = Call::judge(Some(names), nodes, records);
+    let Lists { names, nodes, records, sets, short } = damaging::lists(rng, file);
+    let call = Call::judge(Some(names), nodes, records).with_sets(sets);
+    with_work(rng, call, short)
+}
+
+/// The call with just the work bytes that are wanted, or one more, or too few; and now and then without its names.
+pub fn with_work(rng: &mut Rng, call: Call, short: bool) -> Case {
     let wanted = call.work_len as usize;
     let work_len = if short { rng.below(wanted.max(1)) } else { wanted + rng.below(2) };
     let work_len = work_len.min(MOST_WORK) as u32;

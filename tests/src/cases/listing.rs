@@ -5,11 +5,12 @@ use super::damaging::{self, Lists};
 use super::judging::{near, near_the_count};
 use super::lending::{self, presses, similar, LIFT, LIFT_P1, LIFT_P2, PRESS, PRESS_P1, PRESS_P2};
 use super::spoiling::{spoil, AIMS};
+use super::tandem::{self, Tandem, EVENTS};
 use super::writing::{self, fault, Fault, FAULTS};
 use super::{filing, fixed, judging, naming, repeating, Case, MOST_NUMBERS, MOST_ROOM, MOST_WORK};
 use crate::by_hand::{self, A, B, C};
 use crate::drawing::*;
-use crate::flowfile::{self, section_of, Entry};
+use crate::flowfile::{self, section_of, Entry, FlowFile};
 use crate::next::{Beginning, Next, LIST_ROOM};
 use crate::random::{self, TASTES};
 use crate::refusals::MOST_RECORDS;
@@ -162,7 +163,7 @@ pub fn faults() -> Vec<Fault> {
 
 /// Those of them that are not about names, in their order without names: here 11 comes after the nodes.
 pub fn faults_without_names() -> Vec<Fault> {
-    let mut all: Vec<Fault> = faults().into_iter().filter(|fault| fault.refusal.number <= 14).collect();
+    let mut all: Vec<Fault> = faults().into_iter().filter(|fault| !fault.is_about_names()).collect();
     let of_number = |all: &[Fault], number| all.iter().position(|fault| fault.refusal.number == number);
     let too_many = all.remove(of_number(&all, 11).expect("11"));
     all.insert(of_number(&all, 12).expect("12"), too_many);
@@ -433,22 +434,38 @@ const PATIENCE: u32 = 30_000;
 /// Any flow with names that much hangs on, or without names, and a beginning of its records.
 pub fn case(rng: &mut Rng) -> Case {
     let call = if rng.below(5) < 3 {
-        let flow = any_flow(rng);
-        let file = naming::file_of_machines(rng, &flow);
-        let records = beginning(rng, &file.records);
-        let call = Call::next(Some(file.names_section()), file.nodes, records);
+        let tandem = any_tandem(rng);
+        let file = naming::file_of_machines(rng, &tandem);
+        let call = next_of(rng, file);
         if rng.once_in(8) {
             call.nameless()
         } else {
             call
         }
     } else {
-        let (flow, events) = if rng.once_in(4) { (many_ahead(rng), MANY) } else { (any_flow(rng), 4) };
-        let (nodes, records) = judging::records_of_flow(rng, &flow, events, MOST_EVENT as usize);
-        let records = beginning(rng, &records);
-        Call::next(None, nodes, records)
+        let (tandem, events) = match rng.below(4) {
+            0 => (Tandem::plain(many_ahead(rng)), MANY),
+            _ => (any_tandem(rng), EVENTS),
+        };
+        let file = judging::records_of_flow(rng, &tandem, events, MOST_EVENT as usize);
+        next_of(rng, file).nameless()
     };
     around_the_count(rng, call)
+}
+
+/// What may come next after a beginning of a file's records, with its names and its sets.
+fn next_of(rng: &mut Rng, file: FlowFile) -> Call {
+    let (names, sets, records) = (file.names_section(), file.lent_sets(), beginning(rng, &file.records));
+    Call::next(Some(names), file.nodes, records).with_sets(sets)
+}
+
+/// With sets or without.
+fn any_tandem(rng: &mut Rng) -> Tandem {
+    if rng.below(5) < 2 {
+        tandem::any(rng)
+    } else {
+        Tandem::plain(any_flow(rng))
+    }
 }
 
 /// A flow of any sort; a block now and then without its sign, so that closings are followed by what undoes it.
@@ -519,6 +536,7 @@ pub fn cases_of_equal_parts(rng: &mut Rng) -> Vec<Case> {
         let fewer = *rng.pick(&[0, 0, 0, 1, 2]);
         let records = longest[..longest.len().saturating_sub(fewer)].to_vec();
         let call = Call::next(lent.names.map(<[u8]>::to_vec), lent.nodes.to_vec(), records);
+        let call = call.with_sets(lent.sets.to_vec());
         let asked = Beginning { allowance: 500_000, ..call.beginning() };
         if let Some(effort) = asked.effort_within(25_000) {
             let call = Call { allowance: repeating::allowance(rng, effort.entered), ..call };
@@ -531,23 +549,30 @@ pub fn cases_of_equal_parts(rng: &mut Rng) -> Vec<Case> {
 /// A call with one or two damages, with names or without.
 pub fn damaged_case(rng: &mut Rng) -> Case {
     let (call, short) = if rng.once_in(3) {
-        let (mut nodes, records) = judging::flow_and_records(rng, MOST_EVENT as usize);
-        let mut records = beginning(rng, &records);
+        let file = if rng.once_in(3) {
+            let tandem = tandem::any(rng);
+            judging::records_of_flow(rng, &tandem, EVENTS, MOST_EVENT as usize)
+        } else {
+            judging::flow_and_records(rng, MOST_EVENT as usize)
+        };
+        let mut sets = file.lent_sets();
+        let (mut nodes, mut records) = (file.nodes, beginning(rng, &file.records));
         let mut short = false;
         for _ in 0..rng.between(1, 2) {
             match *rng.pick(&AIMS) {
                 14 => short = true,
-                number => spoil(rng, number, &mut nodes, &mut records),
+                _ if rng.once_in(8) => spoil(rng, 23, &mut nodes, &mut records, &mut sets),
+                number => spoil(rng, number, &mut nodes, &mut records, &mut sets),
             }
         }
         nodes.truncate(MOST_NUMBERS);
         records.truncate(MOST_NUMBERS);
-        (Call::next(None, nodes, records), short)
+        (Call::next(None, nodes, records).with_sets(sets), short)
     } else {
         let mut file = filing::whole(rng);
         file.records = beginning(rng, &file.records);
-        let Lists { names, nodes, records, short } = damaging::lists(rng, file);
-        (Call::next(Some(names), nodes, records), short)
+        let Lists { names, nodes, records, sets, short } = damaging::lists(rng, file);
+        (Call::next(Some(names), nodes, records).with_sets(sets), short)
     };
     let wanted = call.work_len as usize;
     let (mut work_len, mut room) = (wanted + rng.below(2), LIST_ROOM + rng.below(2));
@@ -561,7 +586,7 @@ pub fn damaged_case(rng: &mut Rng) -> Case {
     Case::Call(Call { allowance: rng.below(300) as u32, work_len, room: room as u32, ..call })
 }
 
-/// 255 to 257 names, 63 to 65 nodes, 255 to 257 records, alone or together, and the most numbers that `replay` takes. The last closing
+/// 255 to 257 names, 63 to 65 nodes, 255 to 257 records, 15 to 17 sets, alone or together, and the most numbers that `replay` takes. The last closing
 /// is mostly exchanged for an event, so that the length stays.
 pub fn case_at_limits(rng: &mut Rng) -> Case {
     let mut file = damaging::at_limits(rng);
@@ -569,7 +594,8 @@ pub fn case_at_limits(rng: &mut Rng) -> Case {
     if !is_event(file.records[last]) && !rng.once_in(8) {
         file.records[last] = 1;
     }
-    let call = Call::next(Some(file.names_section()), file.nodes, file.records);
+    let (names, sets) = (file.names_section(), file.lent_sets());
+    let call = Call::next(Some(names), file.nodes, file.records).with_sets(sets);
     let call = if rng.once_in(3) { call.nameless() } else { call };
     around_the_count(rng, call)
 }

@@ -2,6 +2,7 @@
 
 use super::calling::Call;
 use super::{Case, MOST_ROOM};
+use crate::sets::EventSet;
 use crate::term::DONE;
 
 pub struct Malformed {
@@ -111,9 +112,9 @@ fn calls() -> Vec<Malformed> {
             call("names lent often", of(|call| call.names_lent = 255)),
             call("too many node numbers in a call", of(|call| call.nodes = vec![2; 401])),
             call("too many records in a call", of(|call| call.records = vec![DONE; 401])),
-            call("a byte of a set", of(|call| call.sets = vec![0])),
-            call("a set, not there yet", of(|call| call.sets = vec![0; 32])),
             call("too many bytes of sets", of(|call| call.sets = vec![0; 601])),
+            call("too many sets", of(|call| call.sets = vec![0; 608])),
+            call("far too many bytes of sets", of(|call| call.sets = vec![0; 65_535])),
         ]);
     }
     all.extend(cuts("a cut call of the writer", Case::Call(write())));
@@ -121,5 +122,9 @@ fn calls() -> Vec<Malformed> {
     all.extend(cuts("a cut call of the judge without names", Case::Call(plain())));
     all.extend(cuts("a cut call of next with names", Case::Call(next())));
     all.extend(cuts("a cut call of next without names", Case::Call(plain_next())));
+    for good in [write(), judge(), plain(), next(), plain_next()] {
+        let with_a_set = good.with_sets(EventSet::of(&[1, 256]).0.to_vec());
+        all.extend(cuts("a cut call with a set", Case::Call(with_a_set)).split_off(24));
+    }
     all
 }

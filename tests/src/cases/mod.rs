@@ -1,11 +1,12 @@
 //! Cases for the program `replay`, each with the line it has to print. This file says what a case is and
 //! what it looks like on the way; the other files here make cases:
 //! - `fixed`: the same in every stream: hand cases, limits, every kind of node, every cut of the worked file, and those that
-//!   `reading`, `writing`, `lending` and `listing` begin with.
+//!   `reading`, `writing`, `lending`, `listing` and `meeting` begin with.
 //! - `judging`: flows and records for the judge; `undoing`: small flows that are all about compensations;
 //!   `wide`: families with many runs or many compensations; `repeating`: flows of equal parts.
+//! - `tandem`: flows with joint parallels, and their sets; `meeting`: cases of them.
 //! - `naming`: names, and flows whose leaves carry them; `filing`: flow files, whole, cut and damaged.
-//! - `spoiling`: one damage for each refusal number; `damaging`: damages to names, nodes and records lent one by one.
+//! - `spoiling`: one damage for each refusal number; `damaging`: damages to names, nodes, records and sets lent one by one.
 //! - `reading`: files for the reader itself; `writing`: calls of the writer; `lending`: calls of the judge with names and without;
 //!   `listing`: calls that ask what may come next; `calling`: what such a call looks like.
 //! - `malformed`: what is no case at all; `showing`: a case as a person reads it.
@@ -18,11 +19,13 @@ pub mod judging;
 pub mod lending;
 pub mod listing;
 pub mod malformed;
+pub mod meeting;
 pub mod naming;
 pub mod reading;
 pub mod repeating;
 pub mod showing;
 pub mod spoiling;
+pub mod tandem;
 pub mod undoing;
 pub mod wide;
 pub mod writing;
@@ -32,7 +35,7 @@ use self::malformed::malformed;
 use crate::judge::{Answer, Lent};
 use crate::next::{Beginning, Next};
 use crate::program::program_within;
-use crate::reader::read_into;
+use crate::reader::{read_into, sets_offset};
 use crate::refusals::Refusal;
 use crate::rng::Rng;
 use std::collections::{BTreeMap, VecDeque};
@@ -42,6 +45,7 @@ use std::fmt::{self, Write};
 pub const MOST_WORK: usize = 40_000;
 pub const MOST_NUMBERS: usize = 400;
 pub const MOST_ROOM: usize = 70_000;
+pub const MOST_SET_BYTES: usize = 600;
 
 #[derive(Clone, PartialEq, Eq, Debug)]
 pub enum Case {
@@ -62,8 +66,8 @@ pub enum Reply {
     Judged(Answer),
     /// To the question what may come next.
     Next(Next),
-    /// From the reader: its counts.
-    Read { names: usize, nodes: usize, records: usize },
+    /// From the reader: its counts, and where the sets begin and how many they are.
+    Read { names: usize, nodes: usize, records: usize, offset: usize, sets: usize },
     /// From the writer: the file.
     Written(Vec<u8>),
     /// From the reader and the writer.
@@ -75,7 +79,9 @@ impl fmt::Display for Reply {
         match self {
             Reply::Judged(answer) => answer.fmt(f),
             Reply::Next(next) => next.fmt(f),
-            Reply::Read { names, nodes, records } => write!(f, "read {names} {nodes} {records}"),
+            Reply::Read { names, nodes, records, offset, sets } => {
+                write!(f, "read {names} {nodes} {records} {offset} {sets}")
+            }
             Reply::Written(file) => {
                 write!(f, "written {} ", file.len())?;
                 file.iter().try_for_each(|byte| write!(f, "{byte:02x}"))
@@ -170,10 +176,12 @@ impl Case {
             Case::Judge { .. } => self.lent_to_judge()?.judged_within(patience).map(Reply::Judged),
             Case::Read { node_room, record_room, file } => {
                 Some(match read_into(*node_room as usize, *record_room as usize, file) {
-                    Ok(file) => Reply::Read {
-                        names: file.names.len(),
-                        nodes: file.nodes.len() / 3,
-                        records: file.records.len(),
+                    Ok(read) => Reply::Read {
+                        names: read.names.len(),
+                        nodes: read.nodes.len() / 3,
+                        records: read.records.len(),
+                        offset: sets_offset(file, &read),
+                        sets: read.sets.len(),
                     },
                     Err(refusal) => Reply::Refused(refusal),
                 })
@@ -186,7 +194,8 @@ impl Case {
     pub fn lent_to_judge(&self) -> Option<Lent<'_>> {
         match self {
             Case::Judge { allowance, work_len, nodes, records } => {
-                Some(Lent { names: None, nodes, records, work_len: *work_len, allowance: *allowance })
+                let lent = Lent::enough(None, nodes, records, *allowance);
+                Some(Lent { work_len: *work_len, ..lent })
             }
             Case::Call(call) if call.function == JUDGE => Some(call.lent()),
             _ => None,
@@ -236,7 +245,7 @@ impl Stream {
     /// A random case of a random family, or some that belong together; none if it asks for too many states.
     fn random(&mut self) -> VecDeque<Made> {
         let rng = &mut self.rng;
-        let (family, case) = match rng.below(184) {
+        let (family, case) = match rng.below(208) {
             0..=21 => ("judge", judging::case(rng)),
             22..=39 => ("judge, undoing", undoing::case(rng)),
             40..=46 => ("judge, wide flow", wide::case(rng)),
@@ -263,7 +272,9 @@ impl Stream {
                 return listing::cases_of_equal_parts(rng).into_iter().filter_map(made).collect();
             }
             171..=182 => ("next, damaged", listing::damaged_case(rng)),
-            _ => ("next, at the limits", listing::case_at_limits(rng)),
+            183 => ("next, at the limits", listing::case_at_limits(rng)),
+            184..=199 => ("meeting", meeting::case(rng)),
+            _ => ("meeting, damaged", meeting::damaged_case(rng)),
         };
         Made::within(PATIENCE, family, case).into_iter().collect()
     }
@@ -288,7 +299,7 @@ impl Iterator for Stream {
 }
 
 /// The gate's stored run, `crates/replay/stdin` and `stdout`: so many cases of this seed.
-pub const STORED_CASES: usize = 13_000;
+pub const STORED_CASES: usize = 18_000;
 pub const STORED_SEED: u64 = 1;
 
 /// A run of `replay`: its input, and the lines that it has to print.

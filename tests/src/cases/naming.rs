@@ -1,46 +1,48 @@
 //! Names: entries that are easily mixed up, steps without a machine among steps on one, and flows whose leaves carry them.
 
 use super::judging::{different_numbers, rename};
-use crate::drawing::Drawing;
+use super::tandem::Tandem;
 use crate::flowfile::{Entry, FlowFile};
 use crate::matching::Matching;
 use crate::random;
 use crate::reader::MOST_NAMES;
 use crate::rng::Rng;
+use crate::sets::EventSet;
 use crate::term::{kind, root};
 
 /// The flow as a file with names for its events, few of which differ, and records that fit: of a run that follows the names, of one with
 /// a few changes, or any.
-pub fn file(rng: &mut Rng, flow: &Drawing) -> FlowFile {
+pub fn file(rng: &mut Rng, tandem: &Tandem) -> FlowFile {
     let style = any_style(rng);
-    file_in_style(rng, flow, style)
+    file_in_style(rng, tandem, style)
 }
 
 /// The same with steps of which some have no machine, so that much hangs on the names.
-pub fn file_of_machines(rng: &mut Rng, flow: &Drawing) -> FlowFile {
+pub fn file_of_machines(rng: &mut Rng, tandem: &Tandem) -> FlowFile {
     let style = *rng.pick(&[any_machine, any_machine, any_machine, similar_steps]);
-    file_in_style(rng, flow, style)
+    file_in_style(rng, tandem, style)
 }
 
-fn file_in_style(rng: &mut Rng, flow: &Drawing, style: Style) -> FlowFile {
-    let mut nodes = flow.table_in_any_order(rng);
-    let names = named_in_style(rng, &mut nodes, style);
-    let records = random::records_for(rng, &root(&nodes), &Matching::ByName(names.clone()), names.len());
-    let mut file = FlowFile { names, nodes, records };
+fn file_in_style(rng: &mut Rng, tandem: &Tandem, style: Style) -> FlowFile {
+    let (mut nodes, mut sets) = (tandem.flow.table_in_any_order(rng), tandem.sets.clone());
+    let names = named_in_style(rng, &mut nodes, &mut sets, style);
+    let matching = Matching::ByName(names.clone());
+    let records = random::records_for(rng, &root(&nodes, &sets), &matching, names.len());
+    let mut file = FlowFile { names, nodes, records, sets };
     if rng.once_in(2) {
         among_others(rng, &mut file);
     }
     file
 }
 
-/// Names for a table that has few different events, which its leaves get others for.
-pub fn named(rng: &mut Rng, nodes: &mut [u16]) -> Vec<Entry> {
-    named_in_style(rng, nodes, any_machine)
+/// Names for a table that has few different events, which its leaves and its sets get others for.
+pub fn named(rng: &mut Rng, nodes: &mut [u16], sets: &mut [EventSet]) -> Vec<Entry> {
+    named_in_style(rng, nodes, sets, any_machine)
 }
 
 /// Up to six names. Leaves that had the same event get one of those with the same step name, by preference the one without a machine:
-/// all of them the same, or each its own.
-fn named_in_style(rng: &mut Rng, nodes: &mut [u16], style: Style) -> Vec<Entry> {
+/// all of them the same, or each its own. A set with that event gets all those with the same step name, or some of them.
+fn named_in_style(rng: &mut Rng, nodes: &mut [u16], sets: &mut [EventSet], style: Style) -> Vec<Entry> {
     let count = if rng.once_in(8) { rng.between(1, 2) } else { rng.between(3, 6) };
     let names = more_names(rng, &[], count, style);
     let steps = events_by_step(&names);
@@ -56,6 +58,14 @@ fn named_in_style(rng: &mut Rng, nodes: &mut [u16], style: Style) -> Vec<Entry> 
             Some(events) => events[(node[1] as usize - 1) % events.len()],
             None => one_of(rng, node[1]),
         };
+    }
+    for set in sets {
+        let of_step = |event: &u16| steps[(*event as usize - 1) % steps.len()].clone();
+        let mut events: Vec<u16> = set.events().iter().flat_map(of_step).collect();
+        if rng.once_in(3) {
+            events.retain(|_| rng.once_in(2));
+        }
+        *set = EventSet::of(&events);
     }
     names
 }
@@ -78,7 +88,7 @@ fn among_others(rng: &mut Rng, file: &mut FlowFile) {
     let most = if rng.once_in(20) { MOST_NAMES } else { 9 };
     let count = rng.between(file.names.len(), most);
     let numbers = different_numbers(rng, file.names.len(), count);
-    rename(&mut file.nodes, &mut file.records, &numbers);
+    rename(file, &numbers);
     let style = any_style(rng);
     let others = more_names(rng, &file.names, count, style).split_off(file.names.len());
     let named = std::mem::replace(&mut file.names, others);

@@ -6,7 +6,6 @@ use crate::flowfile::{self, FlowFile};
 use crate::reader::{NODE_ROOM, RECORD_ROOM};
 use crate::rng::Rng;
 use crate::term::DONE;
-use crate::writer::file_of;
 
 // ---- the fixed ones ----
 
@@ -15,7 +14,7 @@ pub fn fixed() -> Vec<Case> {
 }
 
 /// With the rooms that the reader needs.
-fn read(file: Vec<u8>) -> Case {
+pub fn read(file: Vec<u8>) -> Case {
     Case::Read { node_room: NODE_ROOM as u16, record_room: RECORD_ROOM as u16, file }
 }
 
@@ -43,7 +42,7 @@ fn faults() -> Vec<Case> {
     for fault in FAULTS {
         let mut call = planned();
         (fault.damage)(&mut call);
-        files.push(file_of(&call.names, &call.nodes, &call.records));
+        files.push(call.file());
     }
     let worked = flowfile::worked().bytes();
     files.extend([1, 2, 3, 8, 20, 46, 58].map(|less| worked[..worked.len() - less].to_vec()));
@@ -59,11 +58,11 @@ fn limits() -> Vec<Case> {
     for flow in fixed::flows_at_the_limits() {
         for length in [255, 256, 257] {
             let (nodes, records) = (flow.table(), fixed::records_of_length(&flow, length));
-            all.push(read(FlowFile { names: fixed::four_names(), nodes, records }.bytes()));
+            all.push(read(FlowFile::plain(fixed::four_names(), nodes, records).bytes()));
         }
     }
     for names in fixed::names_at_the_limits() {
-        all.push(read(FlowFile { names, nodes: vec![2, 0, 0], records: vec![DONE] }.bytes()));
+        all.push(read(FlowFile::plain(names, vec![2, 0, 0], vec![DONE]).bytes()));
     }
     let longest = fixed::longest().bytes();
     all.extend([0, 1, 65_535 - 21_894].map(|more| read([&longest[..], &vec![7; more]].concat())));

@@ -3,6 +3,7 @@
 
 use super::calling::Call;
 use super::judging::near;
+use super::tandem::{self, Tandem};
 use super::{naming, Case, MOST_WORK};
 use crate::by_hand::{A, B, C, D};
 use crate::drawing::*;
@@ -13,6 +14,7 @@ use crate::measured::withdrawing;
 use crate::random;
 use crate::refusals::MOST_NODES;
 use crate::rng::Rng;
+use crate::sets::bytes_of;
 use crate::term::{is_event, root, CLOSING_RECORDS, DONE, WITHDRAWN};
 
 const EVENTS: usize = 4;
@@ -23,19 +25,22 @@ pub fn cases(rng: &mut Rng) -> Vec<Case> {
         return cases_with_many_states(rng);
     }
     loop {
-        let flow = flow(rng);
+        let Tandem { flow, mut sets } =
+            if rng.once_in(3) { tandem::of_equal_parts(rng) } else { Tandem::plain(flow(rng)) };
         if flow.size() > MOST_NODES {
             continue;
         }
         let mut nodes = flow.table_in_any_order(rng);
         let some = if rng.once_in(3) {
-            let names = naming::named(rng, &mut nodes);
+            let names = naming::named(rng, &mut nodes, &mut sets);
             let (section, events) = (section_of(&names), names.len());
-            let run = random::run(rng, &root(&nodes), &Matching::ByName(names), events);
-            around(rng, Some(&section), &nodes, &run, 3_000, events)
+            let run = random::run(rng, &root(&nodes, &sets), &Matching::ByName(names), events);
+            let lent = Lent { sets: &bytes_of(&sets), ..Lent::enough(Some(&section), &nodes, &run, 0) };
+            around(rng, lent, 3_000, events)
         } else {
-            let run = random::run(rng, &root(&nodes), &Matching::ByNumber, EVENTS);
-            around(rng, None, &nodes, &run, 3_000, EVENTS)
+            let run = random::run(rng, &root(&nodes, &sets), &Matching::ByNumber, EVENTS);
+            let lent = Lent { sets: &bytes_of(&sets), ..Lent::enough(None, &nodes, &run, 0) };
+            around(rng, lent, 3_000, EVENTS)
         };
         if !some.is_empty() {
             return some;
@@ -49,28 +54,23 @@ fn cases_with_many_states(rng: &mut Rng) -> Vec<Case> {
         let stepping = rng.between(2, 3);
         let nodes = withdrawing(stepping, rng.between(10, 12)).table_in_any_order(rng);
         let run = [vec![A; stepping], vec![WITHDRAWN], vec![B; rng.between(0, 2)], vec![DONE]].concat();
-        let some = around(rng, None, &nodes, &run, 25_000, EVENTS);
+        let some = around(rng, Lent::enough(None, &nodes, &run, 0), 25_000, EVENTS);
         if !some.is_empty() {
             return some;
         }
     }
 }
 
-/// No cases if the search is not worth it: few states, no equal ones, or more than `most` different ones.
-fn around(
-    rng: &mut Rng,
-    names: Option<&[u8]>,
-    nodes: &[u16],
-    run: &[u16],
-    most: usize,
-    events: usize,
-) -> Vec<Case> {
+/// Cases of what is lent, with records around those of a run. None if the search is not worth it: few states, no equal ones, or more than
+/// `most` different ones.
+fn around(rng: &mut Rng, lent: Lent, most: usize, events: usize) -> Vec<Case> {
+    let Lent { names, nodes, records: run, sets, .. } = lent;
     let (least_entered, most_entered) =
         *rng.pick(&[(24, 1_000), (100, 10_000), (1_000, 100_000), (1_000, 500_000)]);
     let mut all = vec![];
     let mut records = spoiled(rng, run, events);
     for _ in 0..rng.between(1, 3) {
-        let lent = Lent::enough(names, nodes, &records, most_entered);
+        let lent = Lent { sets, ..Lent::enough(names, nodes, &records, most_entered) };
         match lent.effort_within(most) {
             Some(e) if e.entered >= least_entered && e.entered as usize > e.different + e.different / 4 => {
                 all.push(call(rng, lent, e));
@@ -102,13 +102,12 @@ fn call(rng: &mut Rng, lent: Lent, effort: Effort) -> Case {
     let allowance = allowance(rng, effort.entered);
     let work_len = if rng.once_in(8) { near(rng, lent.work_len, MOST_WORK) } else { lent.work_len };
     let (nodes, records) = (lent.nodes.to_vec(), lent.records.to_vec());
-    match lent.names {
-        None => Case::Judge { allowance, work_len, nodes, records },
-        Some(names) => {
-            let work_len = work_len as u32;
-            Case::Call(Call { allowance, work_len, ..Call::judge(Some(names.to_vec()), nodes, records) })
-        }
+    if lent.names.is_none() && lent.sets.is_empty() {
+        return Case::Judge { allowance, work_len, nodes, records };
     }
+    let call = Call::judge(lent.names.map(<[u8]>::to_vec), nodes, records);
+    let (work_len, sets) = (work_len as u32, lent.sets.to_vec());
+    Case::Call(Call { allowance, work_len, sets, ..call })
 }
 
 /// A run that goes wrong near its end, so that much is tried before it is given up; now and then the run itself.
@@ -126,7 +125,7 @@ fn spoiled(rng: &mut Rng, run: &[u16], events: usize) -> Vec<u16> {
     records
 }
 
-fn flow(rng: &mut Rng) -> Drawing {
+pub fn flow(rng: &mut Rng) -> Drawing {
     let (few, more) = (rng.between(2, 5), rng.between(3, 10));
     let (p, q, pp, qq) = (part(rng), part(rng), undoable(rng), undoable(rng));
     match rng.below(16) {

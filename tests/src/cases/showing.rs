@@ -4,6 +4,7 @@ use super::calling::Call;
 use super::Case;
 use crate::drawing::{self, show_event};
 use crate::refusals::node_table;
+use crate::sets::{EventSet, MOST_SETS, SET_BYTES};
 use crate::term::{DONE, FAILED, WITHDRAWN};
 use std::fmt::Write;
 
@@ -36,7 +37,26 @@ fn show_call(call: &Call) -> String {
     let head =
         format!("function {function}, edition {edition}, allowance {allowance}, {work_len} work bytes");
     let names = if call.names_lent == 0 { "no names\n".into() } else { show_names(&call.names) };
-    format!("{head}, room {room}\n{names}{}", show_flow(nodes, records))
+    format!("{head}, room {room}\n{names}{}{}", show_flow(nodes, records), show_sets(&call.sets))
+}
+
+/// A line for each set, and for what is left over.
+fn show_sets(bytes: &[u8]) -> String {
+    let mut text = format!("{} bytes of sets\n", bytes.len());
+    for (i, set) in bytes.chunks(SET_BYTES).enumerate() {
+        writeln!(text, "  set {i}: {}", show_set(set)).unwrap();
+    }
+    text
+}
+
+fn show_set(bytes: &[u8]) -> String {
+    match bytes.try_into() {
+        Ok(set) => {
+            let events: Vec<String> = EventSet(set).events().into_iter().map(show_event).collect();
+            format!("{{{}}}", events.join(" "))
+        }
+        Err(_) => format!("{} bytes", bytes.len()),
+    }
 }
 
 fn show_names(names: &[u8]) -> String {
@@ -47,7 +67,7 @@ fn show_names(names: &[u8]) -> String {
 
 fn show_flow(nodes: &[u16], records: &[u16]) -> String {
     let mut text = String::new();
-    let readable = !nodes.is_empty() && nodes.len().is_multiple_of(3) && node_table(nodes).is_ok();
+    let readable = !nodes.is_empty() && nodes.len().is_multiple_of(3) && node_table(nodes, MOST_SETS).is_ok();
     if readable {
         writeln!(text, "flow {}", drawing::of_table(nodes).show()).unwrap();
     }
@@ -134,6 +154,11 @@ impl Walk<'_> {
             let record = show_record(self.number(self.at)?);
             writeln!(self.text, "  {}: record {i}: {record}", self.at).ok()?;
             self.at += 2;
+        }
+        for i in 0..self.count("sets")? {
+            let set = show_set(self.bytes.get(self.at..self.at + SET_BYTES)?);
+            writeln!(self.text, "  {}: set {i}: {set}", self.at).ok()?;
+            self.at += SET_BYTES;
         }
         Some(())
     }

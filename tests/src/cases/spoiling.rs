@@ -1,24 +1,27 @@
 //! A damage for each refusal of a node table or record list. What comes of it is for the oracle to say: the
 //! damage aimed at one number may meet the condition of another first, all the more if two are done at once.
 
-use super::{judging, Case, MOST_NUMBERS, MOST_WORK};
+use super::{judging, Case, MOST_NUMBERS, MOST_SET_BYTES, MOST_WORK};
 use crate::drawing::children;
+use crate::flowfile::FlowFile;
 use crate::random::{self, TASTES};
 use crate::refusals::{work_wanted, MOST_NODES, MOST_RECORDS};
 use crate::rng::Rng;
-use crate::term::{is_event, kind, sort_of, Sort, CLOSING_RECORDS, MOST_EVENT};
+use crate::sets::{MOST_SETS, SET_BYTES};
+use crate::term::{is_event, kind, set_number, sort_of, Sort, CLOSING_RECORDS, MOST_EVENT};
 
-/// The numbers aimed at, 1 to 14; those that a damage easily misses stand here more often.
-pub const AIMS: [u32; 22] = [1, 2, 3, 4, 5, 6, 7, 7, 7, 8, 8, 8, 9, 9, 10, 10, 11, 12, 12, 13, 13, 14];
+/// The numbers aimed at, 1 to 14 and 22; those that a damage easily misses stand here more often.
+pub const AIMS: [u32; 24] =
+    [1, 2, 3, 4, 5, 6, 7, 7, 7, 8, 8, 8, 9, 9, 10, 10, 11, 12, 12, 13, 13, 14, 22, 22];
 
 /// A call of the judge with one or two damages.
 pub fn judge_case(rng: &mut Rng) -> Case {
-    let (mut nodes, mut records) = judging::flow_and_records(rng, MOST_EVENT as usize);
+    let FlowFile { mut nodes, mut records, .. } = judging::flow_and_records(rng, MOST_EVENT as usize);
     let mut short_work = false;
     for _ in 0..if rng.once_in(3) { 2 } else { 1 } {
         match *rng.pick(&AIMS) {
             14 => short_work = true,
-            number => spoil(rng, number, &mut nodes, &mut records),
+            number => spoil(rng, number, &mut nodes, &mut records, &mut vec![]),
         }
     }
     nodes.truncate(MOST_NUMBERS);
@@ -28,13 +31,13 @@ pub fn judge_case(rng: &mut Rng) -> Case {
     Case::Judge { allowance: rng.below(300) as u32, work_len: work_len.min(MOST_WORK), nodes, records }
 }
 
-/// A damage aimed at this number, 1 to 13. It does nothing where the table has no place for it.
-pub fn spoil(rng: &mut Rng, number: u32, nodes: &mut Vec<u16>, records: &mut Vec<u16>) {
+/// A damage aimed at this number, 1 to 13, 22 or 23. It does nothing where the table has no place for it.
+pub fn spoil(rng: &mut Rng, number: u32, nodes: &mut Vec<u16>, records: &mut Vec<u16>, sets: &mut Vec<u8>) {
     match number {
         1 => nodes.clear(),
         2 => odd_length(rng, nodes),
         3 => *nodes = too_many_nodes(rng),
-        4 => change_field(rng, nodes, |_, _| true, 0, &[0, 17, 18, 255, 256, 257, 4096, 65535]),
+        4 => change_field(rng, nodes, |_, _| true, 0, &[0, 17, 18, 255, 272, 511, 528, 4096, 65535]),
         5 => wrong_field(rng, nodes),
         6 => child_not_lower(rng, nodes),
         7 => child_of_the_wrong_sort(rng, nodes),
@@ -44,6 +47,8 @@ pub fn spoil(rng: &mut Rng, number: u32, nodes: &mut Vec<u16>, records: &mut Vec
         11 => too_many_records(rng, records),
         12 => neither_event_nor_closing(rng, records),
         13 => misplaced_closing(rng, records),
+        22 => set_not_present(rng, nodes, sets),
+        23 => wrong_length_of_sets(rng, sets),
         other => unreachable!("refusal {other} has no damage"),
     }
 }
@@ -200,6 +205,44 @@ fn child_of_nobody(rng: &mut Rng, nodes: &mut Vec<u16>) {
     }
     let leaf = *rng.pick(&[kind::SKIP, kind::THROW, kind::YIELD, kind::SKIPP, kind::THROWW]);
     nodes.splice(3 * at..3 * at, [leaf, 0, 0]);
+}
+
+/// A set fewer than a node names, or a node with the number of a set that is not there, by preference the first such; of a node with two
+/// children, if there is one.
+fn set_not_present(rng: &mut Rng, nodes: &mut [u16], sets: &mut Vec<u8>) {
+    let joint = nodes_where(nodes, |nodes, i| set_number(nodes[3 * i]).is_some());
+    if !joint.is_empty() && rng.once_in(2) {
+        let number = set_number(nodes[3 * *rng.pick(&joint)]).expect("a joint one");
+        sets.truncate(SET_BYTES * rng.between(number.saturating_sub(1), number));
+        return;
+    }
+    let mut places = nodes_where(nodes, |nodes, i| children(nodes, i).count() == 2);
+    if places.is_empty() {
+        places = nodes_where(nodes, |_, _| true);
+    }
+    if places.is_empty() {
+        return;
+    }
+    let kind = &mut nodes[3 * *rng.pick(&places)];
+    let first = match sort_of(*kind) {
+        Sort::Standard => kind::JOINT,
+        Sort::Compensable => kind::COMP_JOINT,
+    };
+    let count = sets.len() / SET_BYTES;
+    let any = rng.below(MOST_SETS);
+    let number = *rng.pick(&[count, count, MOST_SETS - 1, any]);
+    *kind = first + number.min(MOST_SETS - 1) as u16;
+}
+
+/// A byte too few or too many, or any length that is none of 1 to 16 sets.
+fn wrong_length_of_sets(rng: &mut Rng, sets: &mut Vec<u8>) {
+    let length = match rng.below(4) {
+        0 => sets.len() + 1,
+        1 => sets.len().max(SET_BYTES) - 1,
+        2 => *rng.pick(&[1, 31, 33, 511, 513, 543, 544, 545, 576, 599, MOST_SET_BYTES]),
+        _ => rng.between(1, MOST_SET_BYTES),
+    };
+    sets.resize(length.min(MOST_SET_BYTES), rng.byte());
 }
 
 fn too_many_records(rng: &mut Rng, records: &mut Vec<u16>) {

@@ -12,7 +12,7 @@ use crate::term::root;
 pub fn case(rng: &mut Rng) -> Case {
     let flow = flow(rng);
     let nodes = flow.table_in_any_order(rng);
-    let records = random::records_for(rng, &root(&nodes), &Matching::ByNumber, 2);
+    let records = random::records_for(rng, &root(&nodes, &[]), &Matching::ByNumber, 2);
     judging::around_the_count(rng, 60_000, nodes, records)
 }
 

@@ -15,7 +15,7 @@ pub fn case(rng: &mut Rng) -> Case {
     let nodes = flow.table_in_any_order(rng);
     let records = match rng.below(3) {
         0 => only_a(rng, &flow),
-        _ => random::records_for(rng, &root(&nodes), &Matching::ByNumber, 3),
+        _ => random::records_for(rng, &root(&nodes, &[]), &Matching::ByNumber, 3),
     };
     judging::around_the_count(rng, 60_000, nodes, records)
 }

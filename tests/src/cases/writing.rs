@@ -1,5 +1,5 @@
-//! Calls of the writer: whole files taken apart, with one or two damages to the names section's bytes, the nodes, the records or the
-//! room, and calls at the limits. The faults here are planned for everything that is lent the three lists.
+//! Calls of the writer: whole files taken apart, with one or two damages to the names section's bytes, the nodes, the records, the sets or
+//! the room, and calls at the limits. The faults here are planned for everything that is lent these lists.
 
 use super::calling::Call;
 use super::damaging::{self, Lists};
@@ -9,15 +9,16 @@ use crate::drawing::{event, pair, skip, Drawing};
 use crate::flowfile::{self, entry, Entry, FlowFile};
 use crate::refusals::Refusal;
 use crate::rng::Rng;
-use crate::term::{is_event, DONE};
+use crate::term::{is_event, kind, DONE};
 
 /// A write of what stands in a file.
-fn write_of(file: FlowFile) -> Call {
-    Call::write(file.names_section(), file.nodes, file.records)
+pub fn write_of(file: FlowFile) -> Call {
+    let (names, sets) = (file.names_section(), file.lent_sets());
+    Call::write(names, file.nodes, file.records).with_sets(sets)
 }
 
 fn write(names: &[Entry], flow: &Drawing, records: &[u16]) -> Call {
-    write_of(FlowFile { names: names.to_vec(), nodes: flow.table(), records: records.to_vec() })
+    write_of(FlowFile::plain(names.to_vec(), flow.table(), records.to_vec()))
 }
 
 // ---- the fixed ones ----
@@ -63,13 +64,20 @@ pub struct Fault {
     pub damage: fn(&mut Call),
 }
 
+impl Fault {
+    /// Whether only those who are lent names can find it.
+    pub fn is_about_names(&self) -> bool {
+        (15..=21).contains(&self.refusal.number)
+    }
+}
+
 pub const fn fault(number: u32, place: usize, damage: fn(&mut Call)) -> Fault {
     Fault { refusal: Refusal { number, place }, damage }
 }
 
 /// In the order in which the writer, or a judge that is lent names, is to find them. Done one upon the other, the last first, they leave
 /// the first to be found.
-pub const FAULTS: [Fault; 24] = [
+pub const FAULTS: [Fault; 26] = [
     fault(15, 0, |call| call.names.truncate(1)),
     fault(16, 0, |call| call.names[..2].copy_from_slice(&[1, 1])),
     fault(17, 2, |call| call.names[2] = 0),
@@ -86,7 +94,9 @@ pub const FAULTS: [Fault; 24] = [
     fault(3, 0, |call| call.nodes.resize(195, 0)),
     fault(10, 0, |call| call.records.clear()),
     fault(11, 0, |call| call.records.resize(257, 1)),
+    fault(23, 0, |call| call.sets.resize(33, 0)),
     fault(4, 0, |call| call.nodes[0] = 17),
+    fault(22, 0, |call| call.nodes[0] = kind::COMP_JOINT),
     fault(5, 0, |call| call.nodes[2] = 1),
     fault(6, 2, |call| call.nodes[7] = 2),
     fault(7, 2, |call| call.nodes[6] = 11),
@@ -197,7 +207,7 @@ fn limits() -> Vec<Call> {
 
 // ---- random ones ----
 
-/// A file that the reader takes, in its three parts.
+/// A file that the reader takes, in its parts.
 pub fn case(rng: &mut Rng) -> Case {
     let call = write_of(filing::whole(rng));
     around_the_room(rng, call)
@@ -218,8 +228,8 @@ fn with_room(rng: &mut Rng, call: Call, room: usize) -> Case {
 /// A call with one or two damages.
 pub fn damaged_case(rng: &mut Rng) -> Case {
     let file = filing::whole(rng);
-    let Lists { names, nodes, records, short } = damaging::lists(rng, file);
-    let call = Call::write(names, nodes, records);
+    let Lists { names, nodes, records, sets, short } = damaging::lists(rng, file);
+    let call = Call::write(names, nodes, records).with_sets(sets);
     if short {
         let room = rng.below(call.room as usize);
         return with_room(rng, call, room);
@@ -227,7 +237,7 @@ pub fn damaged_case(rng: &mut Rng) -> Case {
     around_the_room(rng, call)
 }
 
-/// 255 to 257 names, 63 to 65 nodes, 255 to 257 records, alone or together, and the most numbers that `replay` takes.
+/// 255 to 257 names, 63 to 65 nodes, 255 to 257 records, 15 to 17 sets, alone or together, and the most numbers that `replay` takes.
 pub fn case_at_limits(rng: &mut Rng) -> Case {
     let call = write_of(damaging::at_limits(rng));
     around_the_room(rng, call)

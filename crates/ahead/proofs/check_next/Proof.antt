@@ -2,6 +2,7 @@
 use mathlib.Core.Path.{sym, _∙_}
 use borrow.Author.Needs.{needs}
 use Rattle.flow.specs.declared.Extent.the-variants.{Beginning}
+use Rattle.flow.specs.FineTable.{fine-table}
 use Rattle.judge.specs.JudgedLaws.{table-some, table-few, records-few}
 use Rattle.ahead.specs.CheckLaws.{next-table-refuses, next-records-refuse, next-room-last}
 use Rattle.ahead.proofs.check_next.Statement.{statement}
@@ -18,11 +19,11 @@ enum-told-2 c = search needs
 
 returns : tie.Need-returns
 returns c =
-    let a = c .before .before .before .before .before .args in
-    next-table-refuses (a .nodes .now) (a .beginning .now) (a .numbers) (a .room) (c .before .before .check-table .ensures) (c .enum-told2 .given .1)
+    let a = c .before .before .before .before .before .before .args in
+    next-table-refuses (a .sets .now) (a .nodes .now) (a .beginning .now) (a .numbers) (a .room) (c .before .before .check-table .ensures) (c .enum-told2 .given .1)
 
 check-records-requires : tie.Need-check-records-requires
-check-records-requires c κs = table-some (c .before .before .before .before .before .args .nodes .now) (sym (c .before .before .check-table .ensures) ∙ c .enum-told .given .1)
+check-records-requires c κs = let a = c .before .before .before .before .before .before .args in table-some (a .nodes .now) (fine-table (a .nodes .now) (a .sets .now) (sym (c .before .before .check-table .ensures) ∙ c .enum-told .given .1))
 
 enum-told-3 : tie.Need-enum-told-3
 enum-told-3 c = search needs
@@ -32,22 +33,22 @@ enum-told-4 c = search needs
 
 returns-2 : tie.Need-returns-2
 returns-2 c =
-    let a = c .before .before .before .before .before .before .before .before .args in
+    let a = c .before .before .before .before .before .before .before .before .before .args in
     let table = sym (c .before .before .before .before .before .check-table .ensures) ∙ c .before .before .before .enum-told .given .1 in
-    next-records-refuse (a .nodes .now) (a .beginning .now) (a .numbers) (a .room) table (c .before .before .check-records .ensures) (c .enum-told4 .given .1)
+    next-records-refuse (a .sets .now) (a .nodes .now) (a .beginning .now) (a .numbers) (a .room) table (c .before .before .check-records .ensures) (c .enum-told4 .given .1)
 
 check-next-room-requires : tie.Need-check-next-room-requires
 check-next-room-requires c κs =
-    let a = c .before .before .before .before .before .before .before .before .args in
+    let a = c .before .before .before .before .before .before .before .before .before .args in
     let table = sym (c .before .before .before .before .before .check-table .ensures) ∙ c .before .before .before .enum-told .given .1 in
-    (table-few (a .nodes .now) table, records-few Beginning (a .nodes .now) (a .beginning .now) (sym (c .before .before .check-records .ensures) ∙ c .enum-told3 .given .1))
+    (table-few (a .nodes .now) (fine-table (a .nodes .now) (a .sets .now) table), records-few Beginning (a .nodes .now) (a .beginning .now) (sym (c .before .before .check-records .ensures) ∙ c .enum-told3 .given .1))
 
 returns-3 : tie.Need-returns-3
 returns-3 c =
-    let a = c .before .before .before .before .before .before .before .before .before .args in
+    let a = c .before .before .before .before .before .before .before .before .before .before .args in
     let table = sym (c .before .before .before .before .before .before .check-table .ensures) ∙ c .before .before .before .before .enum-told .given .1 in
     let list = sym (c .before .before .before .check-records .ensures) ∙ c .before .enum-told3 .given .1 in
-    next-room-last (a .nodes .now) (a .beginning .now) (a .numbers) (a .room) table list (c .check-next-room .ensures)
+    next-room-last (a .sets .now) (a .nodes .now) (a .beginning .now) (a .numbers) (a .room) table list (c .check-next-room .ensures)
 
 pub check-next-spec : {M : Type 1} → statement M
 check-next-spec = tie.close (tie.spec

@@ -6,7 +6,8 @@ use lib.Seq.{length-take-le}
 use borrow.Author.Needs.{needs}
 use Rattle.flow.specs.declared.Extent.the-variants.{Beginning}
 use Rattle.flow.specs.Drawn.{flow-of}
-use Rattle.flow.specs.Cues.{cue-of, itself}
+use Rattle.flow.specs.Cues.{cue-of, itself, masked}
+use Rattle.flow.specs.Legends.{in-set}
 use Rattle.judge.specs.JudgedLaws.{records-few}
 use Rattle.judge.specs.ByCues.{cues-front}
 use Rattle.ahead.specs.CheckLaws.{next-passed}
@@ -22,8 +23,8 @@ enum-known-found c = search needs
 
 returns : tie.Need-returns
 returns c =
-    let a = c .before .before .before .before .before .before .before .before .args in
-    next-refuses (flow-of (a .nodes .now)) (a .nodes .now) (a .beginning .now) (a .allowance) (a .list .now) (a .work .now) _ (sym (c .before .before .before .check-next .ensures) ∙ c .before .found .given .1)
+    let a = c .before .before .before .before .before .before .before .before .before .args in
+    next-refuses (flow-of (a .sets .now) (a .nodes .now)) (a .nodes .now) (a .beginning .now) (a .allowance) (a .list .now) (a .work .now) _ (sym (c .before .before .before .check-next .ensures) ∙ c .before .found .given .1)
 
 enum-told : tie.Need-enum-told
 enum-told c = search needs
@@ -33,8 +34,8 @@ slice-aggregate-plain-cues c = search needs
 
 plain-cues-requires : tie.Need-plain-cues-requires
 plain-cues-requires c κs =
-    let a = c .before .before .before .before .before .before .before .before .args in
-    records-few Beginning (a .nodes .now) (a .beginning .now) (next-passed (a .nodes .now) (a .beginning .now) (length (a .list .now)) (length (a .work .now)) (sym (c .before .before .before .check-next .ensures) ∙ c .before .enum-told .given .1) .0 .records)
+    let a = c .before .before .before .before .before .before .before .before .before .args in
+    records-few Beginning (a .nodes .now) (a .beginning .now) (next-passed (a .sets .now) (a .nodes .now) (a .beginning .now) (length (a .list .now)) (length (a .work .now)) (sym (c .before .before .before .check-next .ensures) ∙ c .before .enum-told .given .1) .0 .records)
 
 slice-aggregate-plain-asks : tie.Need-slice-aggregate-plain-asks
 slice-aggregate-plain-asks c = search needs
@@ -44,21 +45,21 @@ plain-asks-requires c κs = search needs
 
 array-share-prefix-cues : tie.Need-array-share-prefix-cues
 array-share-prefix-cues c =
-    let a = c .before .before .before .before .before .before .before .before .before .before .before .before .before .args in
-    omega (arith, c .before .before .before .before .plain-cues .kept .1 .0, records-few Beginning (a .nodes .now) (a .beginning .now) (next-passed (a .nodes .now) (a .beginning .now) (length (a .list .now)) (length (a .work .now)) (sym (c .before .before .before .before .before .before .before .before .check-next .ensures) ∙ c .before .before .before .before .before .before .enum-told .given .1) .0 .records))
+    let a = c .before .before .before .before .before .before .before .before .before .before .before .before .before .before .args in
+    omega (arith, c .before .before .before .before .plain-cues .kept .1 .1 .0, records-few Beginning (a .nodes .now) (a .beginning .now) (next-passed (a .sets .now) (a .nodes .now) (a .beginning .now) (length (a .list .now)) (length (a .work .now)) (sym (c .before .before .before .before .before .before .before .before .check-next .ensures) ∙ c .before .before .before .before .before .before .enum-told .given .1) .0 .records))
 
 slice-aggregate-next-by : tie.Need-slice-aggregate-next-by
 slice-aggregate-next-by c =
-    let a = c .before .before .before .before .before .before .before .before .before .before .before .before .before .before .args in
-    sym (length-take-le (length (a .beginning .now)) (c .before .before .before .before .before .plain-cues .last .1 .0) (omega (arith, c .before .before .before .before .before .plain-cues .kept .1 .0, records-few Beginning (a .nodes .now) (a .beginning .now) (next-passed (a .nodes .now) (a .beginning .now) (length (a .list .now)) (length (a .work .now)) (sym (c .before .before .before .before .before .before .before .before .before .check-next .ensures) ∙ c .before .before .before .before .before .before .before .enum-told .given .1) .0 .records))))
+    let a = c .before .before .before .before .before .before .before .before .before .before .before .before .before .before .before .args in
+    sym (length-take-le (length (a .beginning .now)) (c .before .before .before .before .before .plain-cues .last .1 .1 .0) (omega (arith, c .before .before .before .before .before .plain-cues .kept .1 .1 .0, records-few Beginning (a .nodes .now) (a .beginning .now) (next-passed (a .sets .now) (a .nodes .now) (a .beginning .now) (length (a .list .now)) (length (a .work .now)) (sym (c .before .before .before .before .before .before .before .before .before .check-next .ensures) ∙ c .before .before .before .before .before .before .before .enum-told .given .1) .0 .records))))
 
 slice-aggregate-next-by-2 : tie.Need-slice-aggregate-next-by-2
 slice-aggregate-next-by-2 c = search needs
 
 next-by-requires : tie.Need-next-by-requires
 next-by-requires c κs =
-    let a = c .before .before .before .before .before .before .before .before .before .before .before .before .before .before .before .before .before .args in
-    plain-next-ready (a .nodes .now) (a .beginning .now) (a .list .now) (a .work .now) (sym (c .before .before .before .before .before .before .before .before .before .before .before .before .check-next .ensures) ∙ c .before .before .before .before .before .before .before .before .before .before .enum-told .given .1) (cues-front (cue-of itself) (a .beginning .now) _ _ (c .before .before .before .before .before .before .before .before .plain-cues .ensures)) (c .before .before .before .before .before .plain-asks .ensures)
+    let a = c .before .before .before .before .before .before .before .before .before .before .before .before .before .before .before .before .before .before .args in
+    plain-next-ready (a .sets .now) (a .nodes .now) (a .beginning .now) (a .list .now) (a .work .now) (sym (c .before .before .before .before .before .before .before .before .before .before .before .before .check-next .ensures) ∙ c .before .before .before .before .before .before .before .before .before .before .enum-told .given .1) (cues-front (cue-of (masked (in-set (a .sets .now))) itself) (a .beginning .now) _ _ (c .before .before .before .before .before .before .before .before .plain-cues .ensures)) (c .before .before .before .before .before .plain-asks .ensures)
 
 same-length : tie.Need-same-length
 same-length c = search needs
@@ -68,8 +69,8 @@ same-length-2 c = search needs
 
 returns-2 : tie.Need-returns-2
 returns-2 c =
-    let a = c .before .before .before .before .before .before .before .before .before .before .before .before .before .before .before .before .before .before .before .before .before .before .before .args in
-    plain-next (a .nodes .now) (a .beginning .now) (a .list .now) (a .work .now) (sym (c .before .before .before .before .before .before .before .before .before .before .before .before .before .before .before .before .before .before .check-next .ensures) ∙ c .before .before .before .before .before .before .before .before .before .before .before .before .before .before .before .before .enum-told .given .1) (cues-front (cue-of itself) (a .beginning .now) _ _ (c .before .before .before .before .before .before .before .before .before .before .before .before .before .before .plain-cues .ensures)) (c .before .before .before .before .before .before .before .before .before .before .before .plain-asks .ensures) (c .before .before .before .before .before .next-by .ensures)
+    let a = c .before .before .before .before .before .before .before .before .before .before .before .before .before .before .before .before .before .before .before .before .before .before .before .before .args in
+    plain-next (a .sets .now) (a .nodes .now) (a .beginning .now) (a .list .now) (a .work .now) (sym (c .before .before .before .before .before .before .before .before .before .before .before .before .before .before .before .before .before .before .check-next .ensures) ∙ c .before .before .before .before .before .before .before .before .before .before .before .before .before .before .before .before .enum-told .given .1) (cues-front (cue-of (masked (in-set (a .sets .now))) itself) (a .beginning .now) _ _ (c .before .before .before .before .before .before .before .before .before .before .before .before .before .before .plain-cues .ensures)) (c .before .before .before .before .before .before .before .before .before .before .before .plain-asks .ensures) (c .before .before .before .before .before .next-by .ensures)
 
 pub next-spec : {M : Type 1} → statement M
 next-spec =

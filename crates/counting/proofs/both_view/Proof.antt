@@ -17,8 +17,11 @@ enum-told-2 c = search needs
 choice-view-requires : tie.Need-choice-view-requires
 choice-view-requires c κs = search needs
 
-enum-told-3 : tie.Need-enum-told-3
-enum-told-3 c = search needs
+enum-known-operator : tie.Need-enum-known-operator
+enum-known-operator c = search needs
+
+joint-requires : tie.Need-joint-requires
+joint-requires c κs = search needs
 
 parallel-view-requires : tie.Need-parallel-view-requires
 parallel-view-requires c κs = search needs
@@ -33,7 +36,7 @@ returns-2 c = c .choice-view .ensures ∙ (rw (c .before .enum-told2 .given .1))
 
 returns-3 : tie.Need-returns-3
 unfolding operatorV
-returns-3 c = c .parallel-view .ensures ∙ (rw (c .before .enum-told3 .given .1))
+returns-3 c = c .parallel-view .ensures ∙ (rw (c .before .joint .ensures, c .before .before .before .operator .given .1))
 
 pub both-view-spec : {M : Type 1} → statement M
 both-view-spec =
@@ -43,7 +46,8 @@ both-view-spec =
     sequence-view-requires
     enum-told-2
     choice-view-requires
-    enum-told-3
+    enum-known-operator
+    joint-requires
     parallel-view-requires
     returns
     returns-2

@@ -17,8 +17,11 @@ enum-told-2 c = search needs
 choice-word-requires : tie.Need-choice-word-requires
 choice-word-requires c κs = search needs
 
-enum-told-3 : tie.Need-enum-told-3
-enum-told-3 c = search needs
+enum-known-operator : tie.Need-enum-known-operator
+enum-known-operator c = search needs
+
+joint-requires : tie.Need-joint-requires
+joint-requires c κs = search needs
 
 parallel-word-requires : tie.Need-parallel-word-requires
 parallel-word-requires c κs = search needs
@@ -33,7 +36,7 @@ returns-2 c = c .choice-word .ensures ∙ (rw (c .before .enum-told2 .given .1))
 
 returns-3 : tie.Need-returns-3
 unfolding operatorW
-returns-3 c = c .parallel-word .ensures ∙ (rw (c .before .enum-told3 .given .1))
+returns-3 c = c .parallel-word .ensures ∙ (rw (c .before .joint .ensures, c .before .before .before .operator .given .1))
 
 pub both-word-spec : {M : Type 1} → statement M
 both-word-spec =
@@ -43,7 +46,8 @@ both-word-spec =
     sequence-word-requires
     enum-told-2
     choice-word-requires
-    enum-told-3
+    enum-known-operator
+    joint-requires
     parallel-word-requires
     returns
     returns-2

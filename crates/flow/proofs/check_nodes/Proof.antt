@@ -14,20 +14,21 @@ use Rattle.flow.proofs.check_nodes.Statement.{statement}
 use Rattle.flow.proofs.check_nodes.Tie as tie
 
 abbrev Inv-loop : tie.InvT-loop
-Inv-loop nodes n marks₀ i₀ marks i =
+Inv-loop nodes many n marks₀ i₀ marks i =
     (i ≤ count nodes)
     × (Marks nodes i marks
-    × (or-else-check (first (each (node-grounds nodes) i (count nodes - i))) (first (each (child-grounds nodes) 0 (count nodes - 1))) ≡ nodes-check nodes))
+    × (or-else-check (first (each (node-grounds many nodes) i (count nodes - i))) (first (each (child-grounds nodes) 0 (count nodes - 1))) ≡ nodes-check many nodes))
 
 abbrev μ-loop : tie.MeasureT-loop
-μ-loop nodes n marks₀ i₀ marks i = count nodes - i
+μ-loop nodes many n marks₀ i₀ marks i = count nodes - i
 
 loop-holds : tie.Need-loop-holds Inv-loop μ-loop
 unfolding nodes-check
 loop-holds c =
     let ns = c .before .args .nodes .now in
-    let start : or-else-check (first (each (node-grounds ns) 0 (count ns - 0))) (first (each (child-grounds ns) 0 (count ns - 1))) ≡ nodes-check ns
-    = ap (λ (x : Check). or-else-check x (first (each (child-grounds ns) 0 (count ns - 1)))) (each-start (node-grounds ns) (count ns)) ∙ sym (first-append _ _) in
+    let many = c .before .args .many in
+    let start : or-else-check (first (each (node-grounds many ns) 0 (count ns - 0))) (first (each (child-grounds ns) 0 (count ns - 1))) ≡ nodes-check many ns
+    = ap (λ (x : Check). or-else-check x (first (each (child-grounds ns) 0 (count ns - 1)))) (each-start (node-grounds many ns) (count ns)) ∙ sym (first-append _ _) in
     (omega arith, (marks-none ns, start))
 
 check-node-requires : tie.Need-check-node-requires Inv-loop μ-loop
@@ -40,10 +41,11 @@ returns : tie.Need-returns Inv-loop μ-loop
 unfolding or-else-check
 returns c =
     let ns = c .before .before .before .before .before .before .before .before .args .nodes .now in
+    let many = c .before .before .before .before .before .before .before .before .args .many in
     let l = c .before .before .before .before .before .before .loop in
     let h : l .i < count ns = c .before .before .before .before .before .loop-test .taken in
     let e = sym (c .before .before .before .check-node .ensures) ∙ c .before .found .given .1 in
-    sym (ap (λ (x : Check). or-else-check x (first (each (child-grounds ns) 0 (count ns - 1)))) (each-held (node-grounds ns) (l .i) (count ns) h _ e)) ∙ l .inv .1 .1
+    sym (ap (λ (x : Check). or-else-check x (first (each (child-grounds ns) 0 (count ns - 1)))) (each-held (node-grounds many ns) (l .i) (count ns) h _ e)) ∙ l .inv .1 .1
 
 enum-told : tie.Need-enum-told Inv-loop μ-loop
 enum-told c = search needs
@@ -51,10 +53,11 @@ enum-told c = search needs
 mark-children-requires : tie.Need-mark-children-requires Inv-loop μ-loop
 mark-children-requires c κs =
     let ns = c .before .before .before .before .before .before .before .before .args .nodes .now in
+    let many = c .before .before .before .before .before .before .before .before .args .many in
     let l = c .before .before .before .before .before .before .loop in
     let h : l .i < count ns = c .before .before .before .before .before .loop-test .taken in
-    let e : first (node-grounds ns (l .i)) ≡ Fine = sym (c .before .before .before .check-node .ensures) ∙ c .before .enum-told .given .1 in
-    (omega arith, (omega arith, (fine-node ns (l .i) (fine-exactly (node-grounds ns (l .i)) .0 e) .lower, l .inv .1 .0)))
+    let e : first (node-grounds many ns (l .i)) ≡ Fine = sym (c .before .before .before .check-node .ensures) ∙ c .before .enum-told .given .1 in
+    (omega arith, (omega arith, (fine-node many ns (l .i) (fine-exactly (node-grounds many ns (l .i)) .0 e) .lower, l .inv .1 .0)))
 
 add-i : tie.Need-add-i Inv-loop μ-loop
 add-i c = search needs
@@ -65,14 +68,16 @@ loop-less c = search needs
 loop-again : tie.Need-loop-again Inv-loop μ-loop
 loop-again c =
     let ns = c .before .before .before .before .before .before .before .before .before .args .nodes .now in
+    let many = c .before .before .before .before .before .before .before .before .before .args .many in
     let l = c .before .before .before .before .before .before .before .loop in
     let h : l .i < count ns = c .before .before .before .before .before .before .loop-test .taken in
-    let e : first (node-grounds ns (l .i)) ≡ Fine = sym (c .before .before .before .before .check-node .ensures) ∙ c .before .before .enum-told .given .1 in
-    (omega arith, (c .mark-children .ensures, sym (ap (λ (x : Check). or-else-check x (first (each (child-grounds ns) 0 (count ns - 1)))) (each-passed (node-grounds ns) (l .i) (count ns) h e)) ∙ l .inv .1 .1))
+    let e : first (node-grounds many ns (l .i)) ≡ Fine = sym (c .before .before .before .before .check-node .ensures) ∙ c .before .before .enum-told .given .1 in
+    (omega arith, (c .mark-children .ensures, sym (ap (λ (x : Check). or-else-check x (first (each (child-grounds ns) 0 (count ns - 1)))) (each-passed (node-grounds many ns) (l .i) (count ns) h e)) ∙ l .inv .1 .1))
 
 check-children-requires : tie.Need-check-children-requires Inv-loop μ-loop
 check-children-requires c κs =
     let ns = c .before .before .before .before .args .nodes .now in
+    let many = c .before .before .before .before .args .many in
     let l = c .before .before .loop in
     let e : l .i ≡ count ns = omega arith in
     (c .before .before .before .before .pre, rw e at (l .inv .1 .0))
@@ -81,9 +86,10 @@ returns-2 : tie.Need-returns-2 Inv-loop μ-loop
 unfolding or-else-check
 returns-2 c =
     let ns = c .before .before .before .before .before .args .nodes .now in
+    let many = c .before .before .before .before .before .args .many in
     let l = c .before .before .before .loop in
     c .check-children .ensures
-    ∙ sym (ap (λ (x : Check). or-else-check x (first (each (child-grounds ns) 0 (count ns - 1)))) (each-over (node-grounds ns) (l .i) (count ns) (c .before .before .loop-test .left)))
+    ∙ sym (ap (λ (x : Check). or-else-check x (first (each (child-grounds ns) 0 (count ns - 1)))) (each-over (node-grounds many ns) (l .i) (count ns) (c .before .before .loop-test .left)))
     ∙ l .inv .1 .1
 
 pub check-nodes-spec : {M : Type 1} → statement M

@@ -8,7 +8,8 @@ use borrow.Author.Needs.{needs}
 use denote.Ref.{now}
 use lib.ListN.{length, take, set, length-set}
 use lib.Seq.{take-all}
-use Rattle.flow.specs.Cues.{cue-of}
+use Rattle.flow.specs.Legends.{in-set}
+use Rattle.flow.specs.Cues.{cue-of, masked}
 use Rattle.format.specs.ListChecks.{entries-in}
 use Rattle.format.specs.Told.{at-front}
 use Rattle.matching.specs.Others.{other}
@@ -17,10 +18,10 @@ use Rattle.matching.proofs.named_cues.Statement.{statement}
 use Rattle.matching.proofs.named_cues.Tie as tie
 
 abbrev Inv-loop : tie.InvT-loop
-Inv-loop names records cues₀ i₀ cues i = (i ≤ length records) × (length cues ≡ length cues₀) × (cues ≡ at-front (map (cue-of (other (entries-in names))) (take i records)) cues₀)
+Inv-loop names records sets cues₀ i₀ cues i = (i ≤ length records) × (length cues ≡ length cues₀) × (cues ≡ at-front (map (cue-of (masked (in-set sets)) (other (entries-in names))) (take i records)) cues₀)
 
 abbrev μ-loop : tie.MeasureT-loop
-μ-loop names records cues₀ i₀ cues i = length records - i
+μ-loop names records sets cues₀ i₀ cues i = length records - i
 
 loop-holds : tie.Need-loop-holds Inv-loop μ-loop
 loop-holds c = (omega arith, refl, refl)
@@ -48,13 +49,13 @@ loop-less c = omega arith
 
 loop-again : tie.Need-loop-again Inv-loop μ-loop
 loop-again c =
-    let a = c .before .before .before .before .before .before .before .args in
+    let a = c .before .before .before .before .before .before .before .before .args in
     let l = c .before .before .before .loop in
     let ns = now (a .records) in
     let below : l .i < length ns = omega arith in (
       omega arith,
       length-set (l .cues) (l .i) (c .named-cue .result) ∙ l .inv .1,
-      ap₂ (λ (xs : List ℕ) (v : ℕ). set xs (l .i) v) (l .inv .2) (c .named-cue .ensures) ∙ front-next (cue-of (other (entries-in (now (a .names))))) ns (now (a .cues)) (l .i) below (omega arith),
+      ap₂ (λ (xs : List ℕ) (v : ℕ). set xs (l .i) v) (l .inv .2) (c .named-cue .ensures) ∙ front-next (cue-of (masked (in-set (now (a .sets)))) (other (entries-in (now (a .names))))) ns (now (a .cues)) (l .i) below (omega arith),
     )
 
 same-length : tie.Need-same-length Inv-loop μ-loop
@@ -62,9 +63,9 @@ same-length c = c .before .loop .inv .1
 
 returns : tie.Need-returns Inv-loop μ-loop
 returns c =
-    let a = c .before .before .before .before .before .args in
+    let a = c .before .before .before .before .before .before .args in
     let l = c .before .loop in
-    l .inv .2 ∙ ap (λ (ns : List ℕ). at-front (map (cue-of (other (entries-in (now (a .names))))) ns) (now (a .cues))) (take-all (l .i) (now (a .records)) (omega arith))
+    l .inv .2 ∙ ap (λ (ns : List ℕ). at-front (map (cue-of (masked (in-set (now (a .sets)))) (other (entries-in (now (a .names))))) ns) (now (a .cues))) (take-all (l .i) (now (a .records)) (omega arith))
 
 pub named-cues-spec : {M : Type 1} → statement M
 named-cues-spec =

@@ -16,7 +16,7 @@ use Rattle.reader.proofs.read.Reads as read-reads
 
 -- the tables hold what the reader read
 held : (c : lts.After-wide2 (read-reads.Asked, read-reads.Learnt, wide-reads.Asked, wide-reads.Learnt, names-of-reads.Asked, names-of-reads.Learnt, judge-tables-reads.Asked, judge-tables-reads.Learnt) reads.Pre reads.Post)
-    → Held (now (c .before .before .before .before .before .before .before .before .before .before .before .args .file)) (c .before .before .before .before .before .before .before .read .last .1 .0) (c .before .before .before .before .before .before .before .read .last .1 .1 .0) (3 * c .before .wide .result) (c .wide2 .result)
+    → Held (now (c .before .before .before .before .before .before .before .before .before .before .before .args .file)) (c .before .before .before .before .before .before .before .read .last .1 .0) (c .before .before .before .before .before .before .before .read .last .1 .1 .0) (c .before .before .before .counts .given .0 .0) (3 * c .before .wide .result) (c .wide2 .result)
 held c = file-read refl refl (c .before .before .before .before .before .before .before .read .ensures) (c .before .before .before .counts .given .1) (ap (λ (n : ℕ). 3 * n) (c .before .wide .ensures)) (c .wide2 .ensures)
 
 slice-aggregate-read : tie.Need-slice-aggregate-read
@@ -55,6 +55,15 @@ array-share-prefix-records c = held (c .before .before) .records-inside
 slice-aggregate-judge-tables-2 : tie.Need-slice-aggregate-judge-tables-2
 slice-aggregate-judge-tables-2 c = sym (length-take-le _ _ (held (c .before .before .before) .records-inside))
 
+sub-judge-tables : tie.Need-sub-judge-tables
+sub-judge-tables c = held (c .before .before .before) .sets-inside
+
+part-judge-tables-start : tie.Need-part-judge-tables-start
+part-judge-tables-start c = held (c .before .before .before) .sets-inside
+
+part-judge-tables-end : tie.Need-part-judge-tables-end
+part-judge-tables-end c = search needs
+
 judge-tables-requires : tie.Need-judge-tables-requires
 judge-tables-requires c κs = search needs
 
@@ -62,7 +71,7 @@ enum-known-r : tie.Need-enum-known-r
 enum-known-r c = search needs
 
 returns : tie.Need-returns
-returns c = c .judge-tables .ensures ∙ held-answered _ (held (c .before .before .before .before)) (c .before .before .before .names-of .ensures)
+returns c = c .judge-tables .ensures ∙ held-answered _ (held (c .before .before .before .before .before)) (c .before .before .before .before .names-of .ensures)
 
 returns-2 : tie.Need-returns-2
 returns-2 c = refused-answered _ (file-refused refl refl (c .before .before .before .before .before .read .ensures) (c .before .r .given .1))
@@ -83,6 +92,9 @@ judge-file-spec =
     slice-aggregate-judge-tables
     array-share-prefix-records
     slice-aggregate-judge-tables-2
+    sub-judge-tables
+    part-judge-tables-start
+    part-judge-tables-end
     judge-tables-requires
     enum-known-r
     returns

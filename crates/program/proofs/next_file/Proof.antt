@@ -19,7 +19,7 @@ use Rattle.reader.proofs.read.Reads as read-reads
 
 -- the tables hold what the reader read
 held : (c : lts.After-so-many (read-reads.Asked, read-reads.Learnt, wide-reads.Asked, wide-reads.Learnt, so-many-reads.Asked, so-many-reads.Learnt, names-of-reads.Asked, names-of-reads.Learnt, next-tables-reads.Asked, next-tables-reads.Learnt, put-answer-reads.Asked, put-answer-reads.Learnt) reads.Pre reads.Post)
-    → Held (now (c .before .before .before .before .before .before .before .before .before .before .before .args .file)) (c .before .before .before .before .before .before .before .read .last .1 .0) (c .before .before .before .before .before .before .before .read .last .1 .1 .0) (3 * c .before .wide .result) (c .before .before .before .counts .given .0 .0 .records)
+    → Held (now (c .before .before .before .before .before .before .before .before .before .before .before .args .file)) (c .before .before .before .before .before .before .before .read .last .1 .0) (c .before .before .before .before .before .before .before .read .last .1 .1 .0) (c .before .before .before .counts .given .0 .0) (3 * c .before .wide .result) (c .before .before .before .counts .given .0 .0 .records)
 held c = file-read refl refl (c .before .before .before .before .before .before .before .read .ensures) (c .before .before .before .counts .given .1) (ap (λ (n : ℕ). 3 * n) (c .before .wide .ensures)) refl
 
 slice-aggregate-read : tie.Need-slice-aggregate-read
@@ -58,6 +58,15 @@ array-share-prefix-records c = rw (c .before .before .so-many .ensures) (beginni
 slice-aggregate-next-tables-2 : tie.Need-slice-aggregate-next-tables-2
 slice-aggregate-next-tables-2 c = sym (length-take-le _ _ (rw (c .before .before .before .so-many .ensures) (beginning-inside _ (c .before .before .before .before .before .before .before .before .before .before .before .before .before .before .args .first) (held (c .before .before .before)))))
 
+sub-next-tables : tie.Need-sub-next-tables
+sub-next-tables c = held (c .before .before .before) .sets-inside
+
+part-next-tables-start : tie.Need-part-next-tables-start
+part-next-tables-start c = held (c .before .before .before) .sets-inside
+
+part-next-tables-end : tie.Need-part-next-tables-end
+part-next-tables-end c = search needs
+
 next-tables-requires : tie.Need-next-tables-requires
 next-tables-requires c κs = search needs
 
@@ -69,9 +78,9 @@ put-answer-requires c κs = search needs
 
 returns : tie.Need-returns
 returns c =
-    let s = c .before .before .before .before .before .before .before .before .before .before .before .before .before .before .before .before in
-    let e = held-file (now (s .args .file)) (s .args .first) (held (c .before .before .before .before .before)) (c .before .before .before .before .names-of .ensures) in
-    (rw e at (rw (c .before .before .before .before .before .so-many .ensures) at (c .next-tables .ensures .0)), c .next-tables .ensures .1)
+    let s = c .before .before .before .before .before .before .before .before .before .before .before .before .before .before .before .before .before in
+    let e = held-file (now (s .args .file)) (s .args .first) (held (c .before .before .before .before .before .before)) (c .before .before .before .before .before .names-of .ensures) in
+    (rw e at (rw (c .before .before .before .before .before .before .so-many .ensures) at (c .next-tables .ensures .0)), c .next-tables .ensures .1)
 
 returns-2 : tie.Need-returns-2
 returns-2 c =
@@ -95,6 +104,9 @@ next-file-spec =
     slice-aggregate-next-tables
     array-share-prefix-records
     slice-aggregate-next-tables-2
+    sub-next-tables
+    part-next-tables-start
+    part-next-tables-end
     next-tables-requires
     enum-known-r
     put-answer-requires

@@ -25,19 +25,19 @@ cast-n c = search needs
 
 array-share-prefix-list : tie.Need-array-share-prefix-list
 array-share-prefix-list c =
-    let a = c .before .before .before .before .before .before .before .before .before .before .before .before .args in
-    listed-inside (table-listed (now (a .names)) (now (a .nodes)) (now (a .beginning)) (c .before .before .before .before .before .before .next-named .ensures) (c .before .before .found .given .1))
+    let a = c .before .before .before .before .before .before .before .before .before .before .before .before .before .args in
+    listed-inside (table-listed (now (a .names)) (now (a .sets)) (now (a .nodes)) (now (a .beginning)) (c .before .before .before .before .before .before .next-named .ensures) (c .before .before .found .given .1))
 
 slice-aggregate-put-list : tie.Need-slice-aggregate-put-list
 slice-aggregate-put-list c =
-    let a = c .before .before .before .before .before .before .before .before .before .before .before .before .before .args in
-    sym (length-take-le _ _ (listed-inside (table-listed (now (a .names)) (now (a .nodes)) (now (a .beginning)) (c .before .before .before .before .before .before .before .next-named .ensures) (c .before .before .before .found .given .1))))
+    let a = c .before .before .before .before .before .before .before .before .before .before .before .before .before .before .args in
+    sym (length-take-le _ _ (listed-inside (table-listed (now (a .names)) (now (a .sets)) (now (a .nodes)) (now (a .beginning)) (c .before .before .before .before .before .before .before .next-named .ensures) (c .before .before .before .found .given .1))))
 
 put-list-requires : tie.Need-put-list-requires
 put-list-requires c κs =
-    let a = c .before .before .before .before .before .before .before .before .before .before .before .before .before .before .args in
-    let h = table-listed (now (a .names)) (now (a .nodes)) (now (a .beginning)) (c .before .before .before .before .before .before .before .before .next-named .ensures) (c .before .before .before .before .found .given .1) in
-    subst (ListShowable (now (a .names))) (sym (listed-first h)) (listed-showable (now (a .names)) (now (a .nodes)) (now (a .beginning)) (h .fine))
+    let a = c .before .before .before .before .before .before .before .before .before .before .before .before .before .before .before .args in
+    let h = table-listed (now (a .names)) (now (a .sets)) (now (a .nodes)) (now (a .beginning)) (c .before .before .before .before .before .before .before .before .next-named .ensures) (c .before .before .before .before .found .given .1) in
+    subst (ListShowable (now (a .names))) (sym (listed-first h)) (listed-showable (now (a .names)) (now (a .sets)) (now (a .nodes)) (now (a .beginning)) (h .fine))
 
 enum-known-found-2 : tie.Need-enum-known-found-2
 enum-known-found-2 c = search needs
@@ -53,20 +53,20 @@ put-answer-requires-2 c κs = search needs
 
 returns : tie.Need-returns
 returns c =
-    let a = c .before .before .before .before .before .before .before .before .before .before .before .before .before .before .before .args in
-    let e = listed-printed (now (a .names)) (now (a .nodes)) (now (a .beginning)) (c .before .before .before .before .before .before .before .before .before .next-named .ensures) (c .before .before .before .before .before .found .given .1) in
+    let a = c .before .before .before .before .before .before .before .before .before .before .before .before .before .before .before .before .args in
+    let e = listed-printed (now (a .names)) (now (a .sets)) (now (a .nodes)) (now (a .beginning)) (c .before .before .before .before .before .before .before .before .before .next-named .ensures) (c .before .before .before .before .before .found .given .1) in
     (rw e at (c .put-list .ensures .0), c .put-list .ensures .1)
 
 returns-2 : tie.Need-returns-2
 returns-2 c =
-    let a = c .before .before .before .before .before .before .before .before .before .before .before .before .before .args in
-    let e = undecided-printed (now (a .names)) (now (a .nodes)) (now (a .beginning)) (c .before .before .before .before .before .before .before .next-named .ensures) (c .before .before .before .found2 .given .1) in
+    let a = c .before .before .before .before .before .before .before .before .before .before .before .before .before .before .args in
+    let e = undecided-printed (now (a .names)) (now (a .sets)) (now (a .nodes)) (now (a .beginning)) (c .before .before .before .before .before .before .before .next-named .ensures) (c .before .before .before .found2 .given .1) in
     (rw e at (c .put-answer .ensures .0), c .put-answer .ensures .1)
 
 returns-3 : tie.Need-returns-3
 returns-3 c =
-    let a = c .before .before .before .before .before .before .before .before .before .before .before .before .before .args in
-    let e = refused-printed (now (a .names)) (now (a .nodes)) (now (a .beginning)) (c .before .before .before .before .before .before .before .next-named .ensures) (c .before .before .before .r .given .1) in
+    let a = c .before .before .before .before .before .before .before .before .before .before .before .before .before .before .args in
+    let e = refused-printed (now (a .names)) (now (a .sets)) (now (a .nodes)) (now (a .beginning)) (c .before .before .before .before .before .before .before .next-named .ensures) (c .before .before .before .r .given .1) in
     (rw e at (c .put-answer2 .ensures .0), c .put-answer2 .ensures .1)
 
 pub next-tables-spec : {M : Type 1} → statement M

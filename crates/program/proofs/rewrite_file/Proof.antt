@@ -17,7 +17,7 @@ use Rattle.writer.proofs.write.Reads as write-reads
 
 -- the tables hold what the reader read
 held : (c : lts.After-wide2 (read-reads.Asked, read-reads.Learnt, wide-reads.Asked, wide-reads.Learnt, names-of-reads.Asked, names-of-reads.Learnt, write-reads.Asked, write-reads.Learnt) reads.Pre reads.Post)
-    → Held (now (c .before .before .before .before .before .before .before .before .before .before .before .before .args .file)) (c .before .before .before .before .before .before .before .read .last .1 .0) (c .before .before .before .before .before .before .before .read .last .1 .1 .0) (3 * c .before .wide .result) (c .wide2 .result)
+    → Held (now (c .before .before .before .before .before .before .before .before .before .before .before .before .args .file)) (c .before .before .before .before .before .before .before .read .last .1 .0) (c .before .before .before .before .before .before .before .read .last .1 .1 .0) (c .before .before .before .counts .given .0 .0) (3 * c .before .wide .result) (c .wide2 .result)
 held c = file-read refl refl (c .before .before .before .before .before .before .before .read .ensures) (c .before .before .before .counts .given .1) (ap (λ (n : ℕ). 3 * n) (c .before .wide .ensures)) (c .wide2 .ensures)
 
 slice-aggregate-read : tie.Need-slice-aggregate-read
@@ -56,6 +56,15 @@ array-share-prefix-records c = held (c .before .before) .records-inside
 slice-aggregate-write-2 : tie.Need-slice-aggregate-write-2
 slice-aggregate-write-2 c = sym (length-take-le _ _ (held (c .before .before .before) .records-inside))
 
+sub-write : tie.Need-sub-write
+sub-write c = held (c .before .before .before) .sets-inside
+
+part-write-start : tie.Need-part-write-start
+part-write-start c = held (c .before .before .before) .sets-inside
+
+part-write-end : tie.Need-part-write-end
+part-write-end c = search needs
+
 write-requires : tie.Need-write-requires
 write-requires c κs = search needs
 
@@ -67,7 +76,7 @@ same-length c = search needs
 
 returns : tie.Need-returns
 returns c =
-    let h = held-rewritten (held (c .before .before .before .before .before .before .before)) (c .before .before .before .before .before .before .names-of .ensures) (c .before .before .write .ensures) in
+    let h = held-rewritten (held (c .before .before .before .before .before .before .before .before)) (c .before .before .before .before .before .before .before .names-of .ensures) (c .before .before .write .ensures) in
     (h, rewritten-within h)
 
 returns-2 : tie.Need-returns-2
@@ -91,6 +100,9 @@ rewrite-file-spec =
     slice-aggregate-write
     array-share-prefix-records
     slice-aggregate-write-2
+    sub-write
+    part-write-start
+    part-write-end
     write-requires
     enum-known-r
     same-length

@@ -38,25 +38,35 @@ array-share-prefix-nodes : tie.Need-array-share-prefix-nodes
 array-share-prefix-nodes c = search needs
 
 slice-aggregate-check-contents : tie.Need-slice-aggregate-check-contents
-slice-aggregate-check-contents c = sym (front-length (now (c .before .before .before .before .before .before .before .before .before .before .before .args .file)) (3 * c .before .before .before .before .before .before .before .before .before .before .before .args .o .counts .nodes) (c .before .before .before .before .before .before .before .before .before .before .before .args .o .nodes) _ (c .before .before .before .before .before .fill .ensures))
+slice-aggregate-check-contents c =
+    let a = c .before .before .before .before .before .before .before .before .before .before .before .args in
+    sym (front-length (now (a .file)) (3 * a .o .counts .nodes) (a .o .nodes) _ (c .before .before .before .before .before .fill .ensures))
 
 array-share-prefix-records : tie.Need-array-share-prefix-records
 array-share-prefix-records c = search needs
 
 slice-aggregate-check-contents-2 : tie.Need-slice-aggregate-check-contents-2
-slice-aggregate-check-contents-2 c = sym (front-length (now (c .before .before .before .before .before .before .before .before .before .before .before .before .args .file)) (c .before .before .before .before .before .before .before .before .before .before .before .before .args .o .counts .records) (c .before .before .before .before .before .before .before .before .before .before .before .before .args .o .records) _ (c .before .before .before .fill2 .ensures))
+slice-aggregate-check-contents-2 c =
+    let a = c .before .before .before .before .before .before .before .before .before .before .before .before .args in
+    sym (front-length (now (a .file)) (a .o .counts .records) (a .o .records) _ (c .before .before .before .fill2 .ensures))
+
+cast-check-contents : tie.Need-cast-check-contents
+cast-check-contents c = search needs
 
 check-contents-requires : tie.Need-check-contents-requires
-check-contents-requires c κs = let a = (front-length (now (c .before .before .before .before .before .before .before .before .before .before .before .before .args .file)) (3 * c .before .before .before .before .before .before .before .before .before .before .before .before .args .o .counts .nodes) (c .before .before .before .before .before .before .before .before .before .before .before .before .args .o .nodes) _ (c .before .before .before .before .before .before .fill .ensures)) in
-    let b = (front-length (now (c .before .before .before .before .before .before .before .before .before .before .before .before .args .file)) (c .before .before .before .before .before .before .before .before .before .before .before .before .args .o .counts .records) (c .before .before .before .before .before .before .before .before .before .before .before .before .args .o .records) _ (c .before .before .before .fill2 .ensures)) in
-    let p = c .before .before .before .before .before .before .before .before .before .before .before .before .pre in
+check-contents-requires c κs =
+    let a = c .before .before .before .before .before .before .before .before .before .before .before .before .before .args in
+    let nodes = front-length (now (a .file)) (3 * a .o .counts .nodes) (a .o .nodes) _ (c .before .before .before .before .before .before .before .fill .ensures) in
+    let records = front-length (now (a .file)) (a .o .counts .records) (a .o .records) _ (c .before .before .before .before .fill2 .ensures) in
+    let p = c .before .before .before .before .before .before .before .before .before .before .before .before .before .pre in
     (omega arith, omega arith, omega arith)
 
 returns : tie.Need-returns
-returns c = let s = now (c .before .before .before .before .before .before .before .before .before .before .before .before .before .args .file) in
-    let a = front-is s (3 * c .before .before .before .before .before .before .before .before .before .before .before .before .before .args .o .counts .nodes) (c .before .before .before .before .before .before .before .before .before .before .before .before .before .args .o .nodes) _ (c .before .before .before .before .before .before .before .fill .ensures) in
-    let b = front-is s (c .before .before .before .before .before .before .before .before .before .before .before .before .before .args .o .counts .records) (c .before .before .before .before .before .before .before .before .before .before .before .before .before .args .o .records) _ (c .before .before .before .before .fill2 .ensures) in
-    c .check-contents .ensures ∙ ap₂ (λ (ns rs : List ℕ). first (grounds-of Whole (c .before .before .before .before .before .before .before .before .before .before .before .before .before .args .o .counts .names) ns rs)) a b
+returns c =
+    let a = c .before .before .before .before .before .before .before .before .before .before .before .before .before .before .args in
+    let nodes = front-is (now (a .file)) (3 * a .o .counts .nodes) (a .o .nodes) _ (c .before .before .before .before .before .before .before .before .fill .ensures) in
+    let records = front-is (now (a .file)) (a .o .counts .records) (a .o .records) _ (c .before .before .before .before .before .fill2 .ensures) in
+    c .check-contents .ensures ∙ ap₂ (λ (ns rs : List ℕ). first (grounds-of Whole (a .o .counts .names) (a .o .counts .sets) ns rs)) nodes records
 
 pub check-numbers-spec : {M : Type 1} → statement M
 check-numbers-spec =
@@ -73,5 +83,6 @@ check-numbers-spec =
     slice-aggregate-check-contents
     array-share-prefix-records
     slice-aggregate-check-contents-2
+    cast-check-contents
     check-contents-requires
     returns)

@@ -40,7 +40,7 @@ slice-aggregate-next-named-lists-3 c = search needs
 
 next-named-lists-requires : tie.Need-next-named-lists-requires
 next-named-lists-requires c κs =
-    let p = c .before .before .before .before .before .before .before .before .before .before .before .pre in
+    let p = c .before .before .before .before .before .before .before .before .before .before .before .before .pre in
     (p .0, (p .1, search needs))
 
 array-share-prefix-out : tie.Need-array-share-prefix-out
@@ -72,7 +72,7 @@ slice-aggregate-next-lists-3 c = search needs
 
 next-lists-requires : tie.Need-next-lists-requires
 next-lists-requires c κs =
-    let p = c .before .before .before .before .before .before .before .before .before .before .before .pre in
+    let p = c .before .before .before .before .before .before .before .before .before .before .before .before .pre in
     (p .0, (p .1, search needs))
 
 array-share-prefix-out-2 : tie.Need-array-share-prefix-out-2

@@ -52,17 +52,17 @@ returns-4 c = search needs
 array-share-prefix-ns : tie.Need-array-share-prefix-ns
 array-share-prefix-ns c = search needs
 
-slice-aggregate-call-with : tie.Need-slice-aggregate-call-with
-slice-aggregate-call-with c = sym (length-take-le _ _ (search needs))
+slice-aggregate-sets-lent : tie.Need-slice-aggregate-sets-lent
+slice-aggregate-sets-lent c = sym (length-take-le _ _ (search needs))
 
 array-share-prefix-rs : tie.Need-array-share-prefix-rs
 array-share-prefix-rs c = search needs
 
-slice-aggregate-call-with-2 : tie.Need-slice-aggregate-call-with-2
-slice-aggregate-call-with-2 c = sym (length-take-le _ _ (search needs))
+slice-aggregate-sets-lent-2 : tie.Need-slice-aggregate-sets-lent-2
+slice-aggregate-sets-lent-2 c = sym (length-take-le _ _ (search needs))
 
-call-with-requires : tie.Need-call-with-requires
-call-with-requires c κs =
+sets-lent-requires : tie.Need-sets-lent-requires
+sets-lent-requires c κs =
     let at-records = c .before .before .before .before in
     let at-nodes = at-records .before .before .before .before in
     let call = at-nodes .before .before .before .before .before .before .before .args .call in
@@ -90,8 +90,8 @@ numbers-lent-spec =
     bad-case-requires-4
     returns-4
     array-share-prefix-ns
-    slice-aggregate-call-with
+    slice-aggregate-sets-lent
     array-share-prefix-rs
-    slice-aggregate-call-with-2
-    call-with-requires
+    slice-aggregate-sets-lent-2
+    sets-lent-requires
     returns-5)

@@ -48,8 +48,9 @@ use Rattle.seek.proofs.weight_before.Reads as weight-before-reads
 use Rattle.seek.proofs.weight_by.Reads as weight-by-reads
 use Rattle.seek.proofs.word_at.Reads as word-at-reads
 use Rattle.states.proofs.course_at.Reads as course-at-reads
+use Rattle.states.proofs.joint.Reads as joint-reads
 use Rattle.states.proofs.set_mode.Reads as set-mode-reads
-use Rattle.tallies.proofs.sum.Reads as sum-reads
+use Rattle.tallies.proofs.sides.Reads as sides-reads
 use Rattle.tallies.proofs.weight_inside.Reads as weight-inside-reads
 use Rattle.tallies.proofs.weight_within.Reads as weight-within-reads
 use Rattle.seek.proofs.+choose+choose_both+choose_fresh+seek_choice+seek_held+seek_marked+seek_parallel+seek_running+seek_second.{
@@ -186,7 +187,7 @@ abbrev seek-marked-calls : ℕ → seek-marked-lts.Claims
 seek-marked-calls t = (set-mode-reads.Asked, set-mode-reads.Learnt, choose-below t, choose.Post)
 
 abbrev seek-parallel-calls : ℕ → seek-parallel-lts.Claims
-seek-parallel-calls t = (first-ending-reads.Asked, first-ending-reads.Learnt, beside-reads.Asked, beside-reads.Learnt, choose-below t, choose.Post, weight-within-reads.Asked, weight-within-reads.Learnt, second-ending-reads.Asked, second-ending-reads.Learnt, sum-reads.Asked, sum-reads.Learnt)
+seek-parallel-calls t = (joint-reads.Asked, joint-reads.Learnt, first-ending-reads.Asked, first-ending-reads.Learnt, beside-reads.Asked, beside-reads.Learnt, choose-below t, choose.Post, weight-within-reads.Asked, weight-within-reads.Learnt, second-ending-reads.Asked, second-ending-reads.Learnt, sides-reads.Asked, sides-reads.Learnt)
 
 abbrev seek-running-calls : ℕ → seek-running-lts.Claims
 seek-running-calls t = (own-weight-reads.Asked, own-weight-reads.Learnt, seek-marked-below t, seek-marked.Post, weight-before-reads.Asked, weight-before-reads.Learnt, choose-below t, choose.Post, seek-second-below t, seek-second.Post)
@@ -279,11 +280,11 @@ choose-both-enum-told-2 t c = search needs
 choose-both-seek-choice-requires : (t : ℕ) → choose-both-lts.Need-seek-choice-requires (choose-both-calls t) (choose-both-at t) choose-both.Post
 choose-both-seek-choice-requires t c κs = let s = c .before .before .before .before .before .before in (omega (arith, s .pre .0), (wanted-both (s .pre .1 .0) (c .before .enum-told2 .given .1), s .pre .1 .1))
 
-choose-both-enum-told-3 : (t : ℕ) → choose-both-lts.Need-enum-told-3 (choose-both-calls t) (choose-both-at t) choose-both.Post
-choose-both-enum-told-3 t c = search needs
+choose-both-enum-known-operator : (t : ℕ) → choose-both-lts.Need-enum-known-operator (choose-both-calls t) (choose-both-at t) choose-both.Post
+choose-both-enum-known-operator t c = search needs
 
 choose-both-seek-parallel-requires : (t : ℕ) → choose-both-lts.Need-seek-parallel-requires (choose-both-calls t) (choose-both-at t) choose-both.Post
-choose-both-seek-parallel-requires t c κs = let s = c .before .before .before .before .before .before in (omega (arith, s .pre .0), (wanted-both (s .pre .1 .0) (c .before .enum-told3 .given .1), s .pre .1 .1))
+choose-both-seek-parallel-requires t c κs = let s = c .before .before .before .before .before .before .before in (omega (arith, s .pre .0), (wanted-both (s .pre .1 .0) (c .before .before .operator .given .1), s .pre .1 .1))
 
 choose-both-same-length : (t : ℕ) → choose-both-lts.Need-same-length (choose-both-calls t) (choose-both-at t) choose-both.Post
 choose-both-same-length t c = c .before .before .seek-running .kept .1 .0
@@ -369,48 +370,51 @@ seek-marked-same-length t c = c .before .before .choose .kept .1 .0 ∙ c .befor
 seek-marked-returns : (t : ℕ) → seek-marked-lts.Need-returns (seek-marked-calls t) (seek-marked-at t) seek-marked.Post
 seek-marked-returns t c = below-chosen _ (c .before .before .before .before .before .before .set-mode .ensures) (c .before .before .before .before .before .before .before .before .before .before .before .pre .1 .0) (c .before .before .choose .ensures)
 
+seek-parallel-joint-requires : (t : ℕ) → seek-parallel-lts.Need-joint-requires (seek-parallel-calls t) (seek-parallel-at t) seek-parallel.Post
+seek-parallel-joint-requires t c κs = search needs
+
 seek-parallel-first-ending-requires : (t : ℕ) → seek-parallel-lts.Need-first-ending-requires (seek-parallel-calls t) (seek-parallel-at t) seek-parallel.Post
 seek-parallel-first-ending-requires t c κs =
-    let s = c .before .before .before .before in
+    let s = c .before .before .before .before .before in
     ((first-row (s .pre .1 .0) (s .pre .1 .1), second-row (s .pre .1 .0) (s .pre .1 .1)), s .pre .1 .0 .closes)
 
 seek-parallel-beside-requires : (t : ℕ) → seek-parallel-lts.Need-beside-requires (seek-parallel-calls t) (seek-parallel-at t) seek-parallel.Post
 seek-parallel-beside-requires t c κs =
-    let s = c .before .before .before .before .before .before in
+    let s = c .before .before .before .before .before .before .before in
     (second-row (s .pre .1 .0) (s .pre .1 .1), (s .pre .1 .0 .closes, c .before .first-ending .ensures .small))
 
 seek-parallel-choose-requires : (t : ℕ) → seek-parallel-lts.Need-choose-requires (seek-parallel-calls t) (seek-parallel-at t) seek-parallel.Post
 seek-parallel-choose-requires t c κs =
-    let s = c .before .before .before .before .before .before .before in
+    let s = c .before .before .before .before .before .before .before .before in
     let h = s .pre .1 .0 in
     let f = c .before .before .first-ending .ensures in
-    (omega (arith, s .pre .0, first-lower h), (first-spot h, (first-known h (s .pre .1 .1), (f .small, par-first-room h (s .pre .1 .1) refl refl f (c .beside .ensures)))))
+    (omega (arith, s .pre .0, first-lower h), (first-spot h, (first-known h (s .pre .1 .1), (f .small, par-first-room h (s .pre .1 .1) (c .before .before .before .joint .ensures) refl refl f (c .beside .ensures)))))
 
 seek-parallel-weight-within-requires : (t : ℕ) → seek-parallel-lts.Need-weight-within-requires (seek-parallel-calls t) (seek-parallel-at t) seek-parallel.Post
 seek-parallel-weight-within-requires t c κs = search needs
 
 seek-parallel-second-ending-requires : (t : ℕ) → seek-parallel-lts.Need-second-ending-requires (seek-parallel-calls t) (seek-parallel-at t) seek-parallel.Post
 seek-parallel-second-ending-requires t c κs =
-    let s = c .before .before .before .before .before .before .before .before .before .before .before in
+    let s = c .before .before .before .before .before .before .before .before .before .before .before .before in
     (second-row (s .pre .1 .0) (s .pre .1 .1), (s .pre .1 .0 .closes, c .before .before .before .before .before .before .first-ending .ensures .small))
 
 seek-parallel-choose-requires-2 : (t : ℕ) → seek-parallel-lts.Need-choose-requires-2 (seek-parallel-calls t) (seek-parallel-at t) seek-parallel.Post
 seek-parallel-choose-requires-2 t c κs =
-    let s = c .before .before .before .before .before .before .before .before .before .before .before .before .before in
+    let s = c .before .before .before .before .before .before .before .before .before .before .before .before .before .before in
     let h = s .pre .1 .0 in
     let x = c .before .before .before .before .before .choose in
-    (omega (arith, s .pre .0, second-lower h), (same-room (second-spot h) (x .kept .1 .0), (second-still h (s .pre .1 .1) (x .ensures .kept), (c .before .second-ending .ensures .small, par-second-room h (s .pre .1 .1) refl refl (c .before .before .before .before .before .before .before .before .first-ending .ensures) (c .before .before .before .before .before .before .beside .ensures) (x .ensures) (c .before .before .weight-within .ensures) (c .before .second-ending .ensures)))))
+    (omega (arith, s .pre .0, second-lower h), (same-room (second-spot h) (x .kept .1 .0), (second-still h (s .pre .1 .1) (x .ensures .kept), (c .before .second-ending .ensures .small, par-second-room h (s .pre .1 .1) (c .before .before .before .before .before .before .before .before .before .joint .ensures) refl refl (c .before .before .before .before .before .before .before .before .first-ending .ensures) (c .before .before .before .before .before .before .beside .ensures) (x .ensures) (c .before .before .weight-within .ensures) (c .before .second-ending .ensures)))))
 
-seek-parallel-sum-requires : (t : ℕ) → seek-parallel-lts.Need-sum-requires (seek-parallel-calls t) (seek-parallel-at t) seek-parallel.Post
-seek-parallel-sum-requires t c κs = search needs
+seek-parallel-sides-requires : (t : ℕ) → seek-parallel-lts.Need-sides-requires (seek-parallel-calls t) (seek-parallel-at t) seek-parallel.Post
+seek-parallel-sides-requires t c κs = search needs
 
 seek-parallel-same-length : (t : ℕ) → seek-parallel-lts.Need-same-length (seek-parallel-calls t) (seek-parallel-at t) seek-parallel.Post
 seek-parallel-same-length t c = c .before .before .before .before .before .choose2 .kept .1 .0 ∙ c .before .before .before .before .before .before .before .before .before .before .before .choose .kept .1 .0
 
 seek-parallel-returns : (t : ℕ) → seek-parallel-lts.Need-returns (seek-parallel-calls t) (seek-parallel-at t) seek-parallel.Post
 seek-parallel-returns t c =
-    let s = c .before .before .before .before .before .before .before .before .before .before .before .before .before .before .before .before .before .before .before in
-    rw (c .before .before .sum .ensures) (par-chosen (s .pre .1 .0) (s .pre .1 .1) refl refl (c .before .before .before .before .before .before .before .before .before .before .before .before .before .before .first-ending .ensures) (c .before .before .before .before .before .before .before .before .before .before .before .before .beside .ensures) (c .before .before .before .before .before .before .before .before .before .before .before .choose .ensures) (c .before .before .before .before .before .before .before .before .weight-within .ensures) (c .before .before .before .before .before .before .before .second-ending .ensures) (c .before .before .before .before .before .choose2 .ensures))
+    let s = c .before .before .before .before .before .before .before .before .before .before .before .before .before .before .before .before .before .before .before .before in
+    rw (c .before .before .sides .ensures) (par-chosen (s .pre .1 .0) (s .pre .1 .1) (c .before .before .before .before .before .before .before .before .before .before .before .before .before .before .before .joint .ensures) refl refl (c .before .before .before .before .before .before .before .before .before .before .before .before .before .before .first-ending .ensures) (c .before .before .before .before .before .before .before .before .before .before .before .before .beside .ensures) (c .before .before .before .before .before .before .before .before .before .before .before .choose .ensures) (c .before .before .before .before .before .before .before .before .weight-within .ensures) (c .before .before .before .before .before .before .before .second-ending .ensures) (c .before .before .before .before .before .choose2 .ensures))
 
 seek-running-own-weight-requires : (t : ℕ) → seek-running-lts.Need-own-weight-requires (seek-running-calls t) (seek-running-at t) seek-running.Post
 seek-running-own-weight-requires t c κs = let s = c .before .before .before in first-row (s .pre .1 .0) (s .pre .1 .1)
@@ -481,4 +485,4 @@ seek-second-returns t c = rw (c .before .before .moves-before .ensures) (second-
 
 pub +choose+choose-both+choose-fresh+seek-choice+seek-held+seek-marked+seek-parallel+seek-running+seek-second-spec :
     {M : Type 1} → statement M
-+choose+choose-both+choose-fresh+seek-choice+seek-held+seek-marked+seek-parallel+seek-running+seek-second-spec = close μ-choose μ-choose-both μ-choose-fresh μ-seek-choice μ-seek-held μ-seek-marked μ-seek-parallel μ-seek-running μ-seek-second (λ t. choose-lts.spec (choose-calls t) (choose-at t) choose.Post (choose-course-at-requires t) (choose-enum-told t) (choose-enum-known-course t) (choose-seek-pair-requires t) (choose-enum-known-course-2 t) (choose-choose-fresh-requires t) (choose-choose-both-requires t) (choose-enum-known-course-3 t) (choose-seek-held-requires t) (choose-enum-known-course-4 t) (choose-choose-requires t) (choose-same-length t) (choose-returns t) (choose-same-length-2 t) (choose-returns-2 t) (choose-same-length-3 t) (choose-returns-3 t) (choose-same-length-4 t) (choose-returns-4 t) (choose-same-length-5 t) (choose-returns-5 t) (choose-same-length-6 t) (choose-returns-6 t)) (λ t. choose-both-lts.spec (choose-both-calls t) (choose-both-at t) choose-both.Post (choose-both-enum-told t) (choose-both-seek-running-requires t) (choose-both-enum-told-2 t) (choose-both-seek-choice-requires t) (choose-both-enum-told-3 t) (choose-both-seek-parallel-requires t) (choose-both-same-length t) (choose-both-returns t) (choose-both-same-length-2 t) (choose-both-returns-2 t) (choose-both-same-length-3 t) (choose-both-returns-3 t)) (λ t. choose-fresh-lts.spec (choose-fresh-calls t) (choose-fresh-at t) choose-fresh.Post (choose-fresh-weigh-requires t) (choose-fresh-slice-aggregate-choose-both t) (choose-fresh-choose-both-requires t) (choose-fresh-same-length t) (choose-fresh-returns t)) (λ t. seek-choice-lts.spec (seek-choice-calls t) (seek-choice-at t) seek-choice.Post (seek-choice-weight-by-requires t) (seek-choice-seek-marked-requires t) (seek-choice-same-length t) (seek-choice-returns t) (seek-choice-seek-marked-requires-2 t) (seek-choice-same-length-2 t) (seek-choice-returns-2 t)) (λ t. seek-held-lts.spec (seek-held-calls t) (seek-held-at t) seek-held.Post (seek-held-count-std-requires t) (seek-held-seek-second-requires t) (seek-held-same-length t) (seek-held-returns t)) (λ t. seek-marked-lts.spec (seek-marked-calls t) (seek-marked-at t) seek-marked.Post (seek-marked-set-mode-requires t) (seek-marked-choose-requires t) (seek-marked-same-length t) (seek-marked-returns t)) (λ t. seek-parallel-lts.spec (seek-parallel-calls t) (seek-parallel-at t) seek-parallel.Post (seek-parallel-first-ending-requires t) (seek-parallel-beside-requires t) (seek-parallel-choose-requires t) (seek-parallel-weight-within-requires t) (seek-parallel-second-ending-requires t) (seek-parallel-choose-requires-2 t) (seek-parallel-sum-requires t) (seek-parallel-same-length t) (seek-parallel-returns t)) (λ t. seek-running-lts.spec (seek-running-calls t) (seek-running-at t) seek-running.Post (seek-running-own-weight-requires t) (seek-running-seek-marked-requires t) (seek-running-same-length t) (seek-running-returns t) (seek-running-weight-before-requires t) (seek-running-choose-requires t) (seek-running-seek-second-requires t) (seek-running-same-length-2 t) (seek-running-returns-2 t)) λ t. seek-second-lts.spec (seek-second-calls t) (seek-second-at t) seek-second.Post (seek-second-weight-inside-requires t) (seek-second-seek-marked-requires t) (seek-second-moves-before-requires t) (seek-second-same-length t) (seek-second-returns t)
++choose+choose-both+choose-fresh+seek-choice+seek-held+seek-marked+seek-parallel+seek-running+seek-second-spec = close μ-choose μ-choose-both μ-choose-fresh μ-seek-choice μ-seek-held μ-seek-marked μ-seek-parallel μ-seek-running μ-seek-second (λ t. choose-lts.spec (choose-calls t) (choose-at t) choose.Post (choose-course-at-requires t) (choose-enum-told t) (choose-enum-known-course t) (choose-seek-pair-requires t) (choose-enum-known-course-2 t) (choose-choose-fresh-requires t) (choose-choose-both-requires t) (choose-enum-known-course-3 t) (choose-seek-held-requires t) (choose-enum-known-course-4 t) (choose-choose-requires t) (choose-same-length t) (choose-returns t) (choose-same-length-2 t) (choose-returns-2 t) (choose-same-length-3 t) (choose-returns-3 t) (choose-same-length-4 t) (choose-returns-4 t) (choose-same-length-5 t) (choose-returns-5 t) (choose-same-length-6 t) (choose-returns-6 t)) (λ t. choose-both-lts.spec (choose-both-calls t) (choose-both-at t) choose-both.Post (choose-both-enum-told t) (choose-both-seek-running-requires t) (choose-both-enum-told-2 t) (choose-both-seek-choice-requires t) (choose-both-enum-known-operator t) (choose-both-seek-parallel-requires t) (choose-both-same-length t) (choose-both-returns t) (choose-both-same-length-2 t) (choose-both-returns-2 t) (choose-both-same-length-3 t) (choose-both-returns-3 t)) (λ t. choose-fresh-lts.spec (choose-fresh-calls t) (choose-fresh-at t) choose-fresh.Post (choose-fresh-weigh-requires t) (choose-fresh-slice-aggregate-choose-both t) (choose-fresh-choose-both-requires t) (choose-fresh-same-length t) (choose-fresh-returns t)) (λ t. seek-choice-lts.spec (seek-choice-calls t) (seek-choice-at t) seek-choice.Post (seek-choice-weight-by-requires t) (seek-choice-seek-marked-requires t) (seek-choice-same-length t) (seek-choice-returns t) (seek-choice-seek-marked-requires-2 t) (seek-choice-same-length-2 t) (seek-choice-returns-2 t)) (λ t. seek-held-lts.spec (seek-held-calls t) (seek-held-at t) seek-held.Post (seek-held-count-std-requires t) (seek-held-seek-second-requires t) (seek-held-same-length t) (seek-held-returns t)) (λ t. seek-marked-lts.spec (seek-marked-calls t) (seek-marked-at t) seek-marked.Post (seek-marked-set-mode-requires t) (seek-marked-choose-requires t) (seek-marked-same-length t) (seek-marked-returns t)) (λ t. seek-parallel-lts.spec (seek-parallel-calls t) (seek-parallel-at t) seek-parallel.Post (seek-parallel-joint-requires t) (seek-parallel-first-ending-requires t) (seek-parallel-beside-requires t) (seek-parallel-choose-requires t) (seek-parallel-weight-within-requires t) (seek-parallel-second-ending-requires t) (seek-parallel-choose-requires-2 t) (seek-parallel-sides-requires t) (seek-parallel-same-length t) (seek-parallel-returns t)) (λ t. seek-running-lts.spec (seek-running-calls t) (seek-running-at t) seek-running.Post (seek-running-own-weight-requires t) (seek-running-seek-marked-requires t) (seek-running-same-length t) (seek-running-returns t) (seek-running-weight-before-requires t) (seek-running-choose-requires t) (seek-running-seek-second-requires t) (seek-running-same-length-2 t) (seek-running-returns-2 t)) λ t. seek-second-lts.spec (seek-second-calls t) (seek-second-at t) seek-second.Post (seek-second-weight-inside-requires t) (seek-second-seek-marked-requires t) (seek-second-moves-before-requires t) (seek-second-same-length t) (seek-second-returns t)

@@ -23,7 +23,7 @@ returns c =
     let a = c .before .before .before .before .before .args in
     let t = partnersT (row (a .d .now) (a .i)) (closing (a .w)) (closing (a .x)) in
     ap (λ z. weighs z 0 0) (c .product .ensures ∙ ap (λ z. cap (a .g .own * z)) (c .before .partner-count .ensures))
-    ∙ sym (own-beside (a .g) (sym (c .before .before .before .own-only .ensures) ∙ c .before .before .if1 .taken) t)
+    ∙ sym (own-beside (a .g) (sym (c .before .before .before .own-only .ensures) ∙ c .before .before .if1 .taken) (a .joint) t)
 
 word-at-requires : tie.Need-word-at-requires
 word-at-requires c κs = search needs

@@ -15,7 +15,7 @@ returns : tie.Need-returns
 returns c =
     let a = c .before .before .before .before .before .before .args in
     let k = c .before .before .before .before .tally-at in
-    let g = besideG (partnersT (row (a .d .now) (a .two .second)) (closing (a .w)) (closing (a .x))) (a .g) in
+    let g = besideG (a .joint) (partnersT (row (a .d .now) (a .two .second)) (closing (a .w)) (closing (a .x))) (a .g) in
     nothing-weighs (k .result) g (c .if1 .taken) ∙ ap (λ x. total x g) (k .ensures)
 
 beside-requires : tie.Need-beside-requires

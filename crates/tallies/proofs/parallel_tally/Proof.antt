@@ -22,14 +22,12 @@ returns-2 c = simp (ne-eqb _ _ (c .before .before .before .if1 .left), eq-eqb _ 
 
 returns-3 : tie.Need-returns-3
 returns-3 c =
-    let sums = c .before .before .before in
-    let products = sums .before in
-    let views = products .before .before .before .before in
+    let sides = c .before .before .before in
+    let views = sides .before .before .before in
     let tests = views .before .before in
-    beside _ _ (ne-eqb _ _ (tests .before .before .if1 .left)) (ne-eqb _ _ (tests .if2 .left)) (views .before .any-view .ensures) (views .any-view2 .ensures)
-    (products .before .before .before .product .ensures) (products .before .before .product2 .ensures)
-    (products .before .product3 .ensures) (products .product4 .ensures) (sums .sum .ensures)
+    beside _ _ _ (ne-eqb _ _ (tests .before .before .if1 .left)) (ne-eqb _ _ (tests .if2 .left)) (views .before .any-view .ensures) (views .any-view2 .ensures)
+    (sides .before .before .product .ensures) (sides .before .product2 .ensures) (sides .steps-beside .ensures)
     (c .before .before .both-end .ensures) (c .before .both-end2 .ensures) (c .tally-of .ensures)
 
 pub parallel-tally-spec : {M : Type 1} → statement M
-parallel-tally-spec = tie.close (tie.spec (λ _ _. tt) returns (λ _ _. tt) returns-2 (λ _ _. tt) (λ _ _. tt) (λ _ _. tt) (λ _ _. tt) (λ _ _. tt) (λ _ _. tt) (λ _ _. tt) both-end-requires both-end-requires-2 (λ _ _. tt) returns-3)
+parallel-tally-spec = tie.close (tie.spec (λ _ _. tt) returns (λ _ _. tt) returns-2 (λ _ _. tt) (λ _ _. tt) (λ _ _. tt) (λ _ _. tt) (λ _ _. tt) both-end-requires both-end-requires-2 (λ _ _. tt) returns-3)

@@ -21,7 +21,7 @@ returns c =
       c .before .both-end3 .ensures,
       c .before .before .both-end2 .ensures,
       c .before .before .before .both-end .ensures,
-      c .before .before .before .before .sum .ensures,
+      c .before .before .before .before .sides .ensures,
     )
 
 pub parallel-view-spec : {M : Type 1} → statement M

@@ -21,7 +21,7 @@ returns c =
       c .before .both-tally3 .ensures,
       c .before .before .both-tally2 .ensures,
       c .before .before .before .both-tally .ensures,
-      c .before .before .before .before .sum .ensures,
+      c .before .before .before .before .sides .ensures,
     )
 
 pub parallel-word-spec : {M : Type 1} → statement M

@@ -2,48 +2,37 @@
 -- ensure. Assumes nothing.
 use mathlib.Core.Path.{sym, _∙_}
 use native.Mathlib.Omega.{arith}
-use borrow.Author.Needs.{needs}
 use Rattle.tallies.specs.OwnLaws.{own-within}
 use Rattle.tallies.specs.Formulas.{withinG}
 use Rattle.tallies.proofs.weight_within.Statement.{statement}
 use Rattle.tallies.proofs.weight_within.Tie as tie
 
-own-only-requires : tie.Need-own-only-requires
-own-only-requires c κs = search needs
-
 returns : tie.Need-returns
-returns c = sym (own-within (c .before .before .args .g) (sym (c .before .own-only .ensures) ∙ c .if1 .taken) (omega arith) (c .before .before .args .moves) (c .before .before .args .able))
-
-product-requires : tie.Need-product-requires
-product-requires c κs = search needs
-
-sum-requires : tie.Need-sum-requires
-sum-requires c κs = search needs
-
-if-able-requires : tie.Need-if-able-requires
-if-able-requires c κs = search needs
-
-weight-of-requires : tie.Need-weight-of-requires
-weight-of-requires c κs = search needs
+returns c =
+    let a = c .before .before .args in
+    sym (own-within (a .g) (sym (c .before .own-only .ensures) ∙ c .if1 .taken) (omega arith) (a .joint) (a .moves) (a .able))
 
 returns-2 : tie.Need-returns-2
 unfolding withinG
 returns-2 c =
     simp (
+      c .before .if2 .taken,
       c .weight-of .ensures,
-      c .before .if-able .ensures,
-      c .before .before .sum .ensures,
+      c .before .before .if-able .ensures,
       c .before .before .before .product .ensures,
     )
 
+returns-3 : tie.Need-returns-3
+unfolding withinG
+returns-3 c =
+    let test = c .before .before in
+    simp (
+      test .if2 .left,
+      c .weight-of2 .ensures,
+      c .before .sum .ensures,
+      test .before .if-able .ensures,
+      test .before .before .product .ensures,
+    )
+
 pub weight-within-spec : {M : Type 1} → statement M
-weight-within-spec =
-    tie.close
-    (tie.spec
-    own-only-requires
-    returns
-    product-requires
-    sum-requires
-    if-able-requires
-    weight-of-requires
-    returns-2)
+weight-within-spec = tie.close (tie.spec (λ _ _. tt) returns (λ _ _. tt) (λ _ _. tt) (λ _ _. tt) (λ _ _. tt) (λ _ _. tt) returns-2 returns-3)

@@ -27,9 +27,9 @@ returns c =
     let w = c .before .before .write-case .ensures in
     let at-judge = c .before .before .before .before .before .before .before in
     let at-fill = at-judge .before .before .before .before in
-    let args = at-fill .before .before .before .before .before .before .args in
+    let args = at-fill .before .before .before .before .before .before .before .args in
     let j = at-judge .judge .ensures in (
-      case-clean (judge-check (now (args .nodes)) (now (args .records))) (length (now (args .work))) (at-fill .fill .ensures) j (w .0),
+      case-clean (judge-check (now (args .sets)) (now (args .nodes)) (now (args .records))) (length (now (args .work))) (at-fill .fill .ensures) j (w .0),
       (rw (at-fill .fill .ensures) at (j .leaves), w .1),
     )
 

@@ -2,7 +2,7 @@
 use denote.Ref.{now}
 use lib.ListN.{length}
 use borrow.Author.Needs.{needs}
-use Rattle.judge.specs.Judged.{named-judge-check}
+use Rattle.judge.specs.Judged.{named-judge-check, named-flow}
 use Rattle.replay.specs.PromisedLaws.{case-clean}
 use Rattle.replay.proofs.judge_line.judge_named_lists.Statement.{statement}
 use Rattle.replay.proofs.judge_line.judge_named_lists.Tie as tie
@@ -27,9 +27,9 @@ returns c =
     let w = c .before .before .write-case .ensures in
     let at-judge = c .before .before .before .before .before .before .before in
     let at-fill = at-judge .before .before .before .before in
-    let args = at-fill .before .before .before .before .before .before .before .args in
+    let args = at-fill .before .before .before .before .before .before .before .before .args in
     let j = at-judge .judge-named .ensures in (
-      case-clean (named-judge-check (now (args .names)) (now (args .nodes)) (now (args .records))) (length (now (args .work))) (at-fill .fill .ensures) j (w .0),
+      case-clean (named-judge-check (now (args .names)) (now (args .sets)) (now (args .nodes)) (now (args .records))) (length (now (args .work))) {flow = named-flow (now (args .names)) (now (args .sets)) (now (args .nodes))} (at-fill .fill .ensures) j (w .0),
       (rw (at-fill .fill .ensures) at (j .leaves), w .1),
     )
 

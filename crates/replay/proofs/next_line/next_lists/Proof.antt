@@ -18,12 +18,12 @@ next-requires c κs = search needs
 
 clean-requires : tie.Need-clean-requires
 clean-requires c κs =
-    let p = c .before .before .before .before .before .before .before .before .before .before .before .before .before .before .before .before .before .before .before .before .before .before .pre in
+    let p = c .before .before .before .before .before .before .before .before .before .before .before .before .before .before .before .before .before .before .before .before .before .before .before .pre in
     (p .0, p .1 .0)
 
 write-case-requires : tie.Need-write-case-requires
 write-case-requires c κs =
-    let p = c .before .before .before .before .before .before .before .before .before .before .before .before .before .before .before .before .before .before .before .before .before .before .before .before .before .pre in
+    let p = c .before .before .before .before .before .before .before .before .before .before .before .before .before .before .before .before .before .before .before .before .before .before .before .before .before .before .pre in
     (next-tellable (c .before .before .before .before .before .before .before .before .before .next .ensures), p .1 .1)
 
 same-length : tie.Need-same-length
@@ -37,12 +37,12 @@ same-length-3 c = search needs
 
 returns : tie.Need-returns
 returns c =
-    let s = c .before .before .before .before .before .before .before .before .before .before .before .before .before .before .before .before .before .before .before .before .before .before .before .before .before .before .before .before in
+    let s = c .before .before .before .before .before .before .before .before .before .before .before .before .before .before .before .before .before .before .before .before .before .before .before .before .before .before .before .before .before in
     let filled = c .before .before .before .before .before .before .before .before .before .before .before .before .before .before .before .before .before .before .before .before .before .fill-numbers .ensures in
     let cleaned = c .before .before .before .before .before .before .before .before .before .before .before .before .before .before .before .before .before .fill .ensures in
     let h = c .before .before .before .before .before .before .before .before .before .before .before .before .next .ensures in
     let w = c .before .before .write-case .ensures in
-    (next-case (next-check (now (s .args .nodes)) (now (s .args .records))) (length (now (s .args .list))) (length (now (s .args .work))) filled cleaned h (c .before .before .before .before .before .clean .ensures) (w .0), w .1)
+    (next-case (next-check (now (s .args .sets)) (now (s .args .nodes)) (now (s .args .records))) (length (now (s .args .list))) (length (now (s .args .work))) filled cleaned h (c .before .before .before .before .before .clean .ensures) (w .0), w .1)
 
 pub next-lists-spec : {M : Type 1} → statement M
 next-lists-spec =

@@ -2,6 +2,7 @@
 use lib.ListN.{length}
 use denote.Ref.{now}
 use borrow.Author.Needs.{needs}
+use Rattle.judge.specs.Judged.{named-flow}
 use Rattle.ahead.specs.Outcome.{named-next-check}
 use Rattle.replay.specs.NextLineLaws.{next-tellable, next-case}
 use Rattle.replay.proofs.next_line.next_named_lists.Statement.{statement}
@@ -18,12 +19,12 @@ next-named-requires c κs = search needs
 
 clean-requires : tie.Need-clean-requires
 clean-requires c κs =
-    let p = c .before .before .before .before .before .before .before .before .before .before .before .before .before .before .before .before .before .before .before .before .before .before .before .pre in
+    let p = c .before .before .before .before .before .before .before .before .before .before .before .before .before .before .before .before .before .before .before .before .before .before .before .before .pre in
     (p .0, p .1 .0)
 
 write-case-requires : tie.Need-write-case-requires
 write-case-requires c κs =
-    let p = c .before .before .before .before .before .before .before .before .before .before .before .before .before .before .before .before .before .before .before .before .before .before .before .before .before .before .pre in
+    let p = c .before .before .before .before .before .before .before .before .before .before .before .before .before .before .before .before .before .before .before .before .before .before .before .before .before .before .before .pre in
     (next-tellable (c .before .before .before .before .before .before .before .before .before .next-named .ensures), p .1 .1)
 
 same-length : tie.Need-same-length
@@ -37,12 +38,12 @@ same-length-3 c = search needs
 
 returns : tie.Need-returns
 returns c =
-    let s = c .before .before .before .before .before .before .before .before .before .before .before .before .before .before .before .before .before .before .before .before .before .before .before .before .before .before .before .before .before in
+    let s = c .before .before .before .before .before .before .before .before .before .before .before .before .before .before .before .before .before .before .before .before .before .before .before .before .before .before .before .before .before .before in
     let filled = c .before .before .before .before .before .before .before .before .before .before .before .before .before .before .before .before .before .before .before .before .before .fill-numbers .ensures in
     let cleaned = c .before .before .before .before .before .before .before .before .before .before .before .before .before .before .before .before .before .fill .ensures in
     let h = c .before .before .before .before .before .before .before .before .before .before .before .before .next-named .ensures in
     let w = c .before .before .write-case .ensures in
-    (next-case (named-next-check (now (s .args .names)) (now (s .args .nodes)) (now (s .args .records))) (length (now (s .args .list))) (length (now (s .args .work))) filled cleaned h (c .before .before .before .before .before .clean .ensures) (w .0), w .1)
+    (next-case (named-next-check (now (s .args .names)) (now (s .args .sets)) (now (s .args .nodes)) (now (s .args .records))) (length (now (s .args .list))) (length (now (s .args .work))) {flow = named-flow (now (s .args .names)) (now (s .args .sets)) (now (s .args .nodes))} filled cleaned h (c .before .before .before .before .before .clean .ensures) (w .0), w .1)
 
 pub next-named-lists-spec : {M : Type 1} → statement M
 next-named-lists-spec =

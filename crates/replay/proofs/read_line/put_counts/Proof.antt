@@ -1,4 +1,4 @@
--- `replay::read_line::put_counts` meets its contract: its four texts, one after the other. Assumes nothing.
+-- `replay::read_line::put_counts` meets its contract: its five texts, one after the other. Assumes nothing.
 use native.Mathlib.Omega.{arith}
 use borrow.Author.Needs.{needs}
 use Rattle.line.specs.LineLaws.{put-then}
@@ -30,18 +30,22 @@ cast-put-number-3 c = search needs
 put-number-requires-3 : tie.Need-put-number-requires-3
 put-number-requires-3 c κs = search needs
 
+put-sets-requires : tie.Need-put-sets-requires
+put-sets-requires c κs = search needs
+
 same-length : tie.Need-same-length
 same-length c = search needs
 
 returns : tie.Need-returns
 unfolding counts-text
 returns c =
-    let n0 = c .before .before .before .before .before .before .before .before .before .before .before .before .before .before .before .before .before .put in
-    let n1 = c .before .before .before .before .before .before .before .before .before .before .before .before .put-number in
-    let n2 = c .before .before .before .before .before .before .before .put-number2 in
-    let n3 = c .before .before .put-number3 in
-    let p = c .before .before .before .before .before .before .before .before .before .before .before .before .before .before .before .before .before .before .before .before .before .pre in
-    (put-then (n0 .ensures) (omega (arith, n0 .ensures .end)) (put-then (n1 .ensures .0) (omega arith) (put-then (n2 .ensures .0) (omega arith) (n3 .ensures .0))), omega (arith, n0 .ensures .end))
+    let n0 = c .before .before .before .before .before .before .before .before .before .before .before .before .before .before .before .before .before .before .before .before .before .put in
+    let n1 = c .before .before .before .before .before .before .before .before .before .before .before .before .before .before .before .before .put-number in
+    let n2 = c .before .before .before .before .before .before .before .before .before .before .before .put-number2 in
+    let n3 = c .before .before .before .before .before .before .put-number3 in
+    let n4 = c .before .before .put-sets in
+    let p = c .before .before .before .before .before .before .before .before .before .before .before .before .before .before .before .before .before .before .before .before .before .before .before .before .before .pre in
+    (put-then (n0 .ensures) (omega (arith, n0 .ensures .end)) (put-then (n1 .ensures .0) (omega arith) (put-then (n2 .ensures .0) (omega arith) (put-then (n3 .ensures .0) (omega arith) (n4 .ensures .0)))), omega (arith, n0 .ensures .end))
 
 pub put-counts-spec : {M : Type 1} → statement M
 put-counts-spec =
@@ -55,5 +59,6 @@ put-counts-spec =
     put-number-requires-2
     cast-put-number-3
     put-number-requires-3
+    put-sets-requires
     same-length
     returns)

@@ -1,7 +1,7 @@
 -- `replay::read_line::put_reading` meets its contract, case by case. Assumes nothing.
 use native.Mathlib.Omega.{arith}
 use borrow.Author.Needs.{needs}
-use Rattle.replay.specs.ReadLine.{read-text}
+use Rattle.replay.specs.ReadLine.{sets-place, read-text}
 use Rattle.replay.proofs.read_line.put_reading.Statement.{statement}
 use Rattle.replay.proofs.read_line.put_reading.Tie as tie
 
@@ -9,7 +9,11 @@ enum-known-answer : tie.Need-enum-known-answer
 enum-known-answer c = search needs
 
 put-counts-requires : tie.Need-put-counts-requires
-put-counts-requires c κs = search needs
+unfolding sets-place
+put-counts-requires c κs =
+    let e = c .before .before .answer .given .1 in
+    let p = c .before .before .before .before .before .pre in
+    (rw e at (p .0), p .1)
 
 enum-known-answer-2 : tie.Need-enum-known-answer-2
 enum-known-answer-2 c = search needs

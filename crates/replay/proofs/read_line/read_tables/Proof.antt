@@ -6,7 +6,7 @@ use lib.Seq.{length-take-le}
 use borrow.Author.Needs.{needs}
 use denote.Ref.{now}
 use Rattle.line.specs.LineLaws.{put-length}
-use Rattle.replay.specs.ReadLineLaws.{nodes-left, records-left, read-line-clean}
+use Rattle.replay.specs.ReadLineLaws.{place-short, nodes-left, records-left, read-line-clean}
 use Rattle.replay.proofs.read_line.read_tables.Statement.{statement}
 use Rattle.replay.proofs.read_line.read_tables.Tie as tie
 
@@ -23,7 +23,7 @@ clean-requires : tie.Need-clean-requires
 clean-requires c κs = search needs
 
 write-case-requires : tie.Need-write-case-requires
-write-case-requires c κs = search needs
+write-case-requires c κs = (place-short (c .before .before .before .before .before .before .before .before .read .ensures), search needs)
 
 same-length : tie.Need-same-length
 same-length c = search needs

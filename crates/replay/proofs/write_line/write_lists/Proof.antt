@@ -30,7 +30,7 @@ same-length-2 c = search needs
 
 returns : tie.Need-returns
 returns c =
-    let s = c .before .before .before .before .before .before .before .before .before .before .before .before .before .before .before .before .before .before .before in
+    let s = c .before .before .before .before .before .before .before .before .before .before .before .before .before .before .before .before .before .before .before .before in
     let room = length (now (s .args .file)) in
     let f = c .before .before .before .before .before .before .before .before .before .before .before .before .fill .ensures in
     let h = c .before .before .before .before .before .before .before .before .write .ensures in
