@@ -1,6 +1,6 @@
 -- The flow that a node table means. `Draws legend ns i s`: node i of the table draws the part s, one constructor to a form of node, where the
--- legend says which records an event's number takes and which events are joint in a set: `plain` (Legends) where no names are lent, `named`
--- (format, Matching) where they are.
+-- legend says which records an event's number takes and which events are joint in a set: `plain` (Legends) where no names are lent,
+-- `with-names` (format, Matching) where they are.
 -- Definitions only: OneFlow proves that a table that is not refused draws exactly one flow, `flow-by` it (Drawn). Assumes nothing.
 use Prim.Native.Nat.{ℕ}
 use mathlib.Core.Path.{_≡_}
