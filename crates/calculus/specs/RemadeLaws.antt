@@ -22,6 +22,33 @@ use Rattle.calculus.specs.Renamed.{visit-renamed, passes-renamed}
 use Rattle.calculus.specs.DeafLaws.{deaf-moves, deaf-still}
 use Rattle.calculus.specs.Remade.{remade, cremade, remade-state, above, loose-leaf, loose-set, loose, idle, Passable, Apart}
 
+-- A map that goes through the operations of a sort carries its laws ------------------------------------------------------------------
+
+record Carries {P : Type 0} (skip throw : P) (seq alt : P → P → P) (par : Joint → P → P → P) (m : P → P) (g : Joint → Joint) : Type 0 where
+  skip-is : m skip ≡ skip
+  throw-is : m throw ≡ throw
+  seq-is : (p q : P) → m (seq p q) ≡ seq (m p) (m q)
+  alt-is : (p q : P) → m (alt p q) ≡ alt (m p) (m q)
+  par-is : (j : Joint) (p q : P) → m (par j p q) ≡ par (g j) (m p) (m q)
+  none-is : g none ≡ none
+
+module _ {P : Type 0} {skip throw : P} {seq alt : P → P → P} {par : Joint → P → P → P} {m : P → P} {g : Joint → Joint} (c : Carries skip throw seq alt par m g) where
+  carried : {p q : P} → Law skip throw seq alt par p q → Law skip throw seq alt par (m p) (m q)
+  carried (seq-assoc {p} {q} {r}) = rw (c .seq-is (seq p q) r, c .seq-is p q, c .seq-is p (seq q r), c .seq-is q r) seq-assoc
+  carried (seq-unit-left {p}) = rw (c .seq-is skip p, c .skip-is) seq-unit-left
+  carried (seq-unit-right {p}) = rw (c .seq-is p skip, c .skip-is) seq-unit-right
+  carried (seq-throw {p}) = rw (c .seq-is throw p, c .throw-is) seq-throw
+  carried (alt-comm {p} {q}) = rw (c .alt-is p q, c .alt-is q p) alt-comm
+  carried (alt-assoc {p} {q} {r}) = rw (c .alt-is (alt p q) r, c .alt-is p q, c .alt-is p (alt q r), c .alt-is q r) alt-assoc
+  carried (alt-self {p}) = rw (c .alt-is p p) alt-self
+  carried (par-comm {j} {p} {q}) = rw (c .par-is j p q, c .par-is j q p) par-comm
+  carried (par-assoc {j} {p} {q} {r}) = rw (c .par-is j (par j p q) r, c .par-is j p q, c .par-is j p (par j q r), c .par-is j q r) par-assoc
+  carried (par-unit {p}) = rw (c .par-is none skip p, c .skip-is, c .none-is) par-unit
+  carried (seq-alt-left {p} {q} {r}) = rw (c .seq-is (alt p q) r, c .alt-is p q, c .alt-is (seq p r) (seq q r), c .seq-is p r, c .seq-is q r) seq-alt-left
+  carried (seq-alt-right {p} {q} {r}) = rw (c .seq-is p (alt q r), c .alt-is q r, c .alt-is (seq p q) (seq p r), c .seq-is p q, c .seq-is p r) seq-alt-right
+  carried (par-alt-left {j} {p} {q} {r}) = rw (c .par-is j (alt p q) r, c .alt-is p q, c .alt-is (par j p r) (par j q r), c .par-is j p r, c .par-is j q r) par-alt-left
+  carried (par-alt-right {j} {p} {q} {r}) = rw (c .par-is j p (alt q r), c .alt-is q r, c .alt-is (par j p q) (par j p r), c .par-is j p q, c .par-is j p r) par-alt-right
+
 module _ (f : Leaf → Leaf) (g : Joint → Joint) where
   -- What is put in ------------------------------------------------------------------------------------------------------------------
 
@@ -53,37 +80,11 @@ module _ (f : Leaf → Leaf) (g : Joint → Joint) where
   -- The laws --------------------------------------------------------------------------------------------------------------------------
 
   module _ (e : g none ≡ none) where
-    std-law : {p q : Std} → Law skip throw seq alt par p q → Same (remade f g p) (remade f g q)
-    std-law seq-assoc = law seq-assoc
-    std-law seq-unit-left = law seq-unit-left
-    std-law seq-unit-right = law seq-unit-right
-    std-law seq-throw = law seq-throw
-    std-law alt-comm = law alt-comm
-    std-law alt-assoc = law alt-assoc
-    std-law alt-self = law alt-self
-    std-law par-comm = law par-comm
-    std-law par-assoc = law par-assoc
-    std-law (par-unit {p}) = subst (λ j. Same (par j skip (remade f g p)) (remade f g p)) (sym e) (law par-unit)
-    std-law seq-alt-left = law seq-alt-left
-    std-law seq-alt-right = law seq-alt-right
-    std-law par-alt-left = law par-alt-left
-    std-law par-alt-right = law par-alt-right
+    std-carries : Carries skip throw seq alt par (remade f g) g
+    std-carries = record { skip-is = refl; throw-is = refl; seq-is = λ p q. refl; alt-is = λ p q. refl; par-is = λ j p q. refl; none-is = e }
 
-    cmp-law : {pp qq : Cmp} → Law skipp throww cseq calt cpar pp qq → CSame (cremade f g pp) (cremade f g qq)
-    cmp-law seq-assoc = claw seq-assoc
-    cmp-law seq-unit-left = claw seq-unit-left
-    cmp-law seq-unit-right = claw seq-unit-right
-    cmp-law seq-throw = claw seq-throw
-    cmp-law alt-comm = claw alt-comm
-    cmp-law alt-assoc = claw alt-assoc
-    cmp-law alt-self = claw alt-self
-    cmp-law par-comm = claw par-comm
-    cmp-law par-assoc = claw par-assoc
-    cmp-law (par-unit {p}) = subst (λ j. CSame (cpar j skipp (cremade f g p)) (cremade f g p)) (sym e) (claw par-unit)
-    cmp-law seq-alt-left = claw seq-alt-left
-    cmp-law seq-alt-right = claw seq-alt-right
-    cmp-law par-alt-left = claw par-alt-left
-    cmp-law par-alt-right = claw par-alt-right
+    cmp-carries : Carries skipp throww cseq calt cpar (cremade f g) g
+    cmp-carries = record { skip-is = refl; throw-is = refl; seq-is = λ p q. refl; alt-is = λ p q. refl; par-is = λ j p q. refl; none-is = e }
 
     mutual
       std-same : {p q : Std} → Same p q → Same (remade f g p) (remade f g q)
@@ -95,7 +96,7 @@ module _ (f : Leaf → Leaf) (g : Joint → Joint) where
       std-same (in-par h k) = in-par (std-same h) (std-same k)
       std-same (in-hnd h k) = in-hnd (std-same h) (std-same k)
       std-same (in-blk h) = in-blk (cmp-same h)
-      std-same (law h) = std-law h
+      std-same (law h) = law (carried std-carries h)
       std-same hnd-assoc = hnd-assoc
       std-same hnd-throw-right = hnd-throw-right
       std-same hnd-throw-left = hnd-throw-left
@@ -114,7 +115,7 @@ module _ (f : Leaf → Leaf) (g : Joint → Joint) where
       cmp-same (in-cseq h k) = in-cseq (cmp-same h) (cmp-same k)
       cmp-same (in-calt h k) = in-calt (cmp-same h) (cmp-same k)
       cmp-same (in-cpar h k) = in-cpar (cmp-same h) (cmp-same k)
-      cmp-same (claw h) = cmp-law h
+      cmp-same (claw h) = claw (carried cmp-carries h)
 
     pub redrawn-remade : {s t : State} → Redrawn s t → Redrawn (remade-state f g s) (remade-state f g t)
     redrawn-remade (standard h) = standard (std-same h)
