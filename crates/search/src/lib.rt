@@ -75,7 +75,7 @@ fn root_of(ns: &[u16]) -> usize
 }
 
 // How many successors a state has by an event.
-fn successors(ns: &[u16], t: &[u8], cue: u64, c: &mut [u32; 64], role: Role) -> u32
+fn successors(ns: &[u16], t: &[u8], cue: u64, c: &mut [u32; 64], d: &mut [u32; 576], role: Role) -> u32
     requires { ⌜ Spot (now ns) (now t) (root (now ns)) ⌝ }
     requires { ⌜ (3 ≤ length (now ns)) × (cue < done-cue) ⌝ }
     ensures { λ r. ⌜ SuccessorsCounted (now (ns .entry)) role cue (now (t .entry)) (now (c .exit)) r ⌝ }
@@ -83,25 +83,19 @@ fn successors(ns: &[u16], t: &[u8], cue: u64, c: &mut [u32; 64], role: Role) -> 
     let i = root_of(ns);
     match role {
         Role::Plain(sense) => {
-            let v = counting::count_std(ns, t, cue, c, i, sense);
+            let v = counting::count_std(ns, t, cue, c, d, i, sense);
             v.moves
         }
         Role::Running => {
-            let w = counting::count_run(ns, t, cue, c, i);
-            w.moves
+            let w = counting::count_run(ns, t, cue, c, d, i);
+            if cue < flow::DONE_CUE {
+                w.moves
+            } else {
+                let y = tallies::tally_by(w, rank_of(cue));
+                y.many
+            }
         }
     }
-}
-
-// How many a part that runs has by a closing. What is known of its parts is kept in d, for the compensations to be chosen by.
-fn closings(ns: &[u16], t: &[u8], cue: u64, d: &mut [u32; 576]) -> u32
-    requires { ⌜ Spot (now ns) (now t) (root (now ns)) ⌝ }
-    requires { ⌜ (3 ≤ length (now ns)) × ((done-cue ≤ cue) × (cue ≤ failed-cue)) ⌝ }
-    ensures { λ r. ⌜ ClosingsCounted (now (ns .entry)) cue (now (t .entry)) (now (d .exit)) r ⌝ }
-{
-    let w = seek::weigh(ns, t, cue, d, root_of(ns));
-    let y = tallies::tally_by(w, rank_of(cue));
-    y.many
 }
 
 // The modes become those of the k-th successor.
@@ -113,16 +107,18 @@ fn apply(ns: &[u16], t: &mut [u8], cue: u64, c: &[u32; 64], d: &[u32], role: Rol
     ensures { λ r. ⌜ Applied (now (ns .entry)) role cue (now (t .entry)) k (now (t .exit)) ⌝ }
 {
     let i = root_of(ns);
+    let mut u = *c;
     match role {
-        Role::Plain(sense) => steps::step_std(ns, t, cue, c, i, sense, k),
+        Role::Plain(sense) => steps::step_std(ns, t, cue, &mut u, d, i, sense, k),
         Role::Running => {
             if cue < flow::DONE_CUE {
-                steps::step_run(ns, t, cue, c, i, k);
+                steps::step_run(ns, t, cue, &mut u, d, i, k);
             } else {
                 seek::choose(
                     ns,
                     t,
                     cue,
+                    &mut u,
                     d,
                     i,
                     rank_of(cue),
@@ -162,9 +158,10 @@ fn can_end(ns: &[u16], t: &[u8], cue: u64, role: Role) -> bool
 {
     let i = root_of(ns);
     let mut c = [0u32; 64];
+    let mut d = [0u32; 576];
     match role {
         Role::Plain(sense) => {
-            let v = counting::count_std(ns, t, cue, &mut c, i, sense);
+            let v = counting::count_std(ns, t, cue, &mut c, &mut d, i, sense);
             ends_by(v, cue)
         }
         Role::Running => false,
@@ -205,7 +202,8 @@ fn closes_by(ns: &[u16], t: &[u8], cue: u64, role: Role) -> bool
         Role::Plain(_) => can_end(ns, t, cue, role),
         Role::Running => {
             let mut c = [0u32; 64];
-            let w = counting::count_run(ns, t, cue, &mut c, root_of(ns));
+            let mut d = [0u32; 576];
+            let w = counting::count_run(ns, t, cue, &mut c, &mut d, root_of(ns));
             let y = tallies::tally_by(w, rank_of(cue));
             y.many > 0
         }
@@ -222,7 +220,8 @@ fn follows(ns: &[u16], t: &[u8], cue: u64, role: Role) -> bool
         return closes_by(ns, t, cue, role);
     }
     let mut c = [0u32; 64];
-    successors(ns, t, cue, &mut c, role) > 0
+    let mut d = [0u32; 576];
+    successors(ns, t, cue, &mut c, &mut d, role) > 0
 }
 
 // An ask whose record can follow in this state is answered; others stay.
@@ -406,16 +405,6 @@ fn further(far: u32, below: u32) -> u32
     if far < below + 1 { below + 1 } else { far }
 }
 
-// Whether a part that runs closes.
-fn closes(role: Role, cue: u64) -> bool
-    ensures { λ r. ⌜ r ≡ closes role cue ⌝ }
-{
-    match role {
-        Role::Plain(_) => false,
-        Role::Running => cue >= flow::DONE_CUE,
-    }
-}
-
 // Whether a standard part closes: then nothing is left of it.
 fn ends(role: Role, cue: u64) -> bool
     ensures { λ r. ⌜ r ≡ ends role cue ⌝ }
@@ -443,48 +432,9 @@ fn visit_each(
     requires { ⌜ ends role (getD (now cues) 0 0) ≡ false ⌝ }
     ensures { λ r. ⌜ Tried (quest (now (ns .entry)) (now (cues .entry)) (now (work .entry)) role (now (asks .entry)) left (memory (now (modes .entry)) (now (marks .entry)))) (now (work .exit)) (now (asks .exit)) (memory (now (modes .exit)) (now (marks .exit))) r ⌝ }
 {
-    if closes(role, cues[0]) {
-        return visit_closing(ns, cues, work, role, asks, left, modes, marks);
-    }
     let mut c = [0u32; 64];
-    let many = successors(ns, work, cues[0], &mut c, role);
-    let none = [0u32; 1];
-    try_each(
-        ns,
-        cues,
-        work,
-        role,
-        asks,
-        left,
-        modes,
-        marks,
-        &c,
-        &none[..0],
-        many,
-    )
-}
-
-// Those by a closing of a part that runs: its compensations.
-fn visit_closing(
-    ns: &[u16],
-    cues: &[u64],
-    work: &mut [u8],
-    role: Role,
-    asks: &mut [u64],
-    left: u32,
-    modes: &mut [u8],
-    marks: &mut [u32],
-) -> Out
-    requires { ⌜ VisitReady (now ns) (now cues) (now work) role ⌝ }
-    requires { ⌜ Truthful (now ns) (now cues) (now asks) (memory (now modes) (now marks)) ⌝ }
-    requires { ⌜ (1 ≤ length (now cues)) × (left < most) ⌝ }
-    requires { ⌜ ends role (getD (now cues) 0 0) ≡ false ⌝ }
-    requires { ⌜ closes role (getD (now cues) 0 0) ≡ true ⌝ }
-    ensures { λ r. ⌜ Tried (quest (now (ns .entry)) (now (cues .entry)) (now (work .entry)) role (now (asks .entry)) left (memory (now (modes .entry)) (now (marks .entry)))) (now (work .exit)) (now (asks .exit)) (memory (now (modes .exit)) (now (marks .exit))) r ⌝ }
-{
-    let c = [0u32; 64];
     let mut d = [0u32; 576];
-    let many = closings(ns, work, cues[0], &mut d);
+    let many = successors(ns, work, cues[0], &mut c, &mut d, role);
     try_each(ns, cues, work, role, asks, left, modes, marks, &c, &d, many)
 }
 

@@ -7,7 +7,6 @@ use flow::Operator;
 use flow::Two;
 use states::Course;
 use states::Picked;
-use states::Sense;
 use tallies::Tally;
 use tallies::Weight;
 use tallies::Word;
@@ -39,59 +38,6 @@ fn share(d: &[u32], k: usize) -> Tally
         moves: d[k + 2],
         withdraws: false,
         fails: false,
-    }
-}
-
-fn put(d: &mut [u32], k: usize, x: Tally)
-    requires { ⌜ k + 2 < length (now d) ⌝ }
-    ensures { λ _. ⌜ Shared (now (d .entry)) k x (now (d .exit)) ⌝ }
-{
-    d[k] = x.many;
-    d[k + 1] = x.able;
-    d[k + 2] = x.moves;
-}
-
-// What is known of node i's running part is kept, nine numbers a node, and answered.
-fn keep(d: &mut [u32; 576], i: usize, x: Word) -> Word
-    requires { ⌜ i < 64 ⌝ }
-    ensures { λ r. ⌜ r ≡ x ⌝ }
-    ensures kept { λ _. ⌜ Written (now (d .entry)) i x (now (d .exit)) ⌝ }
-{
-    put(d, 9 * i, x.done);
-    put(d, 9 * i + 3, x.withdrawn);
-    put(d, 9 * i + 6, x.failed);
-    x
-}
-
-// The running part of node i is counted, and what is known of it and of each part that runs in it is kept.
-pub fn weigh(ns: &[u16], t: &[u8], a: u64, d: &mut [u32; 576], i: usize) -> Word
-    requires { ⌜ Spot (now ns) (now t) i ⌝ }
-    ensures { λ r. ⌜ r ≡ word a (runs (now (ns .entry)) (now (t .entry)) i) ⌝ }
-    ensures weighed { λ _. ⌜ Weighed (scene (now (ns .entry)) (now (t .entry)) a) (now (d .exit)) i ⌝ }
-    ensures kept { λ _. ⌜ RowsKept (now (ns .entry)) i (now (d .entry)) (now (d .exit)) ⌝ }
-{
-    let course = states::course_at(ns, t, i);
-    match course {
-        Course::Basic(simple) => keep(d, i, counting::basic_word(simple)),
-        Course::Pair(_) => {
-            let mut c = [0u32; 64];
-            keep(d, i, counting::count_run(ns, t, a, &mut c, i))
-        }
-        Course::Both(operator, two) => {
-            let p = weigh(ns, t, a, d, two.first);
-            let q = weigh(ns, t, a, d, two.second);
-            keep(d, i, counting::both_word(a, operator, p, q))
-        }
-        Course::Held(two) => {
-            let mut c = [0u32; 64];
-            let k = counting::count_std(ns, t, a, &mut c, two.first, Sense::Undoing);
-            let q = weigh(ns, t, a, d, two.second);
-            keep(d, i, tallies::held_word(q, k))
-        }
-        Course::As(child) => {
-            let w = weigh(ns, t, a, d, child);
-            keep(d, i, w)
-        }
     }
 }
 
@@ -146,6 +92,17 @@ fn tally_at(d: &[u32], i: usize, w: u8) -> Tally
     ensures { λ r. ⌜ r ≡ byW (row (now (d .entry)) i) (closing w) ⌝ }
 {
     tallies::tally_by(word_at(d, i), w)
+}
+
+// The one compensation by done that is kept of node i, of a pair or of what is held, where j is left of the number.
+fn alone_at(d: &[u32], i: usize, j: u32) -> Picked
+{
+    let y = share(d, 9 * i);
+    Picked {
+        rest: j,
+        moves: y.moves,
+        able: y.able != 0,
+    }
 }
 
 // What all compensations of node i's running part by w weigh.
@@ -282,21 +239,12 @@ struct Query {
     number: u32,
 }
 
-// With nothing known yet.
-pub fn seek(ns: &[u16], t: &mut [u8], a: u64, i: usize, w: u8, g: Weight, j: u32) -> Picked
-    requires { ⌜ Spot (now ns) (now t) i ⌝ }
-    requires { ⌜ (w < 3) × (j < weight-of (scene (now ns) (now t) a) i (closing w) g) ⌝ }
-    ensures { λ r. ⌜ Chosen (scene (now (ns .entry)) (now (t .entry)) a) i (ask (closing w) g j) (now (t .exit)) r ⌝ }
-{
-    let none = [0u32; 1];
-    choose(ns, t, a, &none[..0], i, w, g, j)
-}
-
-// With what d keeps of the part and of those that run in it, or nothing.
+// Node i becomes one of its compensations, and the number of its steps takes the place of its own in c.
 pub fn choose(
     ns: &[u16],
     t: &mut [u8],
     a: u64,
+    c: &mut [u32; 64],
     d: &[u32],
     i: usize,
     w: u8,
@@ -304,57 +252,53 @@ pub fn choose(
     j: u32,
 ) -> Picked
     requires { ⌜ Spot (now ns) (now t) i ⌝ }
-    requires { ⌜ MayKnow (scene (now ns) (now t) a) (now d) i ⌝ }
+    requires { ⌜ Known (scene (now ns) (now t) a) (now c) (now d) i ⌝ }
     requires { ⌜ (w < 3) × (j < weight-of (scene (now ns) (now t) a) i (closing w) g) ⌝ }
     ensures { λ r. ⌜ Chosen (scene (now (ns .entry)) (now (t .entry)) a) i (ask (closing w) g j) (now (t .exit)) r ⌝ }
+    ensures counted { λ r. ⌜ Undone (scene (now (ns .entry)) (now (t .exit)) a) (now (d .entry)) i (now (c .entry)) (now (c .exit)) ⌝ }
+{
+    let p = choose_by(
+        ns,
+        t,
+        a,
+        c,
+        d,
+        i,
+        Query {
+            closing: w,
+            weight: g,
+            number: j,
+        },
+    );
+    c[i] = p.moves;
+    p
+}
+
+// By its course.
+fn choose_by(ns: &[u16], t: &mut [u8], a: u64, c: &mut [u32; 64], d: &[u32], i: usize, q: Query) -> Picked
 {
     let course = states::course_at(ns, t, i);
-    let q = Query {
-        closing: w,
-        weight: g,
-        number: j,
-    };
     match course {
         Course::Basic(_) => Picked {
-            rest: j,
+            rest: q.number,
             moves: 0,
             able: true,
         },
-        Course::Pair(two) => seek_pair(ns, t, a, i, two, w, j),
-        Course::Both(operator, two) => {
-            if d.len() == 0 {
-                choose_fresh(ns, t, a, i, operator, two, q)
-            } else {
-                choose_both(ns, t, a, d, i, operator, two, q)
-            }
+        Course::Pair(two) => seek_pair(ns, t, d, i, two, q.closing, q.number),
+        Course::Both(operator, two) => choose_both(ns, t, a, c, d, i, operator, two, q),
+        Course::Held(two) => {
+            let k = alone_at(d, two.first, q.number);
+            seek_second(ns, t, a, c, d, i, two, q.closing, q.weight, k)
         }
-        Course::Held(two) => seek_held(ns, t, a, d, i, two, q),
-        Course::As(child) => choose(ns, t, a, d, child, w, g, j),
+        Course::As(child) => choose(ns, t, a, c, d, child, q.closing, q.weight, q.number),
     }
-}
-
-// Both parts run, and nothing is known of them yet.
-fn choose_fresh(
-    ns: &[u16],
-    t: &mut [u8],
-    a: u64,
-    i: usize,
-    operator: Operator,
-    two: Two,
-    q: Query,
-) -> Picked
-    requires { ⌜ Wanted (scene (now ns) (now t) a) i (Both operator two) (q .closing) (q .weight) (q .number) ⌝ }
-    ensures { λ r. ⌜ Chosen (scene (now (ns .entry)) (now (t .entry)) a) i (asked q) (now (t .exit)) r ⌝ }
-{
-    let mut d = [0u32; 576];
-    weigh(ns, t, a, &mut d, i);
-    choose_both(ns, t, a, &d, i, operator, two, q)
 }
 
 fn choose_both(
     ns: &[u16],
     t: &mut [u8],
     a: u64,
+    c: &mut [u32; 64],
     d: &[u32],
     i: usize,
     operator: Operator,
@@ -366,28 +310,19 @@ fn choose_both(
     ensures { λ r. ⌜ Chosen (scene (now (ns .entry)) (now (t .entry)) a) i (asked q) (now (t .exit)) r ⌝ }
 {
     match operator {
-        Operator::Sequence => seek_running(ns, t, a, d, i, two, q),
-        Operator::Choice => seek_choice(ns, t, a, d, i, two, q),
-        Operator::Parallel(set) => seek_parallel(ns, t, a, d, i, set, two, q),
+        Operator::Sequence => seek_running(ns, t, a, c, d, i, two, q),
+        Operator::Choice => seek_choice(ns, t, a, c, d, i, two, q),
+        Operator::Parallel(set) => seek_parallel(ns, t, a, c, d, i, set, two, q),
     }
 }
 
 // P÷Q has one compensation by each closing. P is passed, by all of them.
-fn seek_pair(ns: &[u16], t: &mut [u8], a: u64, i: usize, two: Two, w: u8, j: u32) -> Picked
-    requires { ⌜ Spot (now ns) (now t) i ⌝ }
-    requires { ⌜ course-at (now ns) (now t) i ≡ Pair two ⌝ }
-    ensures { λ r. ⌜ PairChosen (scene (now (ns .entry)) (now (t .entry)) a) i (closing w) j (now (t .exit)) r ⌝ }
+fn seek_pair(ns: &[u16], t: &mut [u8], d: &[u32], i: usize, two: Two, w: u8, j: u32) -> Picked
 {
     states::redraw(ns, t, two.first);
     if w == tallies::RANK_DONE {
         states::set_mode(t, i, states::LEFT_SECOND);
-        let mut c = [0u32; 64];
-        let v = counting::count_std(ns, t, a, &mut c, two.second, Sense::Drawn);
-        return Picked {
-            rest: j,
-            moves: v.moves,
-            able: v.done,
-        };
+        return alone_at(d, i, j);
     }
     states::set_mode(t, i, states::LEFT_NOTHING);
     Picked {
@@ -402,10 +337,11 @@ fn seek_marked(
     ns: &[u16],
     t: &mut [u8],
     a: u64,
+    c: &mut [u32; 64],
     d: &[u32],
     i: usize,
     m: u8,
-    c: usize,
+    child: usize,
     q: Query,
 ) -> Picked
     requires { ⌜ Below (scene (now ns) (now t) a) i c (q .closing) (q .weight) (q .number) ⌝ }
@@ -413,7 +349,7 @@ fn seek_marked(
     ensures { λ r. ⌜ Chosen (scene (now (ns .entry)) (set (now (t .entry)) i m) a) c (asked q) (now (t .exit)) r ⌝ }
 {
     states::set_mode(t, i, m);
-    choose(ns, t, a, d, c, q.closing, q.weight, q.number)
+    choose(ns, t, a, c, d, child, q.closing, q.weight, q.number)
 }
 
 // PP;QQ whose PP has ended: QQ's compensation, and then PP's, k.
@@ -421,6 +357,7 @@ fn seek_second(
     ns: &[u16],
     t: &mut [u8],
     a: u64,
+    c: &mut [u32; 64],
     d: &[u32],
     i: usize,
     two: Two,
@@ -438,7 +375,7 @@ fn seek_second(
         weight: inside,
         number: k.rest,
     };
-    let l = seek_marked(ns, t, a, d, i, states::LEFT_BOTH, two.second, inner);
+    let l = seek_marked(ns, t, a, c, d, i, states::LEFT_BOTH, two.second, inner);
     Picked {
         rest: l.rest,
         moves: moves_before(l.able, l.moves, k.moves),
@@ -446,46 +383,32 @@ fn seek_second(
     }
 }
 
-fn seek_held(ns: &[u16], t: &mut [u8], a: u64, d: &[u32], i: usize, two: Two, q: Query) -> Picked
-    requires { ⌜ Wanted (scene (now ns) (now t) a) i (Held two) (q .closing) (q .weight) (q .number) ⌝ }
-    requires { ⌜ MayKnow (scene (now ns) (now t) a) (now d) i ⌝ }
-    ensures { λ r. ⌜ Chosen (scene (now (ns .entry)) (now (t .entry)) a) i (asked q) (now (t .exit)) r ⌝ }
-{
-    let mut c = [0u32; 64];
-    let v = counting::count_std(ns, t, a, &mut c, two.first, Sense::Undoing);
-    let k = Picked {
-        rest: q.number,
-        moves: v.moves,
-        able: v.done,
-    };
-    seek_second(ns, t, a, d, i, two, q.closing, q.weight, k)
-}
-
 // PP closes by w, or it ends done and QQ closes by w.
-fn seek_running(ns: &[u16], t: &mut [u8], a: u64, d: &[u32], i: usize, two: Two, q: Query) -> Picked
+fn seek_running(ns: &[u16], t: &mut [u8], a: u64, c: &mut [u32; 64], d: &[u32], i: usize, two: Two, q: Query) -> Picked
     requires { ⌜ Wanted (scene (now ns) (now t) a) i (Both Sequence two) (q .closing) (q .weight) (q .number) ⌝ }
     requires { ⌜ Weighed (scene (now ns) (now t) a) (now d) i ⌝ }
     ensures { λ r. ⌜ Chosen (scene (now (ns .entry)) (now (t .entry)) a) i (asked q) (now (t .exit)) r ⌝ }
 {
     let own = own_weight(d, two.first, q.closing, q.weight);
     if q.number < own {
-        return seek_marked(ns, t, a, d, i, states::LEFT_FIRST, two.first, q);
+        return seek_marked(ns, t, a, c, d, i, states::LEFT_FIRST, two.first, q);
     }
     let before = weight_before(d, two.second, q.closing, q.weight);
     let k = choose(
         ns,
         t,
         a,
+        c,
         d,
         two.first,
         tallies::RANK_DONE,
         before,
         q.number - own,
     );
-    seek_second(ns, t, a, d, i, two, q.closing, q.weight, k)
+    seek_second(ns, t, a, c, d, i, two, q.closing, q.weight, k)
 }
 
-fn seek_choice(ns: &[u16], t: &mut [u8], a: u64, d: &[u32], i: usize, two: Two, q: Query) -> Picked
+fn seek_choice(ns: &[u16], t: &mut [u8], a: u64, c: &mut [u32; 64], d: &[u32], i: usize, two: Two, q: Query) -> Picked
     requires { ⌜ Wanted (scene (now ns) (now t) a) i (Both Choice two) (q .closing) (q .weight) (q .number) ⌝ }
     requires { ⌜ Weighed (scene (now ns) (now t) a) (now d) i ⌝ }
     ensures { λ r. ⌜ Chosen (scene (now (ns .entry)) (now (t .entry)) a) i (asked q) (now (t .exit)) r ⌝ }
@@ -493,20 +416,21 @@ fn seek_choice(ns: &[u16], t: &mut [u8], a: u64, d: &[u32], i: usize, two: Two, 
     let g = q.weight;
     let p = weight_by(d, two.first, q.closing, g);
     if q.number < p {
-        return seek_marked(ns, t, a, d, i, states::FIRST_TAKEN, two.first, q);
+        return seek_marked(ns, t, a, c, d, i, states::FIRST_TAKEN, two.first, q);
     }
     let rest = Query {
         closing: q.closing,
         weight: g,
         number: q.number - p,
     };
-    seek_marked(ns, t, a, d, i, states::SECOND_TAKEN, two.second, rest)
+    seek_marked(ns, t, a, c, d, i, states::SECOND_TAKEN, two.second, rest)
 }
 
 fn seek_parallel(
     ns: &[u16],
     t: &mut [u8],
     a: u64,
+    c: &mut [u32; 64],
     d: &[u32],
     i: usize,
     set: u16,
@@ -525,6 +449,7 @@ fn seek_parallel(
         ns,
         t,
         a,
+        c,
         d,
         two.first,
         x.ending,
@@ -533,7 +458,7 @@ fn seek_parallel(
     );
     let within = tallies::weight_within(joint, g, k.moves, k.able);
     let y = second_ending(d, two.second, w, x.ending, within, k.rest);
-    let l = choose(ns, t, a, d, two.second, y.ending, within, y.rest);
+    let l = choose(ns, t, a, c, d, two.second, y.ending, within, y.rest);
     Picked {
         rest: l.rest,
         moves: tallies::sides(joint, k.moves, l.moves),

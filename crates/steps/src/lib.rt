@@ -117,7 +117,7 @@ fn pass(ns: &[u16], t: &mut [u8], operator: Operator, first: usize)
 }
 
 // PP;QQ has gone on: a compensation of PP's done ending is chosen and held, and QQ makes the step, at the place answered.
-fn hold(ns: &[u16], t: &mut [u8], a: u64, c: &[u32; 64], two: Two, j: u32) -> Picked
+fn hold(ns: &[u16], t: &mut [u8], a: u64, c: &mut [u32; 64], d: &[u32], two: Two, j: u32) -> Picked
     requires { ⌜ Spot (now ns) (now t) (two .first) ⌝ }
     requires { ⌜ two .second < 64 ⌝ }
     requires { ⌜ j < weight-of (scene (now ns) (now t) a) (two .first) done (holdG (counts (now c) (two .second))) ⌝ }
@@ -129,7 +129,7 @@ fn hold(ns: &[u16], t: &mut [u8], a: u64, c: &[u32; 64], two: Two, j: u32) -> Pi
         moves: 0,
         able: 0,
     };
-    seek::seek(ns, t, a, two.first, tallies::RANK_DONE, each, j)
+    seek::choose(ns, t, a, c, d, two.first, tallies::RANK_DONE, each, j)
 }
 
 // Two running parts. Where PP;QQ goes on, a compensation of PP's done ending is chosen, to be held while QQ makes the step.
@@ -137,7 +137,8 @@ fn turn_run(
     ns: &[u16],
     t: &mut [u8],
     a: u64,
-    c: &[u32; 64],
+    c: &mut [u32; 64],
+    d: &[u32],
     i: usize,
     operator: Operator,
     two: Two,
@@ -152,7 +153,7 @@ fn turn_run(
     match operator {
         Operator::Sequence => {
             if x.second {
-                let held = hold(ns, t, a, c, two, x.at);
+                let held = hold(ns, t, a, c, d, two, x.at);
                 let rest = held.rest;
                 Turn {
                     node: x.node,
@@ -168,13 +169,13 @@ fn turn_run(
     }
 }
 
-// A block fails inside: a compensation that has a step is chosen, and its steps are counted into d.
+// A block fails inside: a compensation that has a step is chosen. What was counted of it is told by the choice.
 fn turn_out(
     ns: &[u16],
     t: &mut [u8],
     a: u64,
-    c: &[u32; 64],
-    d: &mut [u32; 64],
+    c: &mut [u32; 64],
+    d: &[u32],
     i: usize,
     child: usize,
     k: u32,
@@ -191,13 +192,12 @@ fn turn_out(
         moves: 1,
         able: 0,
     };
-    let x = seek::seek(ns, t, a, child, tallies::RANK_FAILED, each, k - n);
-    counting::count_std(ns, t, a, d, child, Sense::Undoing);
+    let x = seek::choose(ns, t, a, c, d, child, tallies::RANK_FAILED, each, k - n);
     x.rest
 }
 
 // The k-th step of a standard part. It is handed down in a loop, which costs half of what a call for each level does.
-pub fn step_std(ns: &[u16], t: &mut [u8], a: u64, c: &[u32; 64], i: usize, sense: Sense, k: u32)
+pub fn step_std(ns: &[u16], t: &mut [u8], a: u64, c: &mut [u32; 64], d: &[u32], i: usize, sense: Sense, k: u32)
     requires { ⌜ Ready (scene (now ns) (now t) a) (Plain sense) (now c) i k ⌝ }
     ensures { λ r. ⌜ Stepped (scene (now (ns .entry)) (now (t .entry)) a) (Plain sense) i k (now (t .exit)) ⌝ }
 {
@@ -211,7 +211,7 @@ pub fn step_std(ns: &[u16], t: &mut [u8], a: u64, c: &[u32; 64], i: usize, sense
             Standing::Basic(_) => return,
             Standing::Both(operator, two) => {
                 if states::joint_by(a, operator) {
-                    return meet_std(ns, t, a, c, here, two, live, at);
+                    return meet_std(ns, t, a, c, d, here, two, live, at);
                 }
                 let x = turn_two(t, c, here, operator, two, gone_on(live), at);
                 if x.second {
@@ -228,7 +228,7 @@ pub fn step_std(ns: &[u16], t: &mut [u8], a: u64, c: &[u32; 64], i: usize, sense
                 here = x.node;
                 at = x.at;
             }
-            Standing::Block(child) => return step_block(ns, t, a, c, here, child, at),
+            Standing::Block(child) => return step_block(ns, t, a, c, d, here, child, at),
             Standing::As(sub) => {
                 here = sub.node;
                 live = sub.sense;
@@ -242,7 +242,8 @@ fn meet_std(
     ns: &[u16],
     t: &mut [u8],
     a: u64,
-    c: &[u32; 64],
+    c: &mut [u32; 64],
+    d: &[u32],
     i: usize,
     two: Two,
     sense: Sense,
@@ -253,53 +254,52 @@ fn meet_std(
     ensures { λ r. ⌜ Stepped (scene (now (ns .entry)) (now (t .entry)) a) (Plain sense) i k (now (t .exit)) ⌝ }
 {
     let n = count_at(c, two.second);
-    step_std(ns, t, a, c, two.first, sense, k / n);
-    step_std(ns, t, a, c, two.second, sense, k % n);
+    step_std(ns, t, a, c, d, two.first, sense, k / n);
+    step_std(ns, t, a, c, d, two.second, sense, k % n);
 }
 
 // Of a block: inside, or out of it by a compensation.
-fn step_block(ns: &[u16], t: &mut [u8], a: u64, c: &[u32; 64], i: usize, child: usize, k: u32)
+fn step_block(ns: &[u16], t: &mut [u8], a: u64, c: &mut [u32; 64], d: &[u32], i: usize, child: usize, k: u32)
     requires { ⌜ Ready (scene (now ns) (now t) a) (Plain Drawn) (now c) i k ⌝ }
     requires { ⌜ stand-in (scene (now ns) (now t) a) Drawn i ≡ standing.Block child ⌝ }
     ensures { λ r. ⌜ Stepped (scene (now (ns .entry)) (now (t .entry)) a) (Plain Drawn) i k (now (t .exit)) ⌝ }
 {
     if k < count_at(c, child) {
-        step_run(ns, t, a, c, child, k);
+        step_run(ns, t, a, c, d, child, k);
     } else {
-        let mut d = [0u32; 64];
-        let at = turn_out(ns, t, a, c, &mut d, i, child, k);
-        step_std(ns, t, a, &d, child, Sense::Undoing, at);
+        let at = turn_out(ns, t, a, c, d, i, child, k);
+        step_std(ns, t, a, c, d, child, Sense::Undoing, at);
     }
 }
 
 // The k-th step of a compensable part that runs.
-pub fn step_run(ns: &[u16], t: &mut [u8], a: u64, c: &[u32; 64], i: usize, k: u32)
+pub fn step_run(ns: &[u16], t: &mut [u8], a: u64, c: &mut [u32; 64], d: &[u32], i: usize, k: u32)
     requires { ⌜ Ready (scene (now ns) (now t) a) Running (now c) i k ⌝ }
     ensures { λ r. ⌜ Stepped (scene (now (ns .entry)) (now (t .entry)) a) Running i k (now (t .exit)) ⌝ }
 {
     let runs = states::course_at(ns, t, i);
     match runs {
         Course::Basic(_) => {}
-        Course::Pair(two) => step_std(ns, t, a, c, two.first, Sense::Drawn, k),
+        Course::Pair(two) => step_std(ns, t, a, c, d, two.first, Sense::Drawn, k),
         Course::Both(operator, two) => {
             if states::joint_by(a, operator) {
-                return meet_run(ns, t, a, c, i, two, k);
+                return meet_run(ns, t, a, c, d, i, two, k);
             }
-            let x = turn_run(ns, t, a, c, i, operator, two, k);
-            step_run(ns, t, a, c, x.node, x.at);
+            let x = turn_run(ns, t, a, c, d, i, operator, two, k);
+            step_run(ns, t, a, c, d, x.node, x.at);
         }
-        Course::Held(two) => step_run(ns, t, a, c, two.second, k),
-        Course::As(child) => step_run(ns, t, a, c, child, k),
+        Course::Held(two) => step_run(ns, t, a, c, d, two.second, k),
+        Course::As(child) => step_run(ns, t, a, c, d, child, k),
     }
 }
 
 // Both sides of a parallel that runs, by a joint event.
-fn meet_run(ns: &[u16], t: &mut [u8], a: u64, c: &[u32; 64], i: usize, two: Two, k: u32)
+fn meet_run(ns: &[u16], t: &mut [u8], a: u64, c: &mut [u32; 64], d: &[u32], i: usize, two: Two, k: u32)
     requires { ⌜ Ready (scene (now ns) (now t) a) Running (now c) i k ⌝ }
     requires { ⌜ Meets a Running (course-in (scene (now ns) (now t) a) i) two ⌝ }
     ensures { λ r. ⌜ Stepped (scene (now (ns .entry)) (now (t .entry)) a) Running i k (now (t .exit)) ⌝ }
 {
     let n = count_at(c, two.second);
-    step_run(ns, t, a, c, two.first, k / n);
-    step_run(ns, t, a, c, two.second, k % n);
+    step_run(ns, t, a, c, d, two.first, k / n);
+    step_run(ns, t, a, c, d, two.second, k % n);
 }
