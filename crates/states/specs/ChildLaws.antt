@@ -11,7 +11,8 @@ use Rattle.flow.specs.Kinds.{shape}
 use Rattle.flow.specs.Shapes.{Kid}
 use Rattle.flow.specs.Trees.{Under, self, up, Tree}
 use Rattle.flow.specs.Nodes.{under-trans, under-le, not-under}
-use Rattle.states.specs.State.{part, modes, counts}
+use Rattle.states.specs.State.{part, modes}
+use Rattle.states.specs.Rows.{Notes, entries}
 use Rattle.states.specs.Stored.{stored}
 use Rattle.states.specs.StateLaws.{part-frame, stored-frame}
 use Rattle.states.specs.Contracts.{Spot, Kept, Sets}
@@ -43,7 +44,7 @@ module _ (ns : List ℕ) (tree : Tree (shape ns)) {i j x : ℕ} (u : Under (shap
   pub not-above : {n : ℕ} → Under (shape ns) x n → n ≢ i
   not-above v e = omega (arith, under-le (shape ns) tree v, tree .lower j x kid, under-le (shape ns) tree u, e)
 
-  pub kept-above : {d d′ : ℕ → ℕ} → Kept ns x d d′ → Kept ns i d d′
+  pub kept-above : {A : Type 0} {d d′ : ℕ → A} → Kept ns x d d′ → Kept ns i d d′
   kept-above h n out = h n (λ v. out (under-trans (shape ns) (up kid u) v))
 
 -- A child of the node itself -------------------------------------------------------------------------------------------------
@@ -64,10 +65,10 @@ module _ (ns : List ℕ) where
       pub kid-lower : c < i
       kid-lower = tree .lower i c kid
 
-      pub kept-kid : {d d′ : ℕ → ℕ} → Kept ns c d d′ → Kept ns i d d′
+      pub kept-kid : {A : Type 0} {d d′ : ℕ → A} → Kept ns c d d′ → Kept ns i d d′
       kept-kid h = kept-above ns tree (self refl) kid h
 
-      pub own-kept : {d d′ : ℕ → ℕ} → Kept ns c d d′ → d′ i ≡ d i
+      pub own-kept : {A : Type 0} {d d′ : ℕ → A} → Kept ns c d d′ → d′ i ≡ d i
       own-kept h = h i (not-under (shape ns) tree kid)
 
       -- the node's mode is set
@@ -75,8 +76,8 @@ module _ (ns : List ℕ) where
         pub same-part : part ns (modes t′) c ≡ part ns (modes t) c
         same-part = part-frame ns tree (modes t′) (modes t) c (λ j u. w .others j (not-own u))
 
-        pub same-stored : (a : ℕ) (b : List ℕ) → stored ns a (modes t′) (counts b) c ≡ stored ns a (modes t) (counts b) c
-        same-stored a b = stored-frame ns tree a (modes t′) (modes t) (counts b) (counts b) c (λ j u. w .others j (not-own u)) (λ j u. refl)
+        pub same-stored : (a : ℕ) (b : Notes) → stored ns a (modes t′) (entries b) c ≡ stored ns a (modes t) (entries b) c
+        same-stored a b = stored-frame ns tree a (modes t′) (modes t) (entries b) (entries b) c (λ j u. w .others j (not-own u)) (λ j u. refl)
 
         pub spot-down : Spot ns t i → Spot ns t′ c
         spot-down s = lower-spot (same-room s (w .long)) kid-lower
@@ -97,5 +98,5 @@ module _ (ns : List ℕ) where
             pub beside-part : part ns (modes t″) s ≡ part ns (modes t) s
             beside-part = part-frame ns tree (modes t″) (modes t) s stays
 
-            pub beside-stored : (a : ℕ) (b : List ℕ) → stored ns a (modes t″) (counts b) s ≡ stored ns a (modes t) (counts b) s
-            beside-stored a b = stored-frame ns tree a (modes t″) (modes t) (counts b) (counts b) s stays (λ j u. refl)
+            pub beside-stored : (a : ℕ) (b : Notes) → stored ns a (modes t″) (entries b) s ≡ stored ns a (modes t) (entries b) s
+            beside-stored a b = stored-frame ns tree a (modes t″) (modes t) (entries b) (entries b) s stays (λ j u. refl)

@@ -1,6 +1,7 @@
 -- Definitions.
 pub mod Standings
 pub mod State
+pub mod Rows
 pub mod Stored
 pub mod LiveParts
 pub mod Roles
@@ -9,6 +10,7 @@ pub mod Becomes
 pub mod Hands
 pub mod Contracts
 -- Theorems.
+pub mod RowLaws
 pub mod Rests
 pub mod StateLaws
 pub mod NotedLaws

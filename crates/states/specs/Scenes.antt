@@ -14,7 +14,8 @@ use Rattle.tallies.specs.Capped.{cap}
 use Rattle.tallies.specs.Counts.{sum-of, weight}
 use Rattle.tallies.specs.declared.Weight.{Weight}
 use Rattle.states.specs.Standings.{as-drawn}
-use Rattle.states.specs.State.{Part, part, modes, counts}
+use Rattle.states.specs.State.{Part, part, modes}
+use Rattle.states.specs.Rows.{Notes, entries}
 use Rattle.states.specs.Stored.{Right, stored, noted}
 
 -- a table that checks 1 to 9 passed
@@ -39,7 +40,7 @@ pub record Sets (t : List ℕ) (i n : ℕ) (t′ : List ℕ) : Type 0 where
   pub long : length t′ ≡ length t
 
 -- outside what is under i, d′ is as d
-abbrev pub Kept : List ℕ → ℕ → (ℕ → ℕ) → (ℕ → ℕ) → Type 0
+abbrev pub Kept : {A : Type 0} → List ℕ → ℕ → (ℕ → A) → (ℕ → A) → Type 0
 Kept ns i d d′ = (j : ℕ) → (Under (shape ns) i j → ⊥) → d′ j ≡ d j
 
 -- node i and all under it are as drawn, and the rest is as it was
@@ -57,15 +58,15 @@ pub record Scene : Type 0 where
 abbrev pub scene : List ℕ → List ℕ → ℕ → Scene
 scene ns t a = record { ns = ns; t = t; a = a }
 
--- the part of node i in it, and whether the counts c that a step of it looks at are right, and its own
+-- the part of node i in it, and whether what a step of it looks at in the tables c is right, and its own entry
 abbrev pub part-at : Scene → ℕ → Part
 part-at s i = part (s .ns) (modes (s .t)) i
 
-abbrev pub stored-at : Scene → List ℕ → ℕ → Right
-stored-at s c i = stored (s .ns) (s .a) (modes (s .t)) (counts c) i
+abbrev pub stored-at : Scene → Notes → ℕ → Right
+stored-at s c i = stored (s .ns) (s .a) (modes (s .t)) (entries c) i
 
-abbrev pub noted-at : Scene → List ℕ → ℕ → Right
-noted-at s c i = noted (s .ns) (s .a) (modes (s .t)) (counts c) i
+abbrev pub noted-at : Scene → Notes → ℕ → Right
+noted-at s c i = noted (s .ns) (s .a) (modes (s .t)) (entries c) i
 
 -- how much all compensations of node i by w weigh
 abbrev pub weight-of : Scene → ℕ → Closing → Weight → ℕ

@@ -1,19 +1,21 @@
 -- Laws of states and of stored counts: what a node's part and its counts are from those of its live parts (`std-part`, `run-part`,
 -- `std-stored`, `run-stored`), and that both depend only on what is under the node (`part-frame`, `stored-frame`). Assumes nothing.
 use Prim.Native.Nat.{ℕ}
-use mathlib.Core.Path.{_≡_, refl, _∙_, ap}
-use mathlib.Core.Bool.{_&&_}
+use mathlib.Core.Path.{_≡_, refl, sym, _∙_, ap, subst}
+use mathlib.Core.Bool.{Bool, true, _&&_, cond}
 use mathlib.Core.List.{List}
+use mathlib.Core.Logic.{_≢_}
 use lib.Dec.{eqb}
 use lib.ListN.{length}
-use Rattle.calculus.specs.Term.{hnd, blk, pair, held}
-use Rattle.calculus.specs.Successors.{steps, csteps}
+use Rattle.calculus.specs.Term.{done, hnd, blk, pair, held}
+use Rattle.calculus.specs.Successors.{steps, csteps, ends}
 use Rattle.flow.specs.Shapes.{Kid}
 use Rattle.flow.specs.Trees.{Under, self, up, Tree, Local}
-use Rattle.flow.specs.Nodes.{under-trans, descend-node, descend-frame}
+use Rattle.flow.specs.Nodes.{under-trans, not-under, descend-node, descend-frame}
 use Rattle.flow.specs.Cues.{cued}
 use Rattle.flow.specs.Kinds.{node, shape, standard, compensable}
 use Rattle.tallies.specs.Capped.{cap}
+use Rattle.tallies.specs.Counts.{word}
 use Rattle.states.specs.declared.Sense.{Sense}
 use Rattle.states.specs.declared.Sense.the-variants.{Drawn, Undoing}
 use Rattle.states.specs.declared.Standing.{Standing}
@@ -22,7 +24,8 @@ use Rattle.states.specs.declared.Course.{Course}
 use Rattle.states.specs.declared.Course.the-variants as course
 use Rattle.states.specs.Standings.{stand, course-of}
 use Rattle.states.specs.State.{Part, nothing, std-of, run-of, build, part}
-use Rattle.states.specs.Stored.{Right, wrong, together, std-right, run-right, right, own, stored, noted}
+use Rattle.states.specs.Stored.{Right, wrong, together, std-right, run-right, right, held-word, over, own, stored, noted}
+use Rattle.states.specs.Rows.{same-row, Entry}
 use Rattle.states.specs.LiveParts.{Rests, CRests}
 use Rattle.states.specs.Rests.{stand-rests, course-rests}
 
@@ -58,20 +61,22 @@ module _ (ns : List ℕ) (i : ℕ) where
     std-right-local (standing.Block c) s w = λ z. e c w z .run
     std-right-local (standing.As x) s w = λ z. e′ (x .node) w z .std (x .sense)
 
-    run-right-local : (x : Course) → CRests ns i x → run-right x g g′ ≡ run-right x h h′
-    unfolding run-right
-    run-right-local (course.Basic b) w = refl
-    run-right-local (course.Pair t) w = λ z. e′ (t .first) (w .one) z .std Drawn
-    run-right-local (course.Both o t) w = λ z. e (t .first) (w .one) z .run && e (t .second) (w .other) z .run
-    run-right-local (course.Held t) w = λ z. e′ (t .second) (w .other) z .run
-    run-right-local (course.As c) w = λ z. e′ c w z .run
+    module _ (f f′ : ℕ → Bool) (ef : (c : ℕ) → Kid (shape ns) i c → f c ≡ f′ c) where
+      run-right-local : (x : Course) → CRests ns i x → run-right x f g g′ ≡ run-right x f′ h h′
+      unfolding run-right
+      run-right-local (course.Basic b) w = refl
+      run-right-local (course.Pair t) w = λ z. e′ (t .first) (w .one) z .std Drawn && cond (ef (t .first) (w .one) z) (e (t .second) (w .other) z .std Drawn) true
+      run-right-local (course.Both o t) w = λ z. e (t .first) (w .one) z .run && e (t .second) (w .other) z .run
+      run-right-local (course.Held t) w = λ z. e (t .first) (w .one) z .held && e (t .second) (w .other) z .run
+      run-right-local (course.As c) w = λ z. e c w z .run
 
-    right-alike : Tree (shape ns) → (m : ℕ) → right (node ns i) m g g′ ≡ right (node ns i) m h h′
-    unfolding right
-    right-alike tree m = λ z. record {
-      std = λ s. std-right-local (stand s (node ns i) m) s (stand-rests ns i tree s m) z;
-      run = run-right-local (course-of (node ns i) m) (course-rests ns i tree m) z;
-    }
+      right-alike : Tree (shape ns) → (m : ℕ) → right (node ns i) m f g g′ ≡ right (node ns i) m f′ h h′
+      unfolding right
+      right-alike tree m = λ z. record {
+        std = λ s. std-right-local (stand s (node ns i) m) s (stand-rests ns i tree s m) z;
+        run = run-right-local (course-of (node ns i) m) (course-rests ns i tree m) z;
+        held = std-right-local (stand Undoing (node ns i) m) Undoing (stand-rests ns i tree Undoing m) z;
+      }
 
 module _ (ns : List ℕ) (tree : Tree (shape ns)) where
   build-local : (m : ℕ → ℕ) (i : ℕ) → Local nothing (shape ns) (λ j at. build (node ns j) (m j) at) i
@@ -81,9 +86,9 @@ module _ (ns : List ℕ) (tree : Tree (shape ns)) where
     run = run-local ns i g h e (course-of (node ns i) (m i)) (course-rests ns i tree (m i)) z;
   }
 
-  right-local : (o : ℕ → Right) (m : ℕ → ℕ) (i : ℕ) → Local wrong (shape ns) (λ j at. right (node ns j) (m j) (λ d. together (o d) (at d)) at) i
-  right-local o m i g h e =
-      right-alike ns i (λ d. together (o d) (g d)) (λ d. together (o d) (h d)) (λ d k z. together (o d) (e d k z)) g h e tree (m i)
+  right-local : (f : ℕ → Bool) (o : ℕ → Right) (m : ℕ → ℕ) (i : ℕ) → Local wrong (shape ns) (λ j at. right (node ns j) (m j) f (λ d. together (o d) (at d)) at) i
+  right-local f o m i g h e =
+      right-alike ns i (λ d. together (o d) (g d)) (λ d. together (o d) (h d)) (λ d k z. together (o d) (e d k z)) g h e f f (λ c k. refl) tree (m i)
 
   -- One node -----------------------------------------------------------------------------------------------------------------
 
@@ -100,18 +105,23 @@ module _ (ns : List ℕ) (tree : Tree (shape ns)) where
     unfolding build
     run-part = λ z. part-is z .run
 
-  module _ (a : ℕ) (m c : ℕ → ℕ) (i : ℕ) where
-    stored-is : stored ns a m c i ≡ right (node ns i) (m i) (noted ns a m c) (stored ns a m c)
+  module _ (a : ℕ) (m : ℕ → ℕ) (c : ℕ → Entry) (i : ℕ) where
+    stored-is : stored ns a m c i ≡ right (node ns i) (m i) (over ns a m) (noted ns a m c) (stored ns a m c)
     unfolding stored
-    stored-is = descend-node wrong (shape ns) tree (λ j at. right (node ns j) (m j) (λ d. together (own ns a m c d) (at d)) at) i (right-local (own ns a m c) m i)
+    stored-is = descend-node wrong (shape ns) tree (λ j at. right (node ns j) (m j) (over ns a m) (λ d. together (own ns a m c d) (at d)) at) i (right-local (over ns a m) (own ns a m c) m i)
 
     pub std-stored : (s : Sense) → stored ns a m c i .std s ≡ std-right (stand s (node ns i) (m i)) s (noted ns a m c) (stored ns a m c)
     unfolding right
     std-stored s = λ z. stored-is z .std s
 
-    pub run-stored : stored ns a m c i .run ≡ run-right (course-of (node ns i) (m i)) (noted ns a m c) (stored ns a m c)
+    pub run-stored : stored ns a m c i .run ≡ run-right (course-of (node ns i) (m i)) (over ns a m) (noted ns a m c) (stored ns a m c)
     unfolding right
     run-stored = λ z. stored-is z .run
+
+    -- what is held is looked at as any compensation
+    pub held-stored : stored ns a m c i .held ≡ stored ns a m c i .std Undoing
+    unfolding right
+    held-stored = (λ z. stored-is z .held) ∙ sym (λ z. stored-is z .std Undoing)
 
   -- What is under the node -----------------------------------------------------------------------------------------------------
 
@@ -120,30 +130,43 @@ module _ (ns : List ℕ) (tree : Tree (shape ns)) where
   part-frame m m′ i e = descend-frame nothing (shape ns) (λ j at. build (node ns j) (m j) at) (λ j at. build (node ns j) (m′ j) at)
       (build-local m′) i (λ j u z at. build (node ns j) (e j u z) at)
 
-  module _ (a : ℕ) (m m′ c c′ : ℕ → ℕ) where
+  module _ (a : ℕ) (m m′ : ℕ → ℕ) (c c′ : ℕ → Entry) where
     own-frame : (j : ℕ) → part ns m j ≡ part ns m′ j → c j ≡ c′ j → own ns a m c j ≡ own ns a m′ c′ j
     unfolding own
     own-frame j e d = λ z. record {
-      std = λ s. eqb (d z) (cap (length (steps (e z .std s) a)));
-      run = eqb (d z) (cap (length (csteps (e z .run) a)));
+      std = λ s. eqb (d z .steps) (cap (length (steps (e z .std s) a)));
+      run = eqb (d z .steps) (cap (length (csteps (e z .run) a))) && same-row (d z .row) (word a (e z .run));
+      held = eqb (d z .steps) (cap (length (steps (e z .std Undoing) a))) && same-row (d z .row) (held-word a (e z .std Undoing));
     }
 
     module _ (i : ℕ) (e : (j : ℕ) → Under (shape ns) i j → m j ≡ m′ j) (d : (j : ℕ) → Under (shape ns) i j → c j ≡ c′ j) where
+      part-under : (j : ℕ) → Under (shape ns) i j → part ns m j ≡ part ns m′ j
+      part-under j u = part-frame m m′ j (λ k v. e k (under-trans (shape ns) u v))
+
       own-under : (j : ℕ) → Under (shape ns) i j → own ns a m c j ≡ own ns a m′ c′ j
-      own-under j u = own-frame j (part-frame m m′ j (λ k v. e k (under-trans (shape ns) u v))) (d j u)
+      own-under j u = own-frame j (part-under j u) (d j u)
 
       right-under : (j : ℕ) → Under (shape ns) i j → (at : ℕ → Right)
-          → right (node ns j) (m j) (λ x. together (own ns a m c x) (at x)) at ≡ right (node ns j) (m′ j) (λ x. together (own ns a m′ c′ x) (at x)) at
+          → right (node ns j) (m j) (over ns a m) (λ x. together (own ns a m c x) (at x)) at ≡ right (node ns j) (m′ j) (over ns a m′) (λ x. together (own ns a m′ c′ x) (at x)) at
       right-under j u at =
           right-alike ns j (λ x. together (own ns a m c x) (at x)) (λ x. together (own ns a m′ c′ x) (at x))
-          (λ x k z. together (own-under x (up k u) z) (at x)) at at (λ x k. refl) tree (m j)
-          ∙ ap (λ n. right (node ns j) n (λ x. together (own ns a m′ c′ x) (at x)) at) (e j u)
+          (λ x k z. together (own-under x (up k u) z) (at x)) at at (λ x k. refl) (over ns a m) (over ns a m′) (λ x k z. ends (part-under x (up k u) z .std Drawn) done) tree (m j)
+          ∙ ap (λ n. right (node ns j) n (over ns a m′) (λ x. together (own ns a m′ c′ x) (at x)) at) (e j u)
 
       pub stored-frame : stored ns a m c i ≡ stored ns a m′ c′ i
       unfolding stored
-      stored-frame = descend-frame wrong (shape ns) (λ j at. right (node ns j) (m j) (λ x. together (own ns a m c x) (at x)) at)
-          (λ j at. right (node ns j) (m′ j) (λ x. together (own ns a m′ c′ x) (at x)) at)
-          (right-local (own ns a m′ c′) m′) i (λ j u z at. right-under j u at z)
+      stored-frame = descend-frame wrong (shape ns) (λ j at. right (node ns j) (m j) (over ns a m) (λ x. together (own ns a m c x) (at x)) at)
+          (λ j at. right (node ns j) (m′ j) (over ns a m′) (λ x. together (own ns a m′ c′ x) (at x)) at)
+          (right-local (over ns a m′) (own ns a m′ c′) m′) i (λ j u z at. right-under j u at z)
 
       pub noted-frame : noted ns a m c i ≡ noted ns a m′ c′ i
       noted-frame = λ z. together (own-under i (self refl) z) (stored-frame z)
+
+  -- the node's own entry is not looked at
+  pub stored-own : (a : ℕ) (m : ℕ → ℕ) (c c′ : ℕ → Entry) (i : ℕ) → ((j : ℕ) → j ≢ i → c′ j ≡ c j) → stored ns a m c i ≡ stored ns a m c′ i
+  stored-own a m c c′ i e =
+      let below : (x : ℕ) → Kid (shape ns) i x → (j : ℕ) → Under (shape ns) x j → c j ≡ c′ j = λ x k j u. sym (e j (λ q. not-under (shape ns) tree k (subst (Under (shape ns) x) q u))) in
+      stored-is a m c i
+      ∙ right-alike ns i (noted ns a m c) (noted ns a m c′) (λ x k. noted-frame a m m c c′ x (λ j u. refl) (below x k))
+      (stored ns a m c) (stored ns a m c′) (λ x k. stored-frame a m m c c′ x (λ j u. refl) (below x k)) (over ns a m) (over ns a m) (λ x k. refl) tree (m i)
+      ∙ sym (stored-is a m c′ i)
