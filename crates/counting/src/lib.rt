@@ -11,11 +11,12 @@ use tallies::Tally;
 use tallies::View;
 use tallies::Word;
 ghost use mathlib.Core.Path.{_≡_};
-ghost use Prim.Native.Nat.{_<_};
+ghost use Prim.Native.Nat.{_+_, _<_};
 ghost use lib.ListN.{length};
 ghost use Rattle.flow.specs.Cues.{takes-cue};
-ghost use Rattle.tallies.specs.Formulas.{evV};
+ghost use Rattle.tallies.specs.Formulas.{skipV, evV, pairW};
 ghost use Rattle.states.specs.declared.Role.the-variants.{Plain, Running};
+ghost use Rattle.states.specs.Rows.{Shared, Written, notes};
 ghost use Rattle.states.specs.Contracts.{Spot, Sets, scene, Counted};
 ghost use Rattle.counting.specs.Wholes.{simpleV, operatorV, simpleW, operatorW};
 
@@ -72,7 +73,7 @@ fn note_word(c: &mut [u32; 64], d: &mut [u32; 576], i: usize, v: Word) -> Word
 // Of a compensation that is held it is kept whether it can end done.
 fn note_held(d: &mut [u32; 576], i: usize, v: View)
     requires { ⌜ i < 64 ⌝ }
-    ensures { λ _. ⌜ Written (now (d .entry)) i (heldR v) (now (d .exit)) ⌝ }
+    ensures { λ _. ⌜ Written (now (d .entry)) i (pairW skipV v) (now (d .exit)) ⌝ }
 {
     keep(d, i, tallies::pair_word(tallies::skip_view(), v));
 }
@@ -132,9 +133,17 @@ pub fn both_word(cue: u64, operator: Operator, p: Word, q: Word) -> Word
 }
 
 // What node i can do as a standard part. A part that is live in place of another is counted where it stands, without a call.
-pub fn count_std(ns: &[u16], t: &[u8], a: u64, c: &mut [u32; 64], d: &mut [u32; 576], i: usize, sense: Sense) -> View
+pub fn count_std(
+    ns: &[u16],
+    t: &[u8],
+    a: u64,
+    c: &mut [u32; 64],
+    d: &mut [u32; 576],
+    i: usize,
+    sense: Sense,
+) -> View
     requires { ⌜ Spot (now ns) (now t) i ⌝ }
-    ensures { λ r. ⌜ Counted (scene (now (ns .entry)) (now (t .entry)) a) (Plain sense) i (now (c .entry)) (now (c .exit)) r ⌝ }
+    ensures { λ r. ⌜ Counted (scene (now (ns .entry)) (now (t .entry)) a) (Plain sense) i (notes (now (c .entry)) (now (d .entry))) (notes (now (c .exit)) (now (d .exit))) r ⌝ }
 {
     let mut here = i;
     let mut live = sense;
@@ -166,9 +175,16 @@ pub fn count_std(ns: &[u16], t: &[u8], a: u64, c: &mut [u32; 64], d: &mut [u32; 
 }
 
 // What node i can do as a part that runs.
-pub fn count_run(ns: &[u16], t: &[u8], a: u64, c: &mut [u32; 64], d: &mut [u32; 576], i: usize) -> Word
+pub fn count_run(
+    ns: &[u16],
+    t: &[u8],
+    a: u64,
+    c: &mut [u32; 64],
+    d: &mut [u32; 576],
+    i: usize,
+) -> Word
     requires { ⌜ Spot (now ns) (now t) i ⌝ }
-    ensures { λ r. ⌜ Counted (scene (now (ns .entry)) (now (t .entry)) a) Running i (now (c .entry)) (now (c .exit)) r ⌝ }
+    ensures { λ r. ⌜ Counted (scene (now (ns .entry)) (now (t .entry)) a) Running i (notes (now (c .entry)) (now (d .entry))) (notes (now (c .exit)) (now (d .exit))) r ⌝ }
 {
     let runs = states::course_at(ns, t, i);
     match runs {

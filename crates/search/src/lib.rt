@@ -75,7 +75,14 @@ fn root_of(ns: &[u16]) -> usize
 }
 
 // How many successors a state has by an event.
-fn successors(ns: &[u16], t: &[u8], cue: u64, c: &mut [u32; 64], d: &mut [u32; 576], role: Role) -> u32
+fn successors(
+    ns: &[u16],
+    t: &[u8],
+    cue: u64,
+    c: &mut [u32; 64],
+    d: &mut [u32; 576],
+    role: Role,
+) -> u32
     requires { ⌜ Spot (now ns) (now t) (root (now ns)) ⌝ }
     requires { ⌜ (3 ≤ length (now ns)) × (cue < done-cue) ⌝ }
     ensures { λ r. ⌜ SuccessorsCounted (now (ns .entry)) role cue (now (t .entry)) (now (c .exit)) r ⌝ }

@@ -95,8 +95,7 @@ fn tally_at(d: &[u32], i: usize, w: u8) -> Tally
 }
 
 // The one compensation by done that is kept of node i, of a pair or of what is held, where j is left of the number.
-fn alone_at(d: &[u32], i: usize, j: u32) -> Picked
-{
+fn alone_at(d: &[u32], i: usize, j: u32) -> Picked {
     let y = share(d, 9 * i);
     Picked {
         rest: j,
@@ -275,8 +274,15 @@ pub fn choose(
 }
 
 // By its course.
-fn choose_by(ns: &[u16], t: &mut [u8], a: u64, c: &mut [u32; 64], d: &[u32], i: usize, q: Query) -> Picked
-{
+fn choose_by(
+    ns: &[u16],
+    t: &mut [u8],
+    a: u64,
+    c: &mut [u32; 64],
+    d: &[u32],
+    i: usize,
+    q: Query,
+) -> Picked {
     let course = states::course_at(ns, t, i);
     match course {
         Course::Basic(_) => Picked {
@@ -317,8 +323,7 @@ fn choose_both(
 }
 
 // P÷Q has one compensation by each closing. P is passed, by all of them.
-fn seek_pair(ns: &[u16], t: &mut [u8], d: &[u32], i: usize, two: Two, w: u8, j: u32) -> Picked
-{
+fn seek_pair(ns: &[u16], t: &mut [u8], d: &[u32], i: usize, two: Two, w: u8, j: u32) -> Picked {
     states::redraw(ns, t, two.first);
     if w == tallies::RANK_DONE {
         states::set_mode(t, i, states::LEFT_SECOND);
@@ -384,7 +389,16 @@ fn seek_second(
 }
 
 // PP closes by w, or it ends done and QQ closes by w.
-fn seek_running(ns: &[u16], t: &mut [u8], a: u64, c: &mut [u32; 64], d: &[u32], i: usize, two: Two, q: Query) -> Picked
+fn seek_running(
+    ns: &[u16],
+    t: &mut [u8],
+    a: u64,
+    c: &mut [u32; 64],
+    d: &[u32],
+    i: usize,
+    two: Two,
+    q: Query,
+) -> Picked
     requires { ⌜ Wanted (scene (now ns) (now t) a) i (Both Sequence two) (q .closing) (q .weight) (q .number) ⌝ }
     requires { ⌜ Weighed (scene (now ns) (now t) a) (now d) i ⌝ }
     ensures { λ r. ⌜ Chosen (scene (now (ns .entry)) (now (t .entry)) a) i (asked q) (now (t .exit)) r ⌝ }
@@ -408,7 +422,16 @@ fn seek_running(ns: &[u16], t: &mut [u8], a: u64, c: &mut [u32; 64], d: &[u32], 
     seek_second(ns, t, a, c, d, i, two, q.closing, q.weight, k)
 }
 
-fn seek_choice(ns: &[u16], t: &mut [u8], a: u64, c: &mut [u32; 64], d: &[u32], i: usize, two: Two, q: Query) -> Picked
+fn seek_choice(
+    ns: &[u16],
+    t: &mut [u8],
+    a: u64,
+    c: &mut [u32; 64],
+    d: &[u32],
+    i: usize,
+    two: Two,
+    q: Query,
+) -> Picked
     requires { ⌜ Wanted (scene (now ns) (now t) a) i (Both Choice two) (q .closing) (q .weight) (q .number) ⌝ }
     requires { ⌜ Weighed (scene (now ns) (now t) a) (now d) i ⌝ }
     ensures { λ r. ⌜ Chosen (scene (now (ns .entry)) (now (t .entry)) a) i (asked q) (now (t .exit)) r ⌝ }

@@ -4,6 +4,7 @@
 use Prim.Native.Nat.{ℕ, _<_}
 use mathlib.Core.Path.{_≡_}
 use mathlib.Core.List.{List}
+use mathlib.Core.Logic.{_≢_}
 use lib.Dec.{T}
 use lib.ListN.{length}
 use Rattle.tallies.specs.Places.{At}
@@ -11,10 +12,15 @@ use Rattle.states.specs.State.{part, modes}
 use Rattle.states.specs.Rows.{Notes, entries}
 use Rattle.states.specs.declared.Sense.the-variants.{Undoing}
 use Rattle.states.specs.declared.Role.{Role}
-use Rattle.states.specs.Roles.{get, nexts, many, Sight, look, ok}
+use Rattle.states.specs.Roles.{get, nexts, many, Sight, look, Keeps, ok}
 pub use Rattle.states.specs.Scenes.{Sound, Inside, Spot, Sets, Kept, Redrawn, Scene, scene, part-at, stored-at, noted-at, weight-of, Ask, ask}
 pub use Rattle.states.specs.Becomes.{Chosen}
 use Rattle.states.specs.Hands.{move, Makes}
+
+-- what is seen of node i is kept: c′ are the tables c, but for its entry
+pub record Writes (r : Role) (c : Notes) (i : ℕ) (v : Sight r) (c′ : Notes) : Type 0 where
+  pub here : Keeps r (entries c′ i) v
+  pub others : (j : ℕ) → j ≢ i → entries c′ j ≡ entries c j
 
 -- the counting pass in a role: tables c before and c′ after, answer v
 pub record Counted (s : Scene) (r : Role) (i : ℕ) (c c′ : Notes) (v : Sight r) : Type 0 where

@@ -18,7 +18,7 @@ use Rattle.states.specs.Stored.{Right, together, held-word, counted-std,
 use Rattle.states.specs.StateLaws.{held-stored}
 use Rattle.states.specs.Rows.{same-row, Entry, Notes, entries}
 use Rattle.states.specs.RowLaws.{row-same}
-use Rattle.states.specs.Roles.{get, many, Sight, look, moves-of, ok}
+use Rattle.states.specs.Roles.{get, many, Sight, look, Keeps, ok}
 use Rattle.states.specs.Contracts.{Scene, stored-at, Counted}
 
 together-in : (r : Role) (x y : Right) → T (ok r x) → T (ok r y) → T (ok r (together x y))
@@ -32,11 +32,6 @@ together-one Running x y h = and-left (x .run) (y .run) h
 together-other : (r : Role) (x y : Right) → T (ok r (together x y)) → T (ok r y)
 together-other (Plain s) x y h = and-right (x .std s) (y .std s) h
 together-other Running x y h = and-right (x .run) (y .run) h
-
--- what is seen of a part is what is kept of it
-abbrev pub Keeps : (r : Role) → Entry → Sight r → Type 0
-Keeps (Plain s) e v = e .steps ≡ v .moves
-Keeps Running e v = (e .steps ≡ v .moves) × (e .row ≡ bareW v)
 
 module _ (ns : List ℕ) (a : ℕ) (m : ℕ → ℕ) (c : ℕ → Entry) (i : ℕ) where
   own-count-of : (r : Role) → T (ok r (own ns a m c i)) → c i .steps ≡ many r a (part ns m i)

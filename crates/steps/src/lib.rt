@@ -197,7 +197,16 @@ fn turn_out(
 }
 
 // The k-th step of a standard part. It is handed down in a loop, which costs half of what a call for each level does.
-pub fn step_std(ns: &[u16], t: &mut [u8], a: u64, c: &mut [u32; 64], d: &[u32], i: usize, sense: Sense, k: u32)
+pub fn step_std(
+    ns: &[u16],
+    t: &mut [u8],
+    a: u64,
+    c: &mut [u32; 64],
+    d: &[u32],
+    i: usize,
+    sense: Sense,
+    k: u32,
+)
     requires { ⌜ Ready (scene (now ns) (now t) a) (Plain sense) (now c) i k ⌝ }
     ensures { λ r. ⌜ Stepped (scene (now (ns .entry)) (now (t .entry)) a) (Plain sense) i k (now (t .exit)) ⌝ }
 {
@@ -259,7 +268,16 @@ fn meet_std(
 }
 
 // Of a block: inside, or out of it by a compensation.
-fn step_block(ns: &[u16], t: &mut [u8], a: u64, c: &mut [u32; 64], d: &[u32], i: usize, child: usize, k: u32)
+fn step_block(
+    ns: &[u16],
+    t: &mut [u8],
+    a: u64,
+    c: &mut [u32; 64],
+    d: &[u32],
+    i: usize,
+    child: usize,
+    k: u32,
+)
     requires { ⌜ Ready (scene (now ns) (now t) a) (Plain Drawn) (now c) i k ⌝ }
     requires { ⌜ stand-in (scene (now ns) (now t) a) Drawn i ≡ standing.Block child ⌝ }
     ensures { λ r. ⌜ Stepped (scene (now (ns .entry)) (now (t .entry)) a) (Plain Drawn) i k (now (t .exit)) ⌝ }
@@ -294,7 +312,16 @@ pub fn step_run(ns: &[u16], t: &mut [u8], a: u64, c: &mut [u32; 64], d: &[u32], 
 }
 
 // Both sides of a parallel that runs, by a joint event.
-fn meet_run(ns: &[u16], t: &mut [u8], a: u64, c: &mut [u32; 64], d: &[u32], i: usize, two: Two, k: u32)
+fn meet_run(
+    ns: &[u16],
+    t: &mut [u8],
+    a: u64,
+    c: &mut [u32; 64],
+    d: &[u32],
+    i: usize,
+    two: Two,
+    k: u32,
+)
     requires { ⌜ Ready (scene (now ns) (now t) a) Running (now c) i k ⌝ }
     requires { ⌜ Meets a Running (course-in (scene (now ns) (now t) a) i) two ⌝ }
     ensures { λ r. ⌜ Stepped (scene (now (ns .entry)) (now (t .entry)) a) Running i k (now (t .exit)) ⌝ }

@@ -1,10 +1,10 @@
--- `seek::put` meets its contract: three numbers are written, one after the other. Assumes nothing.
+-- `counting::put_tally` meets its contract: three numbers are written, one after the other. Assumes nothing.
 use native.Mathlib.Omega.{arith}
 use lib.ListN.{length-set}
-use Rattle.seek.specs.Weighing.{shared-by}
+use Rattle.counting.specs.RowWrites.{shared-by}
 use borrow.Author.Needs.{needs}
-use Rattle.seek.proofs.put.Statement.{statement}
-use Rattle.seek.proofs.put.Tie as tie
+use Rattle.counting.proofs.put_tally.Statement.{statement}
+use Rattle.counting.proofs.put_tally.Tie as tie
 
 mul-d : tie.Need-mul-d
 mul-d c = search needs
@@ -36,8 +36,8 @@ same-length c = search needs
 returns : tie.Need-returns
 returns c = shared-by (c .args .d .now) (c .args .x) (c .pre)
 
-pub put-spec : {M : Type 1} → statement M
-put-spec =
+pub put-tally-spec : {M : Type 1} → statement M
+put-tally-spec =
     tie.close
     (tie.spec
     mul-d
