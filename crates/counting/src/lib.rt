@@ -21,7 +21,7 @@ ghost use Rattle.states.specs.Contracts.{Spot, Sets, scene, Counted};
 ghost use Rattle.counting.specs.Wholes.{simpleV, operatorV, simpleW, operatorW};
 
 // A count is written, through a slice, which knows its length.
-fn put(c: &mut [u32], i: usize, n: u32)
+pub fn put_count(c: &mut [u32], i: usize, n: u32)
     requires { ⌜ i < length (now c) ⌝ }
     ensures { λ _. ⌜ Sets (now (c .entry)) i n (now (c .exit)) ⌝ }
 {
@@ -34,7 +34,7 @@ fn note(c: &mut [u32; 64], i: usize, v: View) -> View
     ensures { λ r. ⌜ r ≡ v ⌝ }
     ensures noted { λ r. ⌜ Sets (now (c .entry)) i (v .moves) (now (c .exit)) ⌝ }
 {
-    put(c, i, v.moves);
+    put_count(c, i, v.moves);
     v
 }
 
@@ -65,7 +65,7 @@ fn note_word(c: &mut [u32; 64], d: &mut [u32; 576], i: usize, v: Word) -> Word
     ensures noted { λ r. ⌜ Sets (now (c .entry)) i (v .moves) (now (c .exit)) ⌝ }
     ensures kept { λ r. ⌜ Written (now (d .entry)) i v (now (d .exit)) ⌝ }
 {
-    put(c, i, v.moves);
+    put_count(c, i, v.moves);
     keep(d, i, v);
     v
 }

@@ -1,9 +1,13 @@
--- What the functions below `seek` ask and promise: a search in a node of a known course (`Wanted`), in a child of a node that gets
--- a mode (`Below`), in the second part of PP;QQ once the first has become its compensation (`SecondWanted`, `SecondChosen`), and
--- what a pair's compensation is whatever it weighs (`PairChosen`). Definitions only. Assumes nothing.
+-- What the functions below `choose` ask and promise: a search in a node of a known course (`Wanted`), in a child of a node that gets
+-- a mode (`Below`), in the second part of PP;QQ once the first has become its compensation (`SecondWanted`, `SecondChosen`), what a pair
+-- becomes (`PairLeft`), and that the tables are right below what was chosen (`UndoneBelow`). Definitions only. Assumes nothing.
 use Prim.Native.Nat.{ℕ, _<_}
 use mathlib.Core.Path.{_≡_}
+use mathlib.Core.Bool.{true, not}
 use mathlib.Core.List.{List, map}
+use mathlib.Core.Logic.{_≢_}
+use lib.Dec.{T, eqb}
+use lib.ListN.{set}
 use Rattle.calculus.specs.Term.{Closing, done, Std, Cmp, seq}
 use Rattle.calculus.specs.Successors.{ends, comps}
 use Rattle.flow.specs.declared.Operator.the-variants.{Sequence}
@@ -16,14 +20,16 @@ use Rattle.tallies.specs.Counts.{sum-of, moves, weight}
 use Rattle.tallies.specs.Formulas.{closing}
 use Rattle.tallies.specs.Sought.{Sought}
 use Rattle.tallies.specs.declared.Weight.{Weight}
+use Rattle.tallies.specs.declared.Word.{Word}
 use Rattle.states.specs.declared.Sense.the-variants.{Undoing}
 use Rattle.states.specs.declared.Course.{Course}
 use Rattle.states.specs.declared.Picked.{Picked}
-use Rattle.states.specs.Standings.{left-both, course-of}
+use Rattle.states.specs.Standings.{left-second, left-nothing, left-both, course-of}
 use Rattle.states.specs.State.{part, modes}
+use Rattle.states.specs.Rows.{row, Notes, entries}
 use Rattle.seek.specs.declared.Query.{Query}
-use Rattle.states.specs.Becomes.{Lands, Becomes, ask-second, seq-of}
-use Rattle.states.specs.Contracts.{Spot, Sets, Kept, Scene, part-at, weight-of, Ask, ask, Chosen}
+use Rattle.states.specs.Becomes.{picked, Lands, Becomes, ask-second, seq-of}
+use Rattle.states.specs.Contracts.{Spot, Sets, Kept, Redrawn, Scene, part-at, stored-at, weight-of, Ask, ask}
 
 -- an ending, as a small number, that j falls on, where those done and withdrawn weigh x and y
 pub record Fallen (x y j e r : ℕ) : Type 0 where
@@ -44,6 +50,20 @@ left ns t i = part ns (modes t) i .std Undoing
 abbrev pub asked : Query → Ask
 asked q = ask (closing (q .closing)) (q .weight) (q .number)
 
+-- the one compensation by done that a row keeps, where j is left of the number
+abbrev pub lone : Word → ℕ → Picked
+lone x j = picked j (x .done .moves) (not (eqb (x .done .able) 0))
+
+-- a pair becomes its compensation by w: P is passed, and Q is left to be done, or nothing
+pub data PairLeft (ns t d : List ℕ) (i : ℕ) (two : Two) (w j : ℕ) (t′ : List ℕ) : Picked → Type 0 where
+  to-second : {t₁ : List ℕ} → w ≡ 0 → Redrawn ns (two .first) t t₁ → t′ ≡ set t₁ i left-second → PairLeft ns t d i two w j t′ (lone (row d i) j)
+  to-nothing : {t₁ : List ℕ} → w ≢ 0 → Redrawn ns (two .first) t t₁ → t′ ≡ set t₁ i left-nothing → PairLeft ns t d i two w j t′ (picked j 0 true)
+
+-- node i has become a compensation, in s: below it the tables c are right, and nothing was changed outside
+pub record UndoneBelow (s : Scene) (i : ℕ) (c₀ c : Notes) : Type 0 where
+  pub right : T (stored-at s c i .std Undoing)
+  pub kept : Kept (s .ns) i (entries c₀) (entries c)
+
 -- among the compensations l, what is asked falls on k, of which p is known
 abbrev pub Picks : ℕ → Ask → List Std → Std → Picked → Type 0
 Picks a q l k p = Sought a (q .weight) l (q .number) k (p .rest) (p .moves) (p .able)
@@ -63,10 +83,6 @@ module _ (s : Scene) where
       pub kid : Kid (shape (s .ns)) i c
       pub closes : w < 3
       pub room : j < weight-of s c (closing w) g
-
-    -- whatever a compensation weighs
-    abbrev pub PairChosen : Closing → ℕ → List ℕ → Picked → Type 0
-    PairChosen w j t′ p = (g : Weight) → j < weight-of s i w g → Chosen s i (ask w g j) t′ p
 
   -- QQ's compensations, each before the one that PP has become
   abbrev pub seconds : Two → Closing → List Std

@@ -2,14 +2,15 @@
 -- takes what the code has learnt, in the code's order; what it says of terms is in SeekLaws of the crate below. Assumes nothing.
 use Prim.Native.Nat.{ℕ, _+_, _*_, _-_, _<_, _≤_}
 use mathlib.Core.Path.{_≡_, refl, sym, _∙_, ap, subst, subst₂}
-use mathlib.Core.Bool.{Bool, true, not}
-use mathlib.Core.List.{List, map}
-use mathlib.Core.Logic.{inl, inr, _≢_}
+use mathlib.Core.Bool.{Bool, true, false, not, cond}
+use mathlib.Core.List.{List, [], _∷_, map}
+use mathlib.Core.Logic.{_≢_}
 use native.Mathlib.Omega.{arith}
-use lib.Dec.{eqb}
+use lib.Dec.{T, eqb}
 use lib.ListN.{length, set}
-use Rattle.calculus.specs.Term.{Closing, done, withdrawn, Std, skip, seq, par, pair, cseq, held}
-use Rattle.calculus.specs.Successors.{comps}
+use Rattle.calculus.specs.Term.{Closing, done, withdrawn, failed, Std, skip, seq, par, pair, cseq, held}
+use Rattle.calculus.specs.Successors.{only, ends, comps}
+use Rattle.calculus.specs.Equations.{ends-skip, comps-pair}
 use Rattle.flow.specs.declared.Simple.{Simple}
 use Rattle.flow.specs.declared.Simple.the-variants.{Skip, Throw, Yield}
 use Rattle.flow.specs.declared.Operator.{Operator}
@@ -19,17 +20,16 @@ use Rattle.flow.specs.declared.Node.the-variants.{Compensable}
 use Rattle.flow.specs.Kinds.{set-of, paired, compensable, node, shape}
 use Rattle.flow.specs.Cues.{cued, joint-at}
 use Rattle.flow.specs.Shapes.{Kid}
-use Rattle.flow.specs.Trees.{Tree}
+use Rattle.flow.specs.Trees.{Under, Tree}
 use Rattle.flow.specs.NodeChildren.{two-kids, kids-disjoint}
 use Rattle.tallies.specs.Capped.{cap}
 use Rattle.tallies.specs.Counts.{sum-of, moves, view, tally, word, weight}
-use Rattle.tallies.specs.CountsLaws.{by-word}
-use Rattle.tallies.specs.Formulas.{closing, whenT, byW, total, afterG, insideG, besideG, withinG, fittingT, partnersT}
+use Rattle.tallies.specs.CountsLaws.{by-word, word-pair}
+use Rattle.tallies.specs.Formulas.{closing, skipV, oneT, worded, pairW, whenT, byW, total, afterG, insideG, besideG, withinG, fittingT, partnersT}
 use Rattle.tallies.specs.Bare.{bareW}
 use Rattle.tallies.specs.BareLaws.{total-by-bare, total-when-bare, after-by-bare, beside-partners-bare, side-bare, fitting-bare}
-use Rattle.tallies.specs.SeekLaws.{eqc-done, closing-other, fall-done, fall-withdrawn, fall-failed, total-by, total-when, view-moves, view-able, seek-pair, seek-pair-skip, seek-skip, seek-calt-first, seek-calt-room, seek-calt-second, seek-second-room, seek-second, seek-held-room, seek-held, seek-own-room, seek-own, seek-both-room, seek-both-rest, seek-both, seek-par-first-room, seek-par-second-room, seek-par}
+use Rattle.tallies.specs.SeekLaws.{eqc-done, closing-other, fall-done, fall-withdrawn, fall-failed, total-by, total-when, seek-pair, seek-pair-skip, seek-skip, seek-calt-first, seek-calt-room, seek-calt-second, seek-second-room, seek-second, seek-held-room, seek-held, seek-own-room, seek-own, seek-both-room, seek-both-rest, seek-both, seek-par-first-room, seek-par-second-room, seek-par}
 use Rattle.tallies.specs.Sought.{Falls}
-use Rattle.tallies.specs.declared.View.{View}
 use Rattle.tallies.specs.declared.Word.{Word}
 use Rattle.tallies.specs.declared.Weight.{Weight}
 use Rattle.states.specs.declared.Sense.the-variants.{Drawn, Undoing}
@@ -40,35 +40,32 @@ use Rattle.states.specs.declared.Picked.{Picked}
 use Rattle.states.specs.Standings as standings
 use Rattle.states.specs.Standings.{first-taken, second-taken, left-second, left-nothing, left-first, left-both, stand, stand-undoing, undoing-two}
 use Rattle.states.specs.State.{std-of, run-of, part, modes}
+use Rattle.states.specs.Rows.{row, Notes, entries}
+use Rattle.states.specs.Stored.{std-right}
+use Rattle.states.specs.NotedLaws.{noted-stored}
 use Rattle.states.specs.StateLaws.{std-part}
 use Rattle.states.specs.LiveParts.{Twins}
 use Rattle.states.specs.Becomes.{picked, known-of, seq-of, par-of, ask-second, own-of, side-of, fitting-of, Lands, on-done, on-withdrawn, on-failed, Becomes, basic-stays, pair-to-second, pair-to-nothing, as-child, held-to-both, seq-to-first, seq-to-both, alt-to-first, alt-to-second, par-to-both}
-use Rattle.states.specs.Contracts.{Spot, Kept, Sets, Redrawn, Scene, scene, weight-of, Ask, ask, Counted, Chosen}
+use Rattle.states.specs.Contracts.{Spot, Kept, Sets, Redrawn, Scene, scene, weight-of, Ask, ask, Chosen, Weighed, Undone}
 use Rattle.states.specs.ChildLaws.{set-sets, not-own, lower-spot, same-room, kept-set, kept-part, kid-lower, kept-kid, own-kept, same-part, spot-down}
-use Rattle.seek.specs.Asked.{Fallen, course-at, runs, left, Picks, Wanted, Below, seconds, SecondWanted, SecondChosen, PairChosen}
-use Rattle.seek.specs.Weighed.{row, Live, itself, Weighed, MayKnow}
-use Rattle.seek.specs.WeighedLaws.{weighed-live, known-live, known-same}
+use Rattle.seek.specs.Asked.{Fallen, course-at, runs, left, lone, PairLeft, to-second, to-nothing, UndoneBelow, Picks, Wanted, Below, seconds, SecondWanted, SecondChosen}
+use Rattle.seek.specs.WeighedLaws.{row-is, row-room, noted-still, weighed-still, first-weighed, second-weighed, held-row-is, pair-noted}
+use Rattle.seek.specs.Undoing.{undone-is, alone-undone, undone-after}
 use Rattle.seek.specs.NodeLaws.{course-runs, course-kids, course-node, left-is, room-is, sought-is, marked-picks, marked-mode, marked-kept, marked-beside}
 
 -- What is read from the table ------------------------------------------------------------------------------------------------
 
-module _ {ns t : List ℕ} {a i : ℕ} {d : List ℕ} (k : Weighed (scene ns t a) d i) where
-  row-is : row d i ≡ bareW (word a (runs ns t i))
-  row-is = k .right i (itself refl)
-
-  row-room : Spot ns t i → 9 * i + 8 < length d
-  row-room spot = omega (arith, k .long, spot .node .inside, spot .node .sound .few)
-
+module _ {ns t : List ℕ} {a i : ℕ} {n : Notes} (k : Weighed (scene ns t a) n i) where
   module _ (w : ℕ) (g : Weight) where
-    weight-read : {r : ℕ} → r ≡ total (byW (row d i) (closing w)) g → r ≡ weight-of (scene ns t a) i (closing w) g
-    weight-read e = total-by a g _ (closing w) refl refl (e ∙ ap (λ x. total (byW x (closing w)) g) row-is ∙ total-by-bare _ (closing w) g)
+    weight-read : {r : ℕ} → r ≡ total (byW (row (n .rows) i) (closing w)) g → r ≡ weight-of (scene ns t a) i (closing w) g
+    weight-read e = total-by a g _ (closing w) refl refl (e ∙ ap (λ x. total (byW x (closing w)) g) (row-is k) ∙ total-by-bare _ (closing w) g)
 
     -- none where the closing is done
-    own-read : {r : ℕ} → r ≡ total (whenT (not (eqb w 0)) (byW (row d i) (closing w))) g → r ≡ own-of (scene ns t a) i (closing w) g
-    own-read e = rw eqc-done (total-when a g _ (closing w) (not (eqb w 0)) refl (e ∙ ap (λ x. total (whenT (not (eqb w 0)) (byW x (closing w))) g) row-is ∙ total-when-bare _ (closing w) g (not (eqb w 0))))
+    own-read : {r : ℕ} → r ≡ total (whenT (not (eqb w 0)) (byW (row (n .rows) i) (closing w))) g → r ≡ own-of (scene ns t a) i (closing w) g
+    own-read e = rw eqc-done (total-when a g _ (closing w) (not (eqb w 0)) refl (e ∙ ap (λ x. total (whenT (not (eqb w 0)) (byW x (closing w))) g) (row-is k) ∙ total-when-bare _ (closing w) g (not (eqb w 0))))
 
-    before-read : {r : Weight} → r ≡ afterG (byW (row d i) (closing w)) g → r ≡ afterG (tally a (comps (runs ns t i) (closing w))) g
-    before-read e = e ∙ ap (λ x. afterG (byW x (closing w)) g) row-is ∙ after-by-bare _ (closing w) g ∙ ap (λ x. afterG x g) (by-word a (runs ns t i) (closing w))
+    before-read : {r : Weight} → r ≡ afterG (byW (row (n .rows) i) (closing w)) g → r ≡ afterG (tally a (comps (runs ns t i) (closing w))) g
+    before-read e = e ∙ ap (λ x. afterG (byW x (closing w)) g) (row-is k) ∙ after-by-bare _ (closing w) g ∙ ap (λ x. afterG x g) (by-word a (runs ns t i) (closing w))
 
 -- A node of a course becomes what one of that course does
 at-course : {ns t : List ℕ} {a i : ℕ} {x : Course} {q : Ask} {t′ : List ℕ} {p : Picked} → course-at ns t i ≡ x → Becomes ns a x t i q t′ p → Becomes ns a (course-at ns t i) t i q t′ p
@@ -81,20 +78,30 @@ ask-is {ns} {t} {a} {i} {x} {t′ = t′} {p = p} e b = subst (λ q. Becomes ns 
 known-is : {ns t : List ℕ} {a i : ℕ} {x : Course} {q : Ask} {t′ : List ℕ} {p r : Picked} → r ≡ p → Becomes ns a x t i q t′ p → Becomes ns a x t i q t′ r
 known-is {ns} {t} {a} {i} {x} {q} {t′} e b = subst (λ p. Becomes ns a x t i q t′ p) (sym e) b
 
--- what the counting pass sees of k is what is known of it
-view-known : (a j : ℕ) (k : Std) {v : View} → v ≡ view a k → picked j (v .moves) (v .done) ≡ known-of a j k
-view-known a j k e = λ z. picked j (view-moves a k e z) (view-able a k e z)
+-- a pair whose first part cannot end done has no compensation by done
+pair-none : (a : ℕ) (g : Weight) (p q : Std) {j : ℕ} → ends p done ≡ false → j < cap (sum-of (weight a g) (comps (pair p q) done)) → ⊥
+unfolding sum-of only
+pair-none a g p q {j} e h =
+    let none : comps (pair p q) done ≡ [] = comps-pair p q done ∙ ap (λ b. only b (q ∷ [])) e in
+    let k : j < cap (sum-of (weight a g) []) = subst (λ l. j < cap (sum-of (weight a g) l)) none h in
+    omega (arith, k)
+
+-- the row of a pair whose first part can end done tells what is known of the second
+not-none : (b : Bool) → not (eqb (cond b 1 0) 0) ≡ b
+not-none true = refl
+not-none false = refl
+
+lone-known : (a j : ℕ) (p k : Std) → ends p done ≡ true → {x : Word} → x ≡ bareW (word a (pair p k)) → lone x j ≡ known-of a j k
+unfolding view pairW
+lone-known a j p k o {x} e =
+    let y : x ≡ bareW (worded (cap (moves a p)) (oneT (view a k)) (whenT (ends p withdrawn) (oneT skipV)) (whenT (ends p failed) (oneT skipV))) = e ∙ ap bareW (word-pair a p k) ∙ (λ z. bareW (worded (cap (moves a p)) (whenT (o z) (oneT (view a k))) (whenT (ends p withdrawn) (oneT skipV)) (whenT (ends p failed) (oneT skipV)))) in
+    (λ z. picked j (y z .done .moves) (not (eqb (y z .done .able) 0))) ∙ ap (picked j (cap (moves a k))) (not-none (ends k done))
 
 -- on which closing a number falls
 falls-on : {x y j : ℕ} {w : Closing} {r : ℕ} → Lands x y j w r → Falls x y j w r
 falls-on (on-done h) = fall-done h
 falls-on (on-withdrawn h k) = fall-withdrawn h k
 falls-on (on-failed h k) = fall-failed h k
-
--- something is kept
-pub known-some : {s : Scene} {d : List ℕ} {i : ℕ} → MayKnow s d i → length d ≢ 0 → Weighed s d i
-known-some (inl e) n = absurd (n e)
-known-some (inr k) n = k
 
 -- A node by its course ---------------------------------------------------------------------------------------------------------
 
@@ -117,8 +124,8 @@ module _ {ns t : List ℕ} {a i : ℕ} (m : ℕ) {c w : ℕ} {g : Weight} {j : �
   pub below-room : j < weight-of (scene ns t₁ a) c (closing w) g
   below-room = room-is a g (closing w) (ap (λ p. p .run) (sym (same-part ns (b .spot .node .sound .tree) (b .kid) below-sets))) (b .room)
 
-  pub below-known : {d : List ℕ} → MayKnow (scene ns t a) d c → MayKnow (scene ns t₁ a) d c
-  below-known {d} = known-same ns (b .spot .node .sound .tree) a t t₁ d c (λ j u. sym (below-sets .others j (not-own ns (b .spot .node .sound .tree) (b .kid) u)))
+  pub below-weighed : {n : Notes} → Weighed (scene ns t a) n c → Weighed (scene ns t₁ a) n c
+  below-weighed {n} = weighed-still ns (b .spot .node .sound .tree) a c t t₁ n n (λ j u. sym (below-sets .others j (not-own ns (b .spot .node .sound .tree) (b .kid) u))) (λ j u. refl) refl
 
   pub below-chosen : {t′ : List ℕ} {p : Picked} → Chosen (scene ns t₁ a) c (ask (closing w) g j) t′ p → Chosen (scene ns (set t i m) a) c (ask (closing w) g j) t′ p
   below-chosen {t′} {p} h = subst (λ u. Chosen (scene ns u a) c (ask (closing w) g j) t′ p) e h
@@ -169,26 +176,42 @@ module _ {ns t : List ℕ} {i : ℕ} {two : Two} (spot : Spot ns t i) (e : cours
     pair-kept : Kept ns i (modes t) (modes t′)
     pair-kept j n = kept-set ns pair-sets j n ∙ kept-kid ns pair-tree (pair-twins .one) (x .kept) j n
 
-  pub pair-done : {a w j : ℕ} {t₁ t′ : List ℕ} → Redrawn ns (two .first) t t₁ → t′ ≡ set t₁ i left-second → w ≡ 0 → {c c′ : List ℕ} {v : View} → Counted (scene ns t′ a) (Plain Drawn) (two .second) c c′ v
-      → PairChosen (scene ns t a) i (closing w) j t′ (picked j (v .moves) (v .done))
-  unfolding std-of stand stand-undoing
-  pair-done {a} {w} {t′} x f o {v} h g room =
-      let q = pair-same left-second x f in
-      let l : left ns t′ i ≡ part ns (modes t) (two .second) .std Drawn = left-is ns t′ i pair-tree (course-node spot e) (pair-sets left-second x f .here) ∙ ap (λ p. p .std Drawn) q in
-      let u : v ≡ view a (part ns (modes t) (two .second) .std Drawn) = h .seen ∙ ap (λ p. view a (p .std Drawn)) q in
-      record {
-        sought = sought-is a g (closing w) (sym pair-runs) (sym l) (seek-pair a g _ _ (ap closing o) u (room-is a g (closing w) pair-runs room));
-        kept = pair-kept left-second x f;
-        becomes = at-course e (known-is (view-known a _ _ u) (pair-to-second (ap closing o) x (pair-sets left-second x f)));
-      }
+  -- P can end done, if there is a compensation by done
+  pair-over : (a j : ℕ) (g : Weight) → j < weight-of (scene ns t a) i done g → ends (part ns (modes t) (two .first) .std Drawn) done ≡ true
+  pair-over a j g room = by (ends (part ns (modes t) (two .first) .std Drawn) done) refl
+    where
+      by : (b : Bool) → ends (part ns (modes t) (two .first) .std Drawn) done ≡ b → ends (part ns (modes t) (two .first) .std Drawn) done ≡ true
+      by true e = e
+      by false e = absurd (pair-none a g _ _ e (room-is a g done pair-runs room))
 
-  pub pair-other : {a w j : ℕ} {t₁ t′ : List ℕ} → Redrawn ns (two .first) t t₁ → t′ ≡ set t₁ i left-nothing → w ≢ 0 → PairChosen (scene ns t a) i (closing w) j t′ (picked j 0 true)
-  unfolding std-of stand stand-undoing
-  pair-other {a} {w} {t′} x f n g room = record {
-    sought = sought-is a g (closing w) (sym pair-runs) (sym (left-is ns t′ i pair-tree (course-node spot e) (pair-sets left-nothing x f .here))) (seek-pair-skip a g _ _ (closing w) (closing-other w n) (room-is a g (closing w) pair-runs room));
-    kept = pair-kept left-nothing x f;
-    becomes = at-course e (pair-to-nothing (closing-other w n) x (pair-sets left-nothing x f));
-  }
+  module _ {a w j : ℕ} {n : Notes} (k : Weighed (scene ns t a) n i) (g : Weight) (room : j < weight-of (scene ns t a) i (closing w) g) {t′ : List ℕ} where
+    pub pair-chosen : {p : Picked} → PairLeft ns t (n .rows) i two w j t′ p → Chosen (scene ns t a) i (ask (closing w) g j) t′ p
+    unfolding std-of stand stand-undoing view
+    pair-chosen (to-second o x f) =
+        let q = pair-same left-second x f in
+        let l : left ns t′ i ≡ part ns (modes t) (two .second) .std Drawn = left-is ns t′ i pair-tree (course-node spot e) (pair-sets left-second x f .here) ∙ ap (λ p. p .std Drawn) q in
+        let u : lone (row (n .rows) i) j ≡ known-of a j (part ns (modes t) (two .second) .std Drawn) = lone-known a j _ _ (pair-over a j g (subst (λ w. j < weight-of (scene ns t a) i (closing w) g) o room)) (row-is k ∙ ap (λ r. bareW (word a r)) pair-runs) in
+        subst (Chosen (scene ns t a) i (ask (closing w) g j) t′) (sym u) (record {
+          sought = sought-is a g (closing w) (sym pair-runs) (sym l) (seek-pair a g _ _ (ap closing o) refl (room-is a g (closing w) pair-runs room));
+          kept = pair-kept left-second x f;
+          becomes = at-course e (pair-to-second (ap closing o) x (pair-sets left-second x f));
+        })
+    pair-chosen (to-nothing o x f) = record {
+      sought = sought-is a g (closing w) (sym pair-runs) (sym (left-is ns t′ i pair-tree (course-node spot e) (pair-sets left-nothing x f .here))) (seek-pair-skip a g _ _ (closing w) (closing-other w o) (room-is a g (closing w) pair-runs room));
+      kept = pair-kept left-nothing x f;
+      becomes = at-course e (pair-to-nothing (closing-other w o) x (pair-sets left-nothing x f));
+    }
+
+    -- what is drawn below is as it was
+    pub pair-undone : {p : Picked} → PairLeft ns t (n .rows) i two w j t′ p → UndoneBelow (scene ns t′ a) i n n
+    unfolding std-right stand stand-undoing
+    pair-undone (to-second o x f) =
+        let drawn = pair-noted k spot e (pair-over a j g (subst (λ w. j < weight-of (scene ns t a) i (closing w) g) o room)) in
+        let w′ = pair-sets left-second x f in
+        let same : (m : ℕ) → Under (shape ns) (two .second) m → modes t m ≡ modes t′ m = λ m u. sym (w′ .others m (not-own ns pair-tree (pair-twins .other) u) ∙ x .kept m (λ v. pair-twins .free m v u)) in
+        let still = noted-still ns pair-tree a (two .second) t t′ n n same (λ m u. refl) (λ z. z .std Drawn) drawn in
+        record { right = subst T (sym (undone-is ns t′ a i pair-tree n (course-node spot e) (w′ .here))) (noted-stored ns a (modes t′) (entries n) (two .second) (Plain Drawn) still); kept = λ m u. refl }
+    pair-undone (to-nothing o x f) = record { right = subst T (sym (undone-is ns t′ a i pair-tree n (course-node spot e) (pair-sets left-nothing x f .here))) tt; kept = λ m u. refl }
 
 -- A choice that has been made -----------------------------------------------------------------------------------------------
 
@@ -205,9 +228,6 @@ module _ {ns t : List ℕ} {a i c w : ℕ} {g : Weight} {j : ℕ} (h : Wanted (s
 
   pub as-room : j < weight-of (scene ns t a) c (closing w) g
   as-room = room-is a g (closing w) as-runs (h .room)
-
-  pub as-known : {d : List ℕ} → MayKnow (scene ns t a) d i → MayKnow (scene ns t a) d c
-  as-known = known-live (subst (λ x. Live x c) (sym (h .is)) refl)
 
   -- its mode stays, and says what it becomes too
   pub as-chosen : {t′ : List ℕ} {p : Picked} → Chosen (scene ns t a) c (ask (closing w) g j) t′ p → Chosen (scene ns t a) i (ask (closing w) g j) t′ p
@@ -244,28 +264,22 @@ module _ {ns t : List ℕ} {a i w : ℕ} {g : Weight} {j : ℕ} {o : Operator} {
   pub second-spot : Spot ns t (two .second)
   second-spot = lower-spot (h .spot) second-lower
 
-  module _ {d : List ℕ} (k : Weighed (scene ns t a) d i) where
-    first-weighed : Weighed (scene ns t a) d (two .first)
-    first-weighed = weighed-live (subst (λ x. Live x (two .first)) (sym (h .is)) (inl refl)) k
+  module _ {n : Notes} (k : Weighed (scene ns t a) n i) where
+    pub first-known : Weighed (scene ns t a) n (two .first)
+    first-known = first-weighed k (h .spot) (h .is)
 
-    second-weighed : Weighed (scene ns t a) d (two .second)
-    second-weighed = weighed-live (subst (λ x. Live x (two .second)) (sym (h .is)) (inr refl)) k
+    pub second-known : Weighed (scene ns t a) n (two .second)
+    second-known = second-weighed k (h .spot) (h .is)
 
-    pub first-known : MayKnow (scene ns t a) d (two .first)
-    first-known = inr first-weighed
+    pub first-row : 9 * two .first + 8 < length (n .rows)
+    first-row = row-room first-known first-spot
 
-    pub second-known : MayKnow (scene ns t a) d (two .second)
-    second-known = inr second-weighed
-
-    pub first-row : 9 * two .first + 8 < length d
-    first-row = row-room first-weighed first-spot
-
-    pub second-row : 9 * two .second + 8 < length d
-    second-row = row-room second-weighed second-spot
+    pub second-row : 9 * two .second + 8 < length (n .rows)
+    second-row = row-room second-known second-spot
 
     -- the first has become its compensation, and the second is as it was
-    pub second-still : {t₁ : List ℕ} → Kept ns (two .first) (modes t) (modes t₁) → MayKnow (scene ns t₁ a) d (two .second)
-    second-still {t₁} x = known-same ns two-tree a t t₁ d (two .second) (λ j u. sym (x j (λ v. two-twins .free j v u))) second-known
+    pub second-still : {t₁ : List ℕ} {n₁ : Notes} → Kept ns (two .first) (modes t) (modes t₁) → Kept ns (two .first) (entries n) (entries n₁) → length (n₁ .rows) ≡ length (n .rows) → Weighed (scene ns t₁ a) n₁ (two .second)
+    second-still {t₁} {n₁} x y l = weighed-still ns two-tree a (two .second) t t₁ n n₁ (λ j u. sym (x j (λ v. two-twins .free j v u))) (λ j u. sym (y j (λ v. two-twins .free j v u))) l second-known
 
   -- the mode m leaves the child c alone, and what is picked there is what is picked in the whole
   alone-chosen : (m : ℕ) {c n : ℕ} → Kid (shape ns) i c → stand Undoing (Compensable o two) m ≡ standings.only c Undoing → {t′ : List ℕ} {p : Picked}
@@ -280,8 +294,8 @@ module _ {ns t : List ℕ} {a i w : ℕ} {g : Weight} {j : ℕ} {o : Operator} {
 -- PP□QQ ---------------------------------------------------------------------------------------------------------------------
 
 module _ {ns t : List ℕ} {a i w : ℕ} {g : Weight} {j : ℕ} {two : Two} (h : Wanted (scene ns t a) i (course.Both Choice two) w g j) where
-  pub choice-weight : {d : List ℕ} → Weighed (scene ns t a) d i → {c : ℕ} → c ≡ total (byW (row d (two .first)) (closing w)) g → c ≡ weight-of (scene ns t a) (two .first) (closing w) g
-  choice-weight k = weight-read (first-weighed h k) w g
+  pub choice-weight : {n : Notes} → Weighed (scene ns t a) n i → {c : ℕ} → c ≡ total (byW (row (n .rows) (two .first)) (closing w)) g → c ≡ weight-of (scene ns t a) (two .first) (closing w) g
+  choice-weight k = weight-read (first-known h k) w g
 
   -- the first's compensations weigh c
   module _ {c : ℕ} (d : c ≡ weight-of (scene ns t a) (two .first) (closing w) g) where
@@ -293,6 +307,10 @@ module _ {ns t : List ℕ} {a i w : ℕ} {g : Weight} {j : ℕ} {two : Two} (h :
       unfolding stand stand-undoing undoing-two
       choice-first = alone-chosen h first-taken (two-twins h .one) refl (seek-calt-first a g _ _ (closing w)) (alt-to-first (omega (arith, d, lt)))
 
+      pub choice-first-undone : {q : Ask} {t′ : List ℕ} {p : Picked} → Chosen (scene ns (set t i first-taken) a) (two .first) q t′ p → {n n′ : Notes} → Undone (scene ns t′ a) (two .first) n n′ → UndoneBelow (scene ns t′ a) i n n′
+      unfolding stand stand-undoing undoing-two
+      choice-first-undone = alone-undone h first-taken (two-twins h .one) refl
+
     module _ (le : c ≤ j) where
       pub choice-second-below : Below (scene ns t a) i (two .second) w g (j - c)
       choice-second-below = record { spot = h .spot; kid = two-twins h .other; closes = h .closes; room = seek-calt-room a g _ _ (closing w) d (two-room h) le }
@@ -300,6 +318,10 @@ module _ {ns t : List ℕ} {a i w : ℕ} {g : Weight} {j : ℕ} {two : Two} (h :
       pub choice-second : {t′ : List ℕ} {p : Picked} → Chosen (scene ns (set t i second-taken) a) (two .second) (ask (closing w) g (j - c)) t′ p → Chosen (scene ns t a) i (ask (closing w) g j) t′ p
       unfolding stand stand-undoing undoing-two
       choice-second = alone-chosen h second-taken (two-twins h .other) refl (seek-calt-second a g _ _ (closing w) d (two-room h) le) (λ u b. alt-to-second (omega (arith, d, le)) u (ask-is (λ z. ask (closing w) g (j - d z)) b))
+
+      pub choice-second-undone : {q : Ask} {t′ : List ℕ} {p : Picked} → Chosen (scene ns (set t i second-taken) a) (two .second) q t′ p → {n n′ : Notes} → Undone (scene ns t′ a) (two .second) n n′ → UndoneBelow (scene ns t′ a) i n n′
+      unfolding stand stand-undoing undoing-two
+      choice-second-undone = alone-undone h second-taken (two-twins h .other) refl
 
 -- PP;QQ: the second, before what the first has become -----------------------------------------------------------------------
 
@@ -345,39 +367,41 @@ module _ {ns t : List ℕ} {a i w : ℕ} {g : Weight} {j : ℕ} {two : Two} (h :
   pub held-spot : Spot ns t (two .first)
   held-spot = lower-spot (h .spot) (kid-lower ns held-tree (held-twins .one))
 
-  pub held-known : {d : List ℕ} → MayKnow (scene ns t a) d i → MayKnow (scene ns t a) d (two .second)
-  held-known = known-live (subst (λ x. Live x (two .second)) (sym (h .is)) refl)
+  module _ {n : Notes} (k : Weighed (scene ns t a) n i) where
+    pub held-room : 9 * two .first + 8 < length (n .rows)
+    held-room = omega (arith, row-room k (h .spot), kid-lower ns held-tree (held-twins .one))
 
-  pub held-wanted : {c c′ : List ℕ} {v : View} → Counted (scene ns t a) (Plain Undoing) (two .first) c c′ v → SecondWanted (scene ns t a) i two w g (picked j (v .moves) (v .done))
-  held-wanted x = record {
-    spot = h .spot;
-    is = course-node (h .spot) (h .is);
-    closes = h .closes;
-    counted = view-moves a _ (x .seen);
-    ended = view-able a _ (x .seen);
-    room = seek-held-room a g _ _ (closing w) (room-is a g (closing w) held-runs (h .room));
-  }
+    -- PP's compensation, as its row tells
+    held-is : lone (row (n .rows) (two .first)) j ≡ known-of a j (left ns t (two .first))
+    held-is = lone-known a j skip (left ns t (two .first)) (ends-skip done) (held-row-is k (h .spot) (h .is))
 
-  pub held-chosen : {c c′ : List ℕ} {v : View} → Counted (scene ns t a) (Plain Undoing) (two .first) c c′ v → {t′ : List ℕ} {p : Picked}
-      → SecondChosen (scene ns t a) i two (closing w) g (picked j (v .moves) (v .done)) t′ p → Chosen (scene ns t a) i (ask (closing w) g j) t′ p
-  held-chosen x {t′} {p} m =
-      let u : Picks a (ask (closing w) g j) (comps (held (runs ns t (two .second)) (left ns t (two .first))) (closing w)) (left ns t′ i) p = seek-held a g _ _ (closing w) (m .sought) in
-      let k = view-known a j (left ns t (two .first)) (x .seen) in
-      record {
-        sought = sought-is a g (closing w) (sym held-runs) refl u;
-        kept = m .kept;
-        becomes = at-course (h .is) (known-is (m .is ∙ ap (seq-of (m .last)) k) (held-to-both (m .sets) (ask-is (ap (ask-second (ask (closing w) g j)) k) (m .becomes))));
-      }
+    pub held-wanted : {l : Picked} → l ≡ lone (row (n .rows) (two .first)) j → SecondWanted (scene ns t a) i two w g l
+    held-wanted {l} e = subst (SecondWanted (scene ns t a) i two w g) (sym (e ∙ held-is)) (record {
+      spot = h .spot;
+      is = course-node (h .spot) (h .is);
+      closes = h .closes;
+      counted = refl;
+      ended = refl;
+      room = seek-held-room a g _ _ (closing w) (room-is a g (closing w) held-runs (h .room));
+    })
+
+    pub held-chosen : {l : Picked} → l ≡ lone (row (n .rows) (two .first)) j → {t′ : List ℕ} {p : Picked} → SecondChosen (scene ns t a) i two (closing w) g l t′ p → Chosen (scene ns t a) i (ask (closing w) g j) t′ p
+    held-chosen {l} e {t′} {p} m = by (subst (λ l. SecondChosen (scene ns t a) i two (closing w) g l t′ p) (e ∙ held-is) m)
+      where
+        by : SecondChosen (scene ns t a) i two (closing w) g (known-of a j (left ns t (two .first))) t′ p → Chosen (scene ns t a) i (ask (closing w) g j) t′ p
+        by m =
+            let u : Picks a (ask (closing w) g j) (comps (held (runs ns t (two .second)) (left ns t (two .first))) (closing w)) (left ns t′ i) p = seek-held a g _ _ (closing w) (m .sought) in
+            record { sought = sought-is a g (closing w) (sym held-runs) refl u; kept = m .kept; becomes = at-course (h .is) (known-is (m .is) (held-to-both (m .sets) (m .becomes))) }
 
 -- PP;QQ whose PP runs -------------------------------------------------------------------------------------------------------
 
 module _ {ns t : List ℕ} {a i w : ℕ} {g : Weight} {j : ℕ} {two : Two} (h : Wanted (scene ns t a) i (course.Both Sequence two) w g j) where
-  module _ {d : List ℕ} (k : Weighed (scene ns t a) d i) where
-    pub own-weight : {c : ℕ} → c ≡ total (whenT (not (eqb w 0)) (byW (row d (two .first)) (closing w))) g → c ≡ own-of (scene ns t a) (two .first) (closing w) g
-    own-weight = own-read (first-weighed h k) w g
+  module _ {n : Notes} (k : Weighed (scene ns t a) n i) where
+    pub own-weight : {c : ℕ} → c ≡ total (whenT (not (eqb w 0)) (byW (row (n .rows) (two .first)) (closing w))) g → c ≡ own-of (scene ns t a) (two .first) (closing w) g
+    own-weight = own-read (first-known h k) w g
 
-    pub weight-before : {g₁ : Weight} → g₁ ≡ afterG (byW (row d (two .second)) (closing w)) g → g₁ ≡ afterG (tally a (comps (runs ns t (two .second)) (closing w))) g
-    weight-before = before-read (second-weighed h k) w g
+    pub weight-before : {g₁ : Weight} → g₁ ≡ afterG (byW (row (n .rows) (two .second)) (closing w)) g → g₁ ≡ afterG (tally a (comps (runs ns t (two .second)) (closing w))) g
+    weight-before = before-read (second-known h k) w g
 
   module _ {c : ℕ} (d : c ≡ own-of (scene ns t a) (two .first) (closing w) g) where
     -- PP closes by w
@@ -388,6 +412,10 @@ module _ {ns t : List ℕ} {a i w : ℕ} {g : Weight} {j : ℕ} {two : Two} (h :
       pub own-chosen : {t′ : List ℕ} {p : Picked} → Chosen (scene ns (set t i left-first) a) (two .first) (ask (closing w) g j) t′ p → Chosen (scene ns t a) i (ask (closing w) g j) t′ p
       unfolding stand stand-undoing undoing-two
       own-chosen = alone-chosen h left-first (two-twins h .one) refl (seek-own a g _ _ (closing w) d (two-room h) lt) (seq-to-first (omega (arith, d, lt)))
+
+      pub own-undone : {q : Ask} {t′ : List ℕ} {p : Picked} → Chosen (scene ns (set t i left-first) a) (two .first) q t′ p → {n n′ : Notes} → Undone (scene ns t′ a) (two .first) n n′ → UndoneBelow (scene ns t′ a) i n n′
+      unfolding stand stand-undoing undoing-two
+      own-undone = alone-undone h left-first (two-twins h .one) refl
 
     -- PP ends done, and QQ closes by w
     module _ (le : c ≤ j) {g₁ : Weight} (eg : g₁ ≡ afterG (tally a (comps (runs ns t (two .second)) (closing w))) g) where
@@ -421,22 +449,25 @@ module _ {ns t : List ℕ} {a i w : ℕ} {g : Weight} {j : ℕ} {two : Two} (h :
               becomes = at-course (h .is) (known-is (m .is) (seq-to-both (omega (arith, d, le)) (ask-is (λ z. ask done (eg z) (j - d z)) (x .becomes)) (m .sets) (m .becomes)));
             }
 
+  pub both-undone : {t₁ t′ : List ℕ} {n n₁ n₂ : Notes} → Undone (scene ns t₁ a) (two .first) n n₁ → UndoneBelow (scene ns t′ a) i n₁ n₂ → UndoneBelow (scene ns t′ a) i n n₂
+  both-undone u v = undone-after (two-tree h) (two-twins h .one) (u .kept) v
+
 -- PP∥QQ ---------------------------------------------------------------------------------------------------------------------
 
 -- b says whether the event is joint
-module _ {ns t : List ℕ} {a i w : ℕ} {g : Weight} {j n : ℕ} {two : Two} (h : Wanted (scene ns t a) i (course.Both (Parallel n) two) w g j) {d : List ℕ} (weighed : Weighed (scene ns t a) d i) {b : Bool} (eb : b ≡ joint-at a n) where
+module _ {ns t : List ℕ} {a i w : ℕ} {g : Weight} {j n : ℕ} {two : Two} (h : Wanted (scene ns t a) i (course.Both (Parallel n) two) w g j) {m : Notes} (weighed : Weighed (scene ns t a) m i) {b : Bool} (eb : b ≡ joint-at a n) where
   abbrev first-word : Word
   first-word = word a (runs ns t (two .first))
 
   abbrev second-word : Word
   second-word = word a (runs ns t (two .second))
 
-  module _ {p q : Word} (ep : p ≡ row d (two .first)) (eq : q ≡ row d (two .second)) where
+  module _ {p q : Word} (ep : p ≡ row (m .rows) (two .first)) (eq : q ≡ row (m .rows) (two .second)) where
     first-is : p ≡ bareW first-word
-    first-is = ep ∙ row-is (first-weighed h weighed)
+    first-is = ep ∙ row-is (first-known h weighed)
 
     second-is : q ≡ bareW second-word
-    second-is = eq ∙ row-is (second-weighed h weighed)
+    second-is = eq ∙ row-is (second-known h weighed)
 
     side-is : (x : Closing) → total (byW p x) (besideG b (partnersT q (closing w) x) g) ≡ total (byW first-word x) (besideG (joint-at a n) (partnersT second-word (closing w) x) g)
     side-is x = (λ z. total (byW (first-is z) x) (besideG (eb z) (partnersT (second-is z) (closing w) x) g)) ∙ side-bare (joint-at a n) first-word second-word (closing w) x g
@@ -450,7 +481,7 @@ module _ {ns t : List ℕ} {a i w : ℕ} {g : Weight} {j n : ℕ} {two : Two} (h
   within-is : (k : Picked) {g₂ : Weight} → g₂ ≡ withinG b g (k .moves) (k .able) → g₂ ≡ withinG (joint-at a n) g (k .moves) (k .able)
   within-is k e = e ∙ ap (λ b. withinG b g (k .moves) (k .able)) eb
 
-  module _ {p q : Word} (ep : p ≡ row d (two .first)) (eq : q ≡ row d (two .second)) {x r : ℕ} (fx : Fallen (total (byW p done) (besideG b (partnersT q (closing w) done) g)) (total (byW p withdrawn) (besideG b (partnersT q (closing w) withdrawn) g)) j x r) {g₁ : Weight} (e₁ : g₁ ≡ besideG b (partnersT q (closing w) (closing x)) g) where
+  module _ {p q : Word} (ep : p ≡ row (m .rows) (two .first)) (eq : q ≡ row (m .rows) (two .second)) {x r : ℕ} (fx : Fallen (total (byW p done) (besideG b (partnersT q (closing w) done) g)) (total (byW p withdrawn) (besideG b (partnersT q (closing w) withdrawn) g)) j x r) {g₁ : Weight} (e₁ : g₁ ≡ besideG b (partnersT q (closing w) (closing x)) g) where
     pub par-first-room : r < weight-of (scene ns t a) (two .first) (closing x) g₁
     par-first-room = seek-par-first-room a g (set-of (cued .sets) n) _ _ (closing w) refl refl (two-room h) (side-is ep eq done) (side-is ep eq withdrawn) (falls-on (fx .lands)) (e₁ ∙ beside-is ep eq (closing x))
 
@@ -476,10 +507,10 @@ module _ {ns t : List ℕ} {a i w : ℕ} {g : Weight} {j n : ℕ} {two : Two} (h
       par-chosen {t₂} {l} c₂ =
           let z : part ns (modes t₂) (two .first) ≡ part ns (modes t₁) (two .first) = kept-part ns (two-tree h) (two .second) (λ j u v. two-twins h .free j v u) (c₂ .kept) in
           let o : left ns t₂ i ≡ par (set-of (cued .sets) n) (left ns t₂ (two .first)) (left ns t₂ (two .second)) = left-is ns t₂ i (two-tree h) (course-node (h .spot) (h .is)) refl in
-          let m : par (set-of (cued .sets) n) (left ns t₁ (two .first)) (left ns t₂ (two .second)) ≡ left ns t₂ i = sym (o ∙ ap (λ p. par (set-of (cued .sets) n) (p .std Undoing) (left ns t₂ (two .second))) z) in
+          let whole : par (set-of (cued .sets) n) (left ns t₁ (two .first)) (left ns t₂ (two .second)) ≡ left ns t₂ i = sym (o ∙ ap (λ p. par (set-of (cued .sets) n) (p .std Undoing) (left ns t₂ (two .second))) z) in
           let v : Picks a (ask (closing y) g₂ r₂) (comps (runs ns t (two .second)) (closing y)) (left ns t₂ (two .second)) l = sought-is a g₂ (closing y) (ap (λ p. p .run) second-same) refl (c₂ .sought) in
           subst (λ b. Chosen (scene ns t a) i (ask (closing w) g j) t₂ (par-of b k l)) (sym eb) (record {
-            sought = sought-is a g (closing w) (sym (two-runs h)) m (seek-par a g (set-of (cued .sets) n) _ _ (closing w) refl refl (two-room h) (side-is ep eq done) (side-is ep eq withdrawn) (falls-on (fx .lands)) (e₁ ∙ beside-is ep eq (closing x)) (c₁ .sought) (within-is k e₂) (fitting-is ep eq (closing x) done g₂) (fitting-is ep eq (closing x) withdrawn g₂) (falls-on (fy .lands)) v);
+            sought = sought-is a g (closing w) (sym (two-runs h)) whole (seek-par a g (set-of (cued .sets) n) _ _ (closing w) refl refl (two-room h) (side-is ep eq done) (side-is ep eq withdrawn) (falls-on (fx .lands)) (e₁ ∙ beside-is ep eq (closing x)) (c₁ .sought) (within-is k e₂) (fitting-is ep eq (closing x) done g₂) (fitting-is ep eq (closing x) withdrawn g₂) (falls-on (fy .lands)) v);
             kept = λ b u. kept-kid ns (two-tree h) (two-twins h .other) (c₂ .kept) b u ∙ kept-kid ns (two-tree h) (two-twins h .one) (c₁ .kept) b u;
             becomes = at-course (h .is) (par-to-both first-lands (ask-is (ap (λ g. ask (closing x) g r) (e₁ ∙ beside-is ep eq (closing x))) (c₁ .becomes)) second-lands (ask-is (ap (λ g. ask (closing y) g r₂) (within-is k e₂)) (c₂ .becomes)));
           })

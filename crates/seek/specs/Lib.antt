@@ -1,8 +1,7 @@
 -- Definitions.
 pub mod Asked
-pub mod Weighed
 -- Theorems.
 pub mod NodeLaws
 pub mod WeighedLaws
-pub mod Weighing
+pub mod Undoing
 pub mod Branches

@@ -1,70 +1,96 @@
--- Laws of the table of running parts: what is right for a node is right for the parts that run in it (`weighed-live`); it depends only
--- on the modes and rows under the node (`weighed-same`, `weighed-rows`); and how it comes to be right, from part to whole. Assumes nothing.
-use Prim.Native.Nat.{ℕ}
-use mathlib.Core.Path.{_≡_, refl, sym, _∙_, ap, subst}
+-- Laws of what is kept of a node that runs: its row is that of its part (`row-is`), the parts that are live in it are right too, by its
+-- course, and what is noted of a node depends only on the modes and entries under it (`noted-still`, `weighed-still`). Assumes nothing.
+use Prim.Native.Nat.{ℕ, _+_, _*_, _<_}
+use mathlib.Core.Path.{_≡_, refl, _∙_, ap, subst}
+use mathlib.Core.Bool.{Bool, true, cond}
 use mathlib.Core.List.{List}
-use mathlib.Core.Logic.{inl, inr}
+use native.Mathlib.Omega.{arith}
+use lib.Dec.{T}
 use lib.ListN.{length}
-use Rattle.flow.specs.Kinds.{node, shape}
-use Rattle.flow.specs.Shapes.{Kid}
-use Rattle.flow.specs.Trees.{Under, self, Tree}
-use Rattle.flow.specs.Nodes.{under-kid, under-trans}
+use Rattle.calculus.specs.Term.{done}
+use Rattle.calculus.specs.Successors.{ends}
+use Rattle.calculus.specs.Members.{and-left, and-right}
+use Rattle.flow.specs.declared.Operator.{Operator}
+use Rattle.flow.specs.declared.Two.{Two}
+use Rattle.flow.specs.Kinds.{shape}
+use Rattle.flow.specs.Trees.{Under, Tree}
 use Rattle.tallies.specs.Counts.{word}
 use Rattle.tallies.specs.Bare.{bareW}
+use Rattle.states.specs.declared.Sense.the-variants.{Drawn, Undoing}
+use Rattle.states.specs.declared.Role.the-variants.{Running}
 use Rattle.states.specs.declared.Course.{Course}
 use Rattle.states.specs.declared.Course.the-variants as course
-use Rattle.states.specs.Standings.{course-of}
-use Rattle.states.specs.State.{modes}
-use Rattle.states.specs.StateLaws.{part-frame}
-use Rattle.states.specs.LiveParts.{CRests}
-use Rattle.states.specs.Rests.{course-rests}
-use Rattle.states.specs.Contracts.{scene}
-use Rattle.seek.specs.Asked.{course-at}
-use Rattle.seek.specs.Weighed.{row, Live, RunsIn, itself, inside, Weighed, MayKnow}
+use Rattle.states.specs.State.{part, modes}
+use Rattle.states.specs.Rows.{row, Notes, entries}
+use Rattle.states.specs.RowLaws.{same-is-row}
+use Rattle.states.specs.Stored.{Right, run-right, held-word, over}
+use Rattle.states.specs.StateLaws.{run-stored, noted-frame}
+use Rattle.states.specs.NotedLaws.{noted-stored, own-row, held-noted, held-row}
+use Rattle.states.specs.Contracts.{Spot, scene, stored-at, noted-at, Weighed}
+use Rattle.seek.specs.Asked.{course-at, runs, left}
 
--- Parts that run in a node ----------------------------------------------------------------------------------------------
+-- The modes and entries under a node are the same ------------------------------------------------------------------------------
 
-module _ (ns : List ℕ) (tree : Tree (shape ns)) where
-  live-kid : {i : ℕ} (x : Course) → CRests ns i x → {c : ℕ} → Live x c → Kid (shape ns) i c
-  live-kid (course.Basic b) w l = absurd l
-  live-kid (course.Pair x) w l = absurd l
-  live-kid {i} (course.Both o x) w (inl e) = subst (Kid (shape ns) i) (sym e) (w .one)
-  live-kid {i} (course.Both o x) w (inr e) = subst (Kid (shape ns) i) (sym e) (w .other)
-  live-kid {i} (course.Held x) w e = subst (Kid (shape ns) i) (sym e) (w .other)
-  live-kid {i} (course.As x) w e = subst (Kid (shape ns) i) (sym e) w
+module _ (ns : List ℕ) (tree : Tree (shape ns)) (a : ℕ) (x : ℕ) (t t′ : List ℕ) (c c′ : Notes) (e : (j : ℕ) → Under (shape ns) x j → modes t j ≡ modes t′ j) (f : (j : ℕ) → Under (shape ns) x j → entries c j ≡ entries c′ j) where
+  pub noted-still : (g : Right → Bool) → T (g (noted-at (scene ns t a) c x)) → T (g (noted-at (scene ns t′ a) c′ x))
+  noted-still g h = subst (λ z. T (g z)) (noted-frame ns tree a (modes t) (modes t′) (entries c) (entries c′) x e f) h
 
-  pub live-is-kid : (t : List ℕ) {i c : ℕ} → Live (course-at ns t i) c → Kid (shape ns) i c
-  live-is-kid t {i} l = live-kid (course-at ns t i) (course-rests ns i tree (modes t i)) l
+  pub weighed-still : length (c′ .rows) ≡ length (c .rows) → Weighed (scene ns t a) c x → Weighed (scene ns t′ a) c′ x
+  weighed-still l h = record { long = l ∙ h .long; right = noted-still (λ z. z .run) (h .right) }
 
-  pub runs-under : (t : List ℕ) {i j : ℕ} → RunsIn ns t i j → Under (shape ns) i j
-  runs-under t (itself e) = self e
-  runs-under t (inside l r) = under-kid (shape ns) (live-is-kid t l) (runs-under t r)
+-- A node that runs -------------------------------------------------------------------------------------------------------------
 
-  runs-same : (t t′ : List ℕ) {i j : ℕ} → ((k : ℕ) → Under (shape ns) i k → modes t k ≡ modes t′ k) → RunsIn ns t′ i j → RunsIn ns t i j
-  runs-same t t′ e (itself d) = itself d
-  runs-same t t′ {i} e (inside {c} l r) =
-      inside (subst (λ m. Live (course-of (node ns i) m) c) (sym (e i (self refl))) l) (runs-same t t′ (λ k u. e k (under-kid (shape ns) (live-is-kid t′ l) u)) r)
+module _ {ns t : List ℕ} {a i : ℕ} {c : Notes} (k : Weighed (scene ns t a) c i) where
+  pub row-is : row (c .rows) i ≡ bareW (word a (runs ns t i))
+  row-is = same-is-row (c .rows) i _ (own-row ns a (modes t) (entries c) i (k .right))
 
--- What the table is right for -------------------------------------------------------------------------------------------
+  module _ (spot : Spot ns t i) where
+    pub row-room : 9 * i + 8 < length (c .rows)
+    row-room = omega (arith, k .long, spot .node .inside, spot .node .sound .few)
 
-pub weighed-live : {ns t d : List ℕ} {a i c : ℕ} → Live (course-at ns t i) c → Weighed (scene ns t a) d i → Weighed (scene ns t a) d c
-weighed-live l h = record { long = h .long; right = λ j r. h .right j (inside l r) }
+    live-right : {x : Course} → course-at ns t i ≡ x → T (run-right x (over ns a (modes t)) (noted-at (scene ns t a) c) (stored-at (scene ns t a) c))
+    live-right e = subst T (run-stored ns (spot .node .sound .tree) a (modes t) (entries c) i ∙ ap (λ x. run-right x (over ns a (modes t)) (noted-at (scene ns t a) c) (stored-at (scene ns t a) c)) e)
+        (noted-stored ns a (modes t) (entries c) i Running (k .right))
 
-pub known-live : {ns t d : List ℕ} {a i c : ℕ} → Live (course-at ns t i) c → MayKnow (scene ns t a) d i → MayKnow (scene ns t a) d c
-known-live l (inl e) = inl e
-known-live l (inr h) = inr (weighed-live l h)
+    abbrev noted-run : ℕ → Bool
+    noted-run x = noted-at (scene ns t a) c x .run
 
--- the modes under the node are the same
-pub weighed-same : (ns : List ℕ) → Tree (shape ns) → (a : ℕ) (t t′ d : List ℕ) (i : ℕ) → ((j : ℕ) → Under (shape ns) i j → modes t j ≡ modes t′ j) → Weighed (scene ns t a) d i → Weighed (scene ns t′ a) d i
-weighed-same ns tree a t t′ d i e h = record {
-  long = h .long;
-  right = λ j r. h .right j (runs-same ns tree t t′ e r) ∙ ap (λ p. bareW (word a (p .run))) (part-frame ns tree (modes t) (modes t′) j (λ k u. e k (under-trans (shape ns) (runs-under ns tree t′ r) u)));
-}
+    pub as-weighed : {x : ℕ} → course-at ns t i ≡ course.As x → Weighed (scene ns t a) c x
+    unfolding run-right
+    as-weighed e = record { long = k .long; right = live-right e }
 
-pub known-same : (ns : List ℕ) → Tree (shape ns) → (a : ℕ) (t t′ d : List ℕ) (i : ℕ) → ((j : ℕ) → Under (shape ns) i j → modes t j ≡ modes t′ j) → MayKnow (scene ns t a) d i → MayKnow (scene ns t′ a) d i
-known-same ns tree a t t′ d i e (inl z) = inl z
-known-same ns tree a t t′ d i e (inr h) = inr (weighed-same ns tree a t t′ d i e h)
+    module _ {o : Operator} {two : Two} (e : course-at ns t i ≡ course.Both o two) where
+      pub first-weighed : Weighed (scene ns t a) c (two .first)
+      unfolding run-right
+      first-weighed = record { long = k .long; right = and-left (noted-run (two .first)) (noted-run (two .second)) (live-right e) }
 
--- the rows under the node are the same
-pub weighed-rows : {ns t : List ℕ} {a i : ℕ} → Tree (shape ns) → {d d′ : List ℕ} → length d′ ≡ 576 → ((j : ℕ) → Under (shape ns) i j → row d′ j ≡ row d j) → Weighed (scene ns t a) d i → Weighed (scene ns t a) d′ i
-weighed-rows {ns} {t} tree l e h = record { long = l; right = λ j r. e j (runs-under ns tree t r) ∙ h .right j r }
+      pub second-weighed : Weighed (scene ns t a) c (two .second)
+      unfolding run-right
+      second-weighed = record { long = k .long; right = and-right (noted-run (two .first)) (noted-run (two .second)) (live-right e) }
+
+    module _ {two : Two} (e : course-at ns t i ≡ course.Held two) where
+      abbrev noted-held : Bool
+      noted-held = noted-at (scene ns t a) c (two .first) .held
+
+      first-held : T noted-held
+      unfolding run-right
+      first-held = and-left noted-held (noted-run (two .second)) (live-right e)
+
+      pub held-undone : T (noted-at (scene ns t a) c (two .first) .std Undoing)
+      held-undone = held-noted ns a (modes t) (entries c) (two .first) (spot .node .sound .tree) first-held
+
+      pub held-row-is : row (c .rows) (two .first) ≡ bareW (held-word a (left ns t (two .first)))
+      held-row-is = same-is-row (c .rows) (two .first) _ (held-row ns a (modes t) (entries c) (two .first) (spot .node .sound .tree) first-held)
+
+      pub held-weighed : Weighed (scene ns t a) c (two .second)
+      unfolding run-right
+      held-weighed = record { long = k .long; right = and-right noted-held (noted-run (two .second)) (live-right e) }
+
+    -- the second part of a pair whose first can end done
+    module _ {two : Two} (e : course-at ns t i ≡ course.Pair two) where
+      abbrev second-noted : Bool
+      second-noted = noted-at (scene ns t a) c (two .second) .std Drawn
+
+      pub pair-noted : ends (part ns (modes t) (two .first) .std Drawn) done ≡ true → T second-noted
+      unfolding run-right
+      pair-noted d = subst (λ o. T (cond o second-noted true)) d (and-right (stored-at (scene ns t a) c (two .first) .std Drawn) (cond (over ns a (modes t) (two .first)) second-noted true) (live-right e))

@@ -13,17 +13,17 @@ use tallies::Word;
 ghost use mathlib.Core.Path.{_≡_};
 ghost use mathlib.Core.Bool.{not, cond};
 ghost use Prim.Native.Nat.{_+_, _*_, _<_};
-ghost use lib.Dec.{eqb};
+ghost use lib.Dec.{T, eqb};
 ghost use lib.ListN.{length, set};
 ghost use Rattle.calculus.specs.Term.{done, withdrawn};
 ghost use Rattle.flow.specs.declared.Operator.the-variants.{Sequence, Choice, Parallel};
 ghost use Rattle.tallies.specs.Capped.{cap};
-ghost use Rattle.tallies.specs.Counts.{word};
 ghost use Rattle.tallies.specs.Formulas.{closing, whenT, byW, total, afterG, besideG, partnersT, fittingT};
 ghost use Rattle.states.specs.declared.Course.the-variants.{Pair, Both, Held};
-ghost use Rattle.states.specs.Contracts.{Spot, scene, weight-of, ask, Chosen};
-ghost use Rattle.seek.specs.Asked.{Fallen, runs, course-at, asked, Wanted, Below, SecondWanted, SecondChosen, PairChosen};
-ghost use Rattle.seek.specs.Weighed.{share, Shared, row, Written, RowsKept, Weighed, MayKnow};
+ghost use Rattle.states.specs.declared.Sense.the-variants.{Undoing};
+ghost use Rattle.states.specs.Rows.{share, row, notes};
+ghost use Rattle.states.specs.Contracts.{Spot, scene, noted-at, weight-of, ask, Chosen, Weighed, Undone};
+ghost use Rattle.seek.specs.Asked.{Fallen, course-at, asked, lone, PairLeft, UndoneBelow, Wanted, Below, SecondWanted, SecondChosen};
 
 // What is known of running parts ------------------------------------------------------------------------------------
 
@@ -95,7 +95,10 @@ fn tally_at(d: &[u32], i: usize, w: u8) -> Tally
 }
 
 // The one compensation by done that is kept of node i, of a pair or of what is held, where j is left of the number.
-fn alone_at(d: &[u32], i: usize, j: u32) -> Picked {
+fn lone_at(d: &[u32], i: usize, j: u32) -> Picked
+    requires { ⌜ 9 * i + 8 < length (now d) ⌝ }
+    ensures { λ r. ⌜ r ≡ lone (row (now (d .entry)) i) j ⌝ }
+{
     let y = share(d, 9 * i);
     Picked {
         rest: j,
@@ -251,10 +254,10 @@ pub fn choose(
     j: u32,
 ) -> Picked
     requires { ⌜ Spot (now ns) (now t) i ⌝ }
-    requires { ⌜ Known (scene (now ns) (now t) a) (now c) (now d) i ⌝ }
+    requires { ⌜ Weighed (scene (now ns) (now t) a) (notes (now c) (now d)) i ⌝ }
     requires { ⌜ (w < 3) × (j < weight-of (scene (now ns) (now t) a) i (closing w) g) ⌝ }
     ensures { λ r. ⌜ Chosen (scene (now (ns .entry)) (now (t .entry)) a) i (ask (closing w) g j) (now (t .exit)) r ⌝ }
-    ensures counted { λ r. ⌜ Undone (scene (now (ns .entry)) (now (t .exit)) a) (now (d .entry)) i (now (c .entry)) (now (c .exit)) ⌝ }
+    ensures counted { λ r. ⌜ Undone (scene (now (ns .entry)) (now (t .exit)) a) i (notes (now (c .entry)) (now (d .entry))) (notes (now (c .exit)) (now (d .entry))) ⌝ }
 {
     let p = choose_by(
         ns,
@@ -269,7 +272,7 @@ pub fn choose(
             number: j,
         },
     );
-    c[i] = p.moves;
+    counting::put_count(c, i, p.moves);
     p
 }
 
@@ -282,7 +285,13 @@ fn choose_by(
     d: &[u32],
     i: usize,
     q: Query,
-) -> Picked {
+) -> Picked
+    requires { ⌜ Spot (now ns) (now t) i ⌝ }
+    requires { ⌜ Weighed (scene (now ns) (now t) a) (notes (now c) (now d)) i ⌝ }
+    requires { ⌜ (q .closing < 3) × (q .number < weight-of (scene (now ns) (now t) a) i (closing (q .closing)) (q .weight)) ⌝ }
+    ensures { λ r. ⌜ Chosen (scene (now (ns .entry)) (now (t .entry)) a) i (asked q) (now (t .exit)) r ⌝ }
+    ensures counted { λ r. ⌜ UndoneBelow (scene (now (ns .entry)) (now (t .exit)) a) i (notes (now (c .entry)) (now (d .entry))) (notes (now (c .exit)) (now (d .entry))) ⌝ }
+{
     let course = states::course_at(ns, t, i);
     match course {
         Course::Basic(_) => Picked {
@@ -293,7 +302,7 @@ fn choose_by(
         Course::Pair(two) => seek_pair(ns, t, d, i, two, q.closing, q.number),
         Course::Both(operator, two) => choose_both(ns, t, a, c, d, i, operator, two, q),
         Course::Held(two) => {
-            let k = alone_at(d, two.first, q.number);
+            let k = lone_at(d, two.first, q.number);
             seek_second(ns, t, a, c, d, i, two, q.closing, q.weight, k)
         }
         Course::As(child) => choose(ns, t, a, c, d, child, q.closing, q.weight, q.number),
@@ -312,8 +321,9 @@ fn choose_both(
     q: Query,
 ) -> Picked
     requires { ⌜ Wanted (scene (now ns) (now t) a) i (Both operator two) (q .closing) (q .weight) (q .number) ⌝ }
-    requires { ⌜ Weighed (scene (now ns) (now t) a) (now d) i ⌝ }
+    requires { ⌜ Weighed (scene (now ns) (now t) a) (notes (now c) (now d)) i ⌝ }
     ensures { λ r. ⌜ Chosen (scene (now (ns .entry)) (now (t .entry)) a) i (asked q) (now (t .exit)) r ⌝ }
+    ensures counted { λ r. ⌜ UndoneBelow (scene (now (ns .entry)) (now (t .exit)) a) i (notes (now (c .entry)) (now (d .entry))) (notes (now (c .exit)) (now (d .entry))) ⌝ }
 {
     match operator {
         Operator::Sequence => seek_running(ns, t, a, c, d, i, two, q),
@@ -323,11 +333,16 @@ fn choose_both(
 }
 
 // P÷Q has one compensation by each closing. P is passed, by all of them.
-fn seek_pair(ns: &[u16], t: &mut [u8], d: &[u32], i: usize, two: Two, w: u8, j: u32) -> Picked {
+fn seek_pair(ns: &[u16], t: &mut [u8], d: &[u32], i: usize, two: Two, w: u8, j: u32) -> Picked
+    requires { ⌜ Spot (now ns) (now t) i ⌝ }
+    requires { ⌜ course-at (now ns) (now t) i ≡ Pair two ⌝ }
+    requires { ⌜ 9 * i + 8 < length (now d) ⌝ }
+    ensures { λ r. ⌜ PairLeft (now (ns .entry)) (now (t .entry)) (now (d .entry)) i two w j (now (t .exit)) r ⌝ }
+{
     states::redraw(ns, t, two.first);
     if w == tallies::RANK_DONE {
         states::set_mode(t, i, states::LEFT_SECOND);
-        return alone_at(d, i, j);
+        return lone_at(d, i, j);
     }
     states::set_mode(t, i, states::LEFT_NOTHING);
     Picked {
@@ -337,7 +352,7 @@ fn seek_pair(ns: &[u16], t: &mut [u8], d: &[u32], i: usize, two: Two, w: u8, j: 
     }
 }
 
-// Node i gets the mode m, and its child c becomes one of its compensations.
+// Node i gets the mode m, and a child becomes one of its compensations.
 fn seek_marked(
     ns: &[u16],
     t: &mut [u8],
@@ -349,9 +364,10 @@ fn seek_marked(
     child: usize,
     q: Query,
 ) -> Picked
-    requires { ⌜ Below (scene (now ns) (now t) a) i c (q .closing) (q .weight) (q .number) ⌝ }
-    requires { ⌜ MayKnow (scene (now ns) (now t) a) (now d) c ⌝ }
-    ensures { λ r. ⌜ Chosen (scene (now (ns .entry)) (set (now (t .entry)) i m) a) c (asked q) (now (t .exit)) r ⌝ }
+    requires { ⌜ Below (scene (now ns) (now t) a) i child (q .closing) (q .weight) (q .number) ⌝ }
+    requires { ⌜ Weighed (scene (now ns) (now t) a) (notes (now c) (now d)) child ⌝ }
+    ensures { λ r. ⌜ Chosen (scene (now (ns .entry)) (set (now (t .entry)) i m) a) child (asked q) (now (t .exit)) r ⌝ }
+    ensures counted { λ r. ⌜ Undone (scene (now (ns .entry)) (now (t .exit)) a) child (notes (now (c .entry)) (now (d .entry))) (notes (now (c .exit)) (now (d .entry))) ⌝ }
 {
     states::set_mode(t, i, m);
     choose(ns, t, a, c, d, child, q.closing, q.weight, q.number)
@@ -371,8 +387,10 @@ fn seek_second(
     k: Picked,
 ) -> Picked
     requires { ⌜ SecondWanted (scene (now ns) (now t) a) i two w g k ⌝ }
-    requires { ⌜ MayKnow (scene (now ns) (now t) a) (now d) (two .second) ⌝ }
+    requires { ⌜ Weighed (scene (now ns) (now t) a) (notes (now c) (now d)) (two .second) ⌝ }
+    requires { ⌜ T (noted-at (scene (now ns) (now t) a) (notes (now c) (now d)) (two .first) .std Undoing) ⌝ }
     ensures { λ r. ⌜ SecondChosen (scene (now (ns .entry)) (now (t .entry)) a) i two (closing w) g k (now (t .exit)) r ⌝ }
+    ensures counted { λ r. ⌜ UndoneBelow (scene (now (ns .entry)) (now (t .exit)) a) i (notes (now (c .entry)) (now (d .entry))) (notes (now (c .exit)) (now (d .entry))) ⌝ }
 {
     let inside = tallies::weight_inside(g, k.moves, k.able);
     let inner = Query {
@@ -400,8 +418,9 @@ fn seek_running(
     q: Query,
 ) -> Picked
     requires { ⌜ Wanted (scene (now ns) (now t) a) i (Both Sequence two) (q .closing) (q .weight) (q .number) ⌝ }
-    requires { ⌜ Weighed (scene (now ns) (now t) a) (now d) i ⌝ }
+    requires { ⌜ Weighed (scene (now ns) (now t) a) (notes (now c) (now d)) i ⌝ }
     ensures { λ r. ⌜ Chosen (scene (now (ns .entry)) (now (t .entry)) a) i (asked q) (now (t .exit)) r ⌝ }
+    ensures counted { λ r. ⌜ UndoneBelow (scene (now (ns .entry)) (now (t .exit)) a) i (notes (now (c .entry)) (now (d .entry))) (notes (now (c .exit)) (now (d .entry))) ⌝ }
 {
     let own = own_weight(d, two.first, q.closing, q.weight);
     if q.number < own {
@@ -433,8 +452,9 @@ fn seek_choice(
     q: Query,
 ) -> Picked
     requires { ⌜ Wanted (scene (now ns) (now t) a) i (Both Choice two) (q .closing) (q .weight) (q .number) ⌝ }
-    requires { ⌜ Weighed (scene (now ns) (now t) a) (now d) i ⌝ }
+    requires { ⌜ Weighed (scene (now ns) (now t) a) (notes (now c) (now d)) i ⌝ }
     ensures { λ r. ⌜ Chosen (scene (now (ns .entry)) (now (t .entry)) a) i (asked q) (now (t .exit)) r ⌝ }
+    ensures counted { λ r. ⌜ UndoneBelow (scene (now (ns .entry)) (now (t .exit)) a) i (notes (now (c .entry)) (now (d .entry))) (notes (now (c .exit)) (now (d .entry))) ⌝ }
 {
     let g = q.weight;
     let p = weight_by(d, two.first, q.closing, g);
@@ -461,8 +481,9 @@ fn seek_parallel(
     q: Query,
 ) -> Picked
     requires { ⌜ Wanted (scene (now ns) (now t) a) i (Both (Parallel set) two) (q .closing) (q .weight) (q .number) ⌝ }
-    requires { ⌜ Weighed (scene (now ns) (now t) a) (now d) i ⌝ }
+    requires { ⌜ Weighed (scene (now ns) (now t) a) (notes (now c) (now d)) i ⌝ }
     ensures { λ r. ⌜ Chosen (scene (now (ns .entry)) (now (t .entry)) a) i (asked q) (now (t .exit)) r ⌝ }
+    ensures counted { λ r. ⌜ UndoneBelow (scene (now (ns .entry)) (now (t .exit)) a) i (notes (now (c .entry)) (now (d .entry))) (notes (now (c .exit)) (now (d .entry))) ⌝ }
 {
     let w = q.closing;
     let g = q.weight;

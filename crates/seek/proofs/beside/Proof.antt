@@ -2,7 +2,7 @@
 use Prim.Native.Nat.{_*_}
 use mathlib.Core.Path.{sym, ap, _∙_}
 use borrow.Author.Needs.{needs}
-use Rattle.seek.specs.Weighed.{row}
+use Rattle.states.specs.Rows.{row}
 use Rattle.tallies.specs.OwnLaws.{own-beside}
 use Rattle.tallies.specs.Formulas.{weighs, closing, partnersT}
 use Rattle.tallies.specs.Capped.{cap}

@@ -3,7 +3,7 @@
 use Prim.Native.Nat.{_*_}
 use mathlib.Core.Path.{sym, ap, _∙_}
 use borrow.Author.Needs.{needs}
-use Rattle.seek.specs.Weighed.{row}
+use Rattle.states.specs.Rows.{row}
 use Rattle.tallies.specs.OwnLaws.{own-total}
 use Rattle.tallies.specs.Formulas.{closing, fittingT}
 use Rattle.tallies.specs.Capped.{cap}

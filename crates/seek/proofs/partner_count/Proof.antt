@@ -4,7 +4,7 @@ use mathlib.Core.Path.{sym, ap₂, _∙_}
 use native.Mathlib.Omega.{arith}
 use borrow.Author.Needs.{needs}
 use Rattle.tallies.specs.declared.Word.{Word}
-use Rattle.seek.specs.Weighed.{row}
+use Rattle.states.specs.Rows.{row}
 use Rattle.tallies.specs.OwnLaws.{partners-many}
 use Rattle.tallies.specs.Formulas.{closing, fittingT}
 use Rattle.tallies.specs.Capped.{most, cap}

@@ -2,7 +2,7 @@
 -- nothing.
 use mathlib.Core.Path.{_∙_, ap}
 use borrow.Author.Needs.{needs}
-use Rattle.seek.specs.Weighed.{row}
+use Rattle.states.specs.Rows.{row}
 use Rattle.tallies.specs.BareLaws.{nothing-weighs}
 use Rattle.tallies.specs.Formulas.{closing, total, besideG, partnersT}
 use Rattle.seek.proofs.side_weight.Statement.{statement}

@@ -1,6 +1,6 @@
 -- `seek::word_at` meets its contract: what the three calls ensure, put together. Assumes nothing.
 use Rattle.tallies.specs.Formulas.{worded}
-use Rattle.seek.specs.Weighed.{row}
+use Rattle.states.specs.Rows.{row}
 use borrow.Author.Needs.{needs}
 use Rattle.seek.proofs.word_at.Statement.{statement}
 use Rattle.seek.proofs.word_at.Tie as tie
