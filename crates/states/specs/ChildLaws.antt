@@ -98,5 +98,6 @@ module _ (ns : List ℕ) where
             pub beside-part : part ns (modes t″) s ≡ part ns (modes t) s
             beside-part = part-frame ns tree (modes t″) (modes t) s stays
 
-            pub beside-stored : (a : ℕ) (b : Notes) → stored ns a (modes t″) (entries b) s ≡ stored ns a (modes t) (entries b) s
-            beside-stored a b = stored-frame ns tree a (modes t″) (modes t) (entries b) (entries b) s stays (λ j u. refl)
+            -- and so do entries, where only those under the child changed
+            pub beside-stored : (a : ℕ) (b b′ : Notes) → Kept ns c (entries b) (entries b′) → stored ns a (modes t″) (entries b′) s ≡ stored ns a (modes t) (entries b) s
+            beside-stored a b b′ l = stored-frame ns tree a (modes t″) (modes t) (entries b′) (entries b) s stays (λ j u. l j (λ v. free j v u))

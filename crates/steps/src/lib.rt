@@ -20,7 +20,8 @@ ghost use Rattle.states.specs.declared.Course.the-variants as course;
 ghost use Rattle.states.specs.declared.Sense.the-variants.{Drawn, Undoing};
 ghost use Rattle.states.specs.declared.Role.the-variants.{Plain, Running};
 ghost use Rattle.states.specs.State.{modes, counts};
-ghost use Rattle.states.specs.Contracts.{Spot, Sets, scene, weight-of, ask, Chosen, Ready, Stepped};
+ghost use Rattle.states.specs.Rows.{notes, entries};
+ghost use Rattle.states.specs.Contracts.{Spot, Kept, Sets, scene, weight-of, ask, Chosen, Weighed, Ready, Stepped};
 ghost use Rattle.states.specs.Hands.{move, stand-in, course-in, gone, first-mode, second-mode, Passed, Meets};
 ghost use Rattle.steps.specs.Turns.{Turned, halves, Forked};
 
@@ -120,8 +121,10 @@ fn pass(ns: &[u16], t: &mut [u8], operator: Operator, first: usize)
 fn hold(ns: &[u16], t: &mut [u8], a: u64, c: &mut [u32; 64], d: &[u32], two: Two, j: u32) -> Picked
     requires { ⌜ Spot (now ns) (now t) (two .first) ⌝ }
     requires { ⌜ two .second < 64 ⌝ }
+    requires { ⌜ Weighed (scene (now ns) (now t) a) (notes (now c) (now d)) (two .first) ⌝ }
     requires { ⌜ j < weight-of (scene (now ns) (now t) a) (two .first) done (holdG (counts (now c) (two .second))) ⌝ }
     ensures { λ r. ⌜ Chosen (scene (now (ns .entry)) (now (t .entry)) a) (two .first) (ask done (holdG (counts (now (c .entry)) (two .second))) j) (now (t .exit)) r ⌝ }
+    ensures noted { λ r. ⌜ Kept (now (ns .entry)) (two .first) (entries (notes (now (c .entry)) (now (d .entry)))) (entries (notes (now (c .exit)) (now (d .entry)))) ⌝ }
 {
     let own = count_at(c, two.second);
     let each = Weight {
@@ -144,10 +147,11 @@ fn turn_run(
     two: Two,
     k: u32,
 ) -> Turn
-    requires { ⌜ Ready (scene (now ns) (now t) a) Running (now c) i k ⌝ }
+    requires { ⌜ Ready (scene (now ns) (now t) a) Running (notes (now c) (now d)) i k ⌝ }
     requires { ⌜ course-in (scene (now ns) (now t) a) i ≡ course.Both operator two ⌝ }
     requires { ⌜ joint-by a operator ≡ false ⌝ }
-    ensures { λ r. ⌜ Turned (scene (now (ns .entry)) (now (t .entry)) a) (now (c .entry)) (move Running i k) (now (t .exit)) (move Running (r .node) (r .at)) ⌝ }
+    ensures { λ r. ⌜ Turned (scene (now (ns .entry)) (now (t .entry)) a) (notes (now (c .exit)) (now (d .entry))) (move Running i k) (now (t .exit)) (move Running (r .node) (r .at)) ⌝ }
+    ensures noted { λ r. ⌜ Kept (now (ns .entry)) i (entries (notes (now (c .entry)) (now (d .entry)))) (entries (notes (now (c .exit)) (now (d .entry)))) ⌝ }
 {
     let x = turn_two(t, c, i, operator, two, states::HELD, k);
     match operator {
@@ -180,10 +184,11 @@ fn turn_out(
     child: usize,
     k: u32,
 ) -> u32
-    requires { ⌜ Ready (scene (now ns) (now t) a) (Plain Drawn) (now c) i k ⌝ }
+    requires { ⌜ Ready (scene (now ns) (now t) a) (Plain Drawn) (notes (now c) (now d)) i k ⌝ }
     requires { ⌜ stand-in (scene (now ns) (now t) a) Drawn i ≡ standing.Block child ⌝ }
     requires { ⌜ counts (now c) child ≤ k ⌝ }
-    ensures { λ r. ⌜ Turned (scene (now (ns .entry)) (now (t .entry)) a) (now (d .exit)) (move (Plain Drawn) i k) (now (t .exit)) (move (Plain Undoing) child r) ⌝ }
+    ensures { λ r. ⌜ Turned (scene (now (ns .entry)) (now (t .entry)) a) (notes (now (c .exit)) (now (d .entry))) (move (Plain Drawn) i k) (now (t .exit)) (move (Plain Undoing) child r) ⌝ }
+    ensures noted { λ r. ⌜ Kept (now (ns .entry)) i (entries (notes (now (c .entry)) (now (d .entry)))) (entries (notes (now (c .exit)) (now (d .entry)))) ⌝ }
 {
     let n = count_at(c, child);
     states::set_mode(t, i, states::COMPENSATING);
@@ -207,8 +212,9 @@ pub fn step_std(
     sense: Sense,
     k: u32,
 )
-    requires { ⌜ Ready (scene (now ns) (now t) a) (Plain sense) (now c) i k ⌝ }
+    requires { ⌜ Ready (scene (now ns) (now t) a) (Plain sense) (notes (now c) (now d)) i k ⌝ }
     ensures { λ r. ⌜ Stepped (scene (now (ns .entry)) (now (t .entry)) a) (Plain sense) i k (now (t .exit)) ⌝ }
+    ensures noted { λ r. ⌜ Kept (now (ns .entry)) i (entries (notes (now (c .entry)) (now (d .entry)))) (entries (notes (now (c .exit)) (now (d .entry)))) ⌝ }
 {
     let mut here = i;
     let mut live = sense;
@@ -258,9 +264,10 @@ fn meet_std(
     sense: Sense,
     k: u32,
 )
-    requires { ⌜ Ready (scene (now ns) (now t) a) (Plain sense) (now c) i k ⌝ }
+    requires { ⌜ Ready (scene (now ns) (now t) a) (Plain sense) (notes (now c) (now d)) i k ⌝ }
     requires { ⌜ Meets a (Plain sense) (stand-in (scene (now ns) (now t) a) sense i) two ⌝ }
     ensures { λ r. ⌜ Stepped (scene (now (ns .entry)) (now (t .entry)) a) (Plain sense) i k (now (t .exit)) ⌝ }
+    ensures noted { λ r. ⌜ Kept (now (ns .entry)) i (entries (notes (now (c .entry)) (now (d .entry)))) (entries (notes (now (c .exit)) (now (d .entry)))) ⌝ }
 {
     let n = count_at(c, two.second);
     step_std(ns, t, a, c, d, two.first, sense, k / n);
@@ -278,9 +285,10 @@ fn step_block(
     child: usize,
     k: u32,
 )
-    requires { ⌜ Ready (scene (now ns) (now t) a) (Plain Drawn) (now c) i k ⌝ }
+    requires { ⌜ Ready (scene (now ns) (now t) a) (Plain Drawn) (notes (now c) (now d)) i k ⌝ }
     requires { ⌜ stand-in (scene (now ns) (now t) a) Drawn i ≡ standing.Block child ⌝ }
     ensures { λ r. ⌜ Stepped (scene (now (ns .entry)) (now (t .entry)) a) (Plain Drawn) i k (now (t .exit)) ⌝ }
+    ensures noted { λ r. ⌜ Kept (now (ns .entry)) i (entries (notes (now (c .entry)) (now (d .entry)))) (entries (notes (now (c .exit)) (now (d .entry)))) ⌝ }
 {
     if k < count_at(c, child) {
         step_run(ns, t, a, c, d, child, k);
@@ -292,8 +300,9 @@ fn step_block(
 
 // The k-th step of a compensable part that runs.
 pub fn step_run(ns: &[u16], t: &mut [u8], a: u64, c: &mut [u32; 64], d: &[u32], i: usize, k: u32)
-    requires { ⌜ Ready (scene (now ns) (now t) a) Running (now c) i k ⌝ }
+    requires { ⌜ Ready (scene (now ns) (now t) a) Running (notes (now c) (now d)) i k ⌝ }
     ensures { λ r. ⌜ Stepped (scene (now (ns .entry)) (now (t .entry)) a) Running i k (now (t .exit)) ⌝ }
+    ensures noted { λ r. ⌜ Kept (now (ns .entry)) i (entries (notes (now (c .entry)) (now (d .entry)))) (entries (notes (now (c .exit)) (now (d .entry)))) ⌝ }
 {
     let runs = states::course_at(ns, t, i);
     match runs {
@@ -322,9 +331,10 @@ fn meet_run(
     two: Two,
     k: u32,
 )
-    requires { ⌜ Ready (scene (now ns) (now t) a) Running (now c) i k ⌝ }
+    requires { ⌜ Ready (scene (now ns) (now t) a) Running (notes (now c) (now d)) i k ⌝ }
     requires { ⌜ Meets a Running (course-in (scene (now ns) (now t) a) i) two ⌝ }
     ensures { λ r. ⌜ Stepped (scene (now (ns .entry)) (now (t .entry)) a) Running i k (now (t .exit)) ⌝ }
+    ensures noted { λ r. ⌜ Kept (now (ns .entry)) i (entries (notes (now (c .entry)) (now (d .entry)))) (entries (notes (now (c .exit)) (now (d .entry)))) ⌝ }
 {
     let n = count_at(c, two.second);
     step_run(ns, t, a, c, d, two.first, k / n);

@@ -7,14 +7,14 @@ use Rattle.steps.proofs.hold.Tie as tie
 count-at-requires : tie.Need-count-at-requires
 count-at-requires c κs = search needs
 
-seek-requires : tie.Need-seek-requires
-seek-requires c κs = let p = c .before .before .before .before .pre in (p .0, (omega arith, rw (c .before .count-at .ensures) (p .1 .1)))
+choose-requires : tie.Need-choose-requires
+choose-requires c κs = let p = c .before .before .before .before .before .before .before .pre in (p .0, (p .1 .1 .0, (omega arith, rw (c .before .before .count-at .ensures) (p .1 .1 .1))))
 
 same-length : tie.Need-same-length
 same-length c = search needs
 
 returns : tie.Need-returns
-returns c = rw (c .before .before .before .before .count-at .ensures) at (c .before .before .seek .ensures)
+returns c = (rw (c .before .before .before .before .before .count-at .ensures) at (c .before .before .choose .ensures .0), c .before .before .choose .ensures .1 .kept)
 
 pub hold-spec : {M : Type 1} → statement M
-hold-spec = tie.close (tie.spec count-at-requires seek-requires same-length returns)
+hold-spec = tie.close (tie.spec count-at-requires choose-requires same-length returns)
