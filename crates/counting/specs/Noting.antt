@@ -5,6 +5,7 @@ use mathlib.Core.Bool.{Bool}
 use mathlib.Core.List.{List}
 use mathlib.Core.Logic.{_≢_}
 use lib.Dec.{T}
+use lib.ListN.{length}
 use Rattle.calculus.specs.Term.{skip}
 use Rattle.calculus.specs.Members.{and-in, and-left, and-right}
 use Rattle.flow.specs.declared.Two.{Two}
@@ -33,9 +34,10 @@ use Rattle.states.specs.ChildLaws.{not-above, kept-above}
 pub record Leaves (s : Scene) (f : Right → Bool) (x : ℕ) (c c′ : Notes) : Type 0 where
   pub right : T (f (noted-at s c′ x))
   pub kept : Kept (s .ns) x (entries c) (entries c′)
+  pub long : length (c′ .rows) ≡ length (c .rows)
 
 pub leaves : {s : Scene} {r : Role} {x : ℕ} {c c′ : Notes} {v : Sight r} → Counted s r x c c′ v → Leaves s (ok r) x c c′
-leaves h = record { right = h .right; kept = h .kept }
+leaves h = record { right = h .right; kept = h .kept; long = h .long }
 
 abbrev pub held-of : Right → Bool
 held-of z = z .held
@@ -61,20 +63,21 @@ module _ (s : Scene) {i : ℕ} (spot : Spot (s .ns) (s .t) i) where
     abbrev pub Sees : Sight r → Type 0
     Sees v = v ≡ look r (s .a) (get r (part-at s i))
 
-    whole-noted : (b : Bool) {c c₁ c₂ : Notes} {v : Sight r} → Sees v → Whole c₂ b → T b → Kept (s .ns) i (entries c) (entries c₁) → Writes r c₁ i v c₂ → Counted s r i c c₂ v
-    whole-noted b {c} {c₁} {c₂} e er h k w = record {
+    whole-noted : (b : Bool) {c c₁ c₂ : Notes} {v : Sight r} → Sees v → Whole c₂ b → T b → Kept (s .ns) i (entries c) (entries c₁) → length (c₁ .rows) ≡ length (c .rows) → Writes r c₁ i v c₂ → Counted s r i c c₂ v
+    whole-noted b {c} {c₁} {c₂} e er h k l w = record {
       seen = e;
       right = noted-in (s .ns) (s .a) (modes (s .t)) (entries c₂) i r (subst (λ v. Keeps r (entries c₂ i) v) e (w .here)) (subst T (sym er) h);
       kept = λ j n. w .others j (λ q. n (self q)) ∙ k j n;
+      long = w .long ∙ l;
     }
 
     pub none-noted : (b : Bool) → T b → {c c′ : Notes} {v : Sight r} → Sees v → Whole c′ b → Writes r c i v c′ → Counted s r i c c′ v
-    none-noted b h e er w = whole-noted b e er h (λ j n. refl) w
+    none-noted b h e er w = whole-noted b e er h (λ j n. refl) refl w
 
     module _ {j : ℕ} (u : Under (shape (s .ns)) i j) where
       pub one-noted : (f : Right → Bool) {x : ℕ} → Kid (shape (s .ns)) j x → {c c₁ c₂ : Notes} {v : Sight r} → Leaves s f x c c₁
           → (b : Bool) → (T (f (noted-at s c₂ x)) → T b) → Sees v → Whole c₂ b → Writes r c₁ i v c₂ → Counted s r i c c₂ v
-      one-noted f kid {c₁ = c₁} {c₂} h b only e er w = whole-noted b e er (only (child-noted u f kid c₁ c₂ (w .others) (h .right))) (kept-above (s .ns) tree u kid (h .kept)) w
+      one-noted f kid {c₁ = c₁} {c₂} h b only e er w = whole-noted b e er (only (child-noted u f kid c₁ c₂ (w .others) (h .right))) (kept-above (s .ns) tree u kid (h .kept)) (h .long) w
 
       pub two-noted : (f g : Right → Bool) {x : Two} → Twins (s .ns) j x → {c c₁ c₂ c₃ : Notes} {v : Sight r}
           → Leaves s f (x .first) c c₁ → Leaves s g (x .second) c₁ c₂
@@ -83,7 +86,7 @@ module _ (s : Scene) {i : ℕ} (spot : Spot (s .ns) (s .t) i) where
       two-noted f g {x} kids {c} {c₁} {c₂} {c₃} h k b both e er w =
           let still = moved f (x .first) c₁ c₂ (λ n v. sym (k .kept n (λ y. kids .free n v y))) (h .right) in
           whole-noted b e er (both (child-noted u f (kids .one) c₂ c₃ (w .others) still) (child-noted u g (kids .other) c₂ c₃ (w .others) (k .right)))
-          (λ n out. kept-above (s .ns) tree u (kids .other) (k .kept) n out ∙ kept-above (s .ns) tree u (kids .one) (h .kept) n out) w
+          (λ n out. kept-above (s .ns) tree u (kids .other) (k .kept) n out ∙ kept-above (s .ns) tree u (kids .one) (h .kept) n out) (k .long ∙ h .long) w
 
   -- what is held is counted as what it is, and then its row is written
   pub held-leaves : {x : ℕ} {c c₁ : Notes} {p : View} {d : List ℕ} → Counted s (Plain Undoing) x c c₁ p → Written (c₁ .rows) x (pairW skipV p) d → Leaves s held-of x c (notes (c₁ .steps) d)
@@ -98,4 +101,5 @@ module _ (s : Scene) {i : ℕ} (spot : Spot (s .ns) (s .t) i) where
       record {
         right = held-in ns a m (entries c₂) x tree (and-in (counted-std ns a m (entries c₂) Undoing x) (stored-at s c₂ x .std Undoing) own-right below′) (w .here ∙ ap bareW is);
         kept = λ j n. others j (λ q. n (self q)) ∙ h .kept j n;
+        long = w .long ∙ h .long;
       }

@@ -57,7 +57,7 @@ unfolding row
 written-by {d} {d₁} {d₂} {d₃} {i} x p q r =
     let e = share-below r (9 * i) (omega arith) ∙ share-below q (9 * i) (omega arith) ∙ p .here in
     let f = share-below r (9 * i + 3) (omega arith) ∙ q .here in
-    record { here = λ z. worded 0 (e z) (f z) (r .here z); others = λ j n. by j n (ltb j i) refl }
+    record { here = λ z. worded 0 (e z) (f z) (r .here z); others = λ j n. by j n (ltb j i) refl; long = r .long ∙ q .long ∙ p .long }
   where
     by : (j : ℕ) → j ≢ i → (b : Bool) → ltb j i ≡ b → row d₃ j ≡ row d j
     by j n true g = let l = ltb-true j i g in row-below r j i l (omega arith) ∙ row-below q j i l (omega arith) ∙ row-below p j i l (omega arith)
@@ -70,11 +70,12 @@ entry n w = record { steps = n; row = w }
 
 -- a number of steps is noted, and what is answered is what was given
 pub plain-writes : {z : Sense} {c c′ d : List ℕ} {i : ℕ} {y w : View} → (w ≡ y) × Sets c i (y .moves) c′ → Writes (Plain z) (notes c d) i w (notes c′ d)
-plain-writes {d = d} h = record { here = h .1 .here ∙ ap (λ v. v .moves) (sym (h .0)); others = λ j n. ap (λ m. entry m (row d j)) (h .1 .others j n) }
+plain-writes {d = d} h = record { here = h .1 .here ∙ ap (λ v. v .moves) (sym (h .0)); others = λ j n. ap (λ m. entry m (row d j)) (h .1 .others j n); long = refl }
 
 -- and a row too
 pub run-writes : {c c′ d d′ : List ℕ} {i : ℕ} {u v : Word} → (v ≡ u) × (Sets c i (u .moves) c′ × Written d i u d′) → Writes Running (notes c d) i v (notes c′ d′)
 run-writes {c} {c′} {d} {d′} {i} {u} {v} h = record {
   here = (h .1 .0 .here ∙ ap (λ w. w .moves) (sym (h .0)), h .1 .1 .here ∙ ap bareW (sym (h .0)));
   others = λ j n z. entry (h .1 .0 .others j n z) (h .1 .1 .others j n z);
+  long = h .1 .1 .long;
 }

@@ -3,12 +3,12 @@
 use Prim.Native.Nat.{ℕ, suc, _-_, _≤_, _<_}
 use mathlib.Core.Path.{_≡_, refl, sym, ap, _∙_, subst, subst₂}
 use mathlib.Core.Bool.{Bool, true, false, cond}
-use mathlib.Core.Logic.{_≢_, inl, inr}
+use mathlib.Core.Logic.{_≢_}
 use mathlib.Core.List.{List, [], _∷_, map}
 use native.Mathlib.Omega.{arith}
 use lib.Dec.{T, ltb}
 use lib.ListN.{length, length-map}
-use borrow.Author.Tests.{lt-ltb, le-ltb, leb-true, leb-false}
+use borrow.Author.Tests.{lt-ltb, le-ltb}
 use Rattle.calculus.specs.Term.{Closing, done, withdrawn, failed, Std}
 use Rattle.calculus.specs.Records.{State, over, std, cmp, Closed, Fits}
 use Rattle.calculus.specs.Successors.{only, some-of, ends, comps}
@@ -33,10 +33,10 @@ use Rattle.states.specs.declared.Sense.the-variants.{Undoing}
 use Rattle.states.specs.declared.Role.{Role}
 use Rattle.states.specs.declared.Role.the-variants.{Plain, Running}
 use Rattle.states.specs.Roles.{Term, get, nexts, many, Sight, look, moves-of, ok}
-use Rattle.states.specs.NotedLaws.{counted-right}
-use Rattle.seek.specs.Weighed.{MayKnow, Weighed}
-use Rattle.states.specs.Contracts.{Spot, scene, stored-at, weight-of, ask, Counted, Ready, Stepped, Chosen}
-use Rattle.search.specs.Visits.{state, role-next, closing-of, ends-by, onward, Inner, RightCounts, successor-count, SuccessorsCounted, ClosingsCounted, closes, Applied}
+use Rattle.states.specs.Rows.{Notes, notes, entries}
+use Rattle.states.specs.NotedLaws.{noted-stored}
+use Rattle.states.specs.Contracts.{Spot, scene, noted-at, weight-of, ask, Counted, Weighed, Ready, Stepped, Chosen}
+use Rattle.search.specs.Visits.{state, role-next, closing-of, ends-by, onward, Inner, RightCounts, successor-count, SuccessorsCounted, Applied}
 use Rattle.search.proofs.Numbers.{record-event, record-close, last-close, not-twice}
 
 -- Successors, by the role -------------------------------------------------------------------------------------------------
@@ -93,16 +93,17 @@ module _ (ns t : List ℕ) (r i : ℕ) (e : i ≡ root ns) {role x : Role} (g : 
   -- An event ------------------------------------------------------------------------------------------------------------
 
   module _ (event : r < done-cue) where
-    pub counted-event : {c c′ : List ℕ} {v : Sight x} → Counted (scene ns t r) x i c c′ v → SuccessorsCounted ns role r t c′ (moves-of x v)
-    counted-event {c} {c′} {v} k =
-        let q : Counted (scene ns t r) x (root ns) c c′ v = subst (λ j. Counted (scene ns t r) x j c c′ v) e k in
-        subst (λ z. SuccessorsCounted ns z r t c′ (moves-of x v)) (sym g)
-        (record { many = moves-seen x r (at-root ns t) (q .seen) ∙ sym (count-event ns t r x event); right = counted-right q })
+    pub counted-event : {c : Notes} {c′ d′ : List ℕ} {v : Sight x} → length (c .rows) ≡ 576 → Counted (scene ns t r) x i c (notes c′ d′) v → SuccessorsCounted ns role r t c′ d′ (moves-of x v)
+    counted-event {c} {c′} {d′} {v} long k =
+        let q : Counted (scene ns t r) x (root ns) c (notes c′ d′) v = subst (λ j. Counted (scene ns t r) x j c (notes c′ d′) v) e k in
+        subst (λ z. SuccessorsCounted ns z r t c′ d′ (moves-of x v)) (sym g)
+        (record { many = moves-seen x r (at-root ns t) (q .seen) ∙ sym (count-event ns t r x event); right = record { long = q .long ∙ long; right = q .right } })
 
-    pub step-asked : Spot ns t (root ns) → {c d : List ℕ} → RightCounts ns role r t c d → {k : ℕ} → k < successor-count ns role r t → Ready (scene ns t r) x c i k
-    step-asked spot {c} {d} right {k} h = subst (λ j. Ready (scene ns t r) x c j k) (sym e) (record {
+    pub step-asked : Spot ns t (root ns) → {c d : List ℕ} → RightCounts ns role r t c d → {k : ℕ} → k < successor-count ns role r t → Ready (scene ns t r) x (notes c d) i k
+    step-asked spot {c} {d} right {k} h = subst (λ j. Ready (scene ns t r) x (notes c d) j k) (sym e) (record {
       spot = spot;
-      right = subst (λ z. T (ok z (stored-at (scene ns t r) c (root ns)))) g (right .steps event);
+      long = right .long;
+      right = noted-stored ns r (modes t) (entries (notes c d)) (root ns) x (subst (λ z. T (ok z (noted-at (scene ns t r) (notes c d) (root ns)))) g (right .right));
       room = subst (λ n. k < n) (ap (λ z. successor-count ns z r t) g ∙ count-event ns t r x event) h;
     })
 
@@ -143,11 +144,12 @@ module _ (ns t : List ℕ) (r i : ℕ) (e : i ≡ root ns) {role : Role} (g : ro
   high = subst (λ z. Inner z r) g inner
 
   pub closing-asked : w < 3 → Spot ns t (root ns) → {c d : List ℕ} → RightCounts ns role r t c d → {k : ℕ} → k < successor-count ns role r t
-      → Spot ns t i × (MayKnow (scene ns t r) d i × ((w < 3) × (k < weight-of (scene ns t r) i (closing w) oneG)))
+      → Spot ns t i × (Weighed (scene ns t r) (notes c d) i × ((w < 3) × (k < weight-of (scene ns t r) i (closing w) oneG)))
   closing-asked l spot {c} {d} right {k} h =
       let n : k < cap (length (comps (at-root ns t .run) (closing-of r))) = subst (λ n. k < n) (ap (λ z. successor-count ns z r t) g ∙ count-closing ns t r low high) h in
-      subst (λ j. Spot ns t j × (MayKnow (scene ns t r) d j × ((w < 3) × (k < weight-of (scene ns t r) j (closing w) oneG)))) (sym e)
-      (spot, (right .closings low, (l, subst (λ z. k < weight-of (scene ns t r) (root ns) z oneG) (sym cw) (seek-one-room r (comps (at-root ns t .run) (closing-of r)) n))))
+      let known : Weighed (scene ns t r) (notes c d) (root ns) = record { long = right .long; right = subst (λ z. T (ok z (noted-at (scene ns t r) (notes c d) (root ns)))) g (right .right) } in
+      subst (λ j. Spot ns t j × (Weighed (scene ns t r) (notes c d) j × ((w < 3) × (k < weight-of (scene ns t r) j (closing w) oneG)))) (sym e)
+      (spot, (known, (l, subst (λ z. k < weight-of (scene ns t r) (root ns) z oneG) (sym cw) (seek-one-room r (comps (at-root ns t .run) (closing-of r)) n))))
 
   pub closing-applied : {k : ℕ} {t′ : List ℕ} {p : Picked} → Chosen (scene ns t r) i (ask (closing w) oneG k) t′ p → Applied ns role r t k t′
   unfolding state role-next
@@ -168,43 +170,13 @@ module _ (ns t : List ℕ) (r i : ℕ) (e : i ≡ root ns) (low : done-cue ≤ r
       ap (λ (z : Tally). z .many) (tally-by r (at-root ns t .run) (closing-of r) (ev ∙ ap (λ j. word r (part ns (modes t) j .run)) e) (ey ∙ ap (byW v) cw))
       ∙ sym (count-closing ns t r low high)
 
-  pub counted-closing : {d : List ℕ} → Weighed (scene ns t r) d i → ClosingsCounted ns r t d (y .many)
-  counted-closing {d} ok = record { many = tallied-closing; right = subst (λ j. Weighed (scene ns t r) d j) e ok }
+  pub counted-closing : {role : Role} → role ≡ Running → {c′ d′ : List ℕ} → length d′ ≡ 576 → T (noted-at (scene ns t r) (notes c′ d′) i .run) → SuccessorsCounted ns role r t c′ d′ (y .many)
+  counted-closing g {c′} {d′} long right =
+      subst (λ z. SuccessorsCounted ns z r t c′ d′ (y .many)) (sym g) (record { many = tallied-closing; right = record { long = long; right = subst (λ j. T (noted-at (scene ns t r) (notes c′ d′) j .run)) e right } })
 
-  pub running-follows : {role : Role} → role ≡ Running → ltb 0 (y .many) ≡ may-follow [] (state ns role t) (cue-record r)
-  running-follows {role} g = count-follows ns role r t (tallied-closing ∙ ap (λ z. successor-count ns z r t) (sym g))
-
--- which of the two it is
-closes-running : (role : Role) (r : ℕ) → closes role r ≡ true → (role ≡ Running) × (done-cue ≤ r)
-unfolding closes
-closes-running (Plain s) r e = absurd (let z : _≡_ {A = ℕ} 0 1 = cc e in omega arith)
-closes-running Running r e = (refl, leb-true done-cue r e)
-
-not-closes : (role : Role) (r : ℕ) → closes role r ≡ false → Inner role r → r < done-cue
-unfolding closes
-not-closes (Plain s) r e h = h
-not-closes Running r e h = leb-false done-cue r e
-
-module _ (ns t : List ℕ) (role : Role) (r : ℕ) where
-  module _ (e : closes role r ≡ true) where
-    pub closing-low : done-cue ≤ r
-    closing-low = closes-running role r e .1
-
-    pub closing-high : Inner role r → r ≤ failed-cue
-    closing-high h = subst (λ z. Inner z r) (closes-running role r e .0) h
-
-    pub closing-tried : {c d : List ℕ} {n : ℕ} → ClosingsCounted ns r t d n → RightCounts ns role r t c d × (n ≡ successor-count ns role r t)
-    closing-tried {c} {d} {n} k = (
-      record { steps = λ h. absurd (let l = closing-low in omega arith); closings = λ h. inr (k .right) },
-      k .many ∙ ap (λ z. successor-count ns z r t) (sym (closes-running role r e .0)),
-    )
-
-  module _ (e : closes role r ≡ false) (h : Inner role r) where
-    pub event-low : r < done-cue
-    event-low = not-closes role r e h
-
-    pub event-tried : {c d : List ℕ} {n : ℕ} → length d ≡ 0 → SuccessorsCounted ns role r t c n → RightCounts ns role r t c d × (n ≡ successor-count ns role r t)
-    event-tried z k = (record { steps = λ l. k .right; closings = λ l. inl z }, k .many)
+-- the closing that the code has found
+pub closing-high : {role : Role} {r : ℕ} → role ≡ Running → Inner role r → r ≤ failed-cue
+closing-high {r = r} g h = subst (λ z. Inner z r) g h
 
 -- The last record -----------------------------------------------------------------------------------------------------------
 
@@ -218,20 +190,13 @@ last-ends : (p : Std) (r : ℕ) (b : Bool) → Fits (std p) (cue-records (r ∷ 
 unfolding next
 last-ends p r b f e = ap (next (std p)) (last-close r f) ∙ ap (λ b. only b (over ∷ [])) (sym e)
 
--- a standard part's closing is its last record
-pub plain-fits : (ns t : List ℕ) (r : ℕ) → done-cue ≤ r → r ≤ failed-cue → {role : Role} {z : Sense} → role ≡ Plain z → Fits (state ns role t) (cue-records (r ∷ []))
-unfolding state
-plain-fits ns t r low high {role} {z} g =
-    let f : Fits (state ns (Plain z) t) (cue-records (r ∷ [])) = subst (λ x. Closed (x ∷ [])) (sym (record-close r low high)) Closed.last in
-    subst (λ x. Fits (state ns x t) (cue-records (r ∷ []))) (sym g) f
-
 module _ (ns t : List ℕ) (r i : ℕ) (e : i ≡ root ns) (role : Role) (f : Fits (state ns role t) (cue-records (r ∷ []))) where
   module _ {b : Bool} {v : View} (q : b ≡ ends-by v (closing-of r)) where
     -- what is seen of the part that is the state
     seen-ends : (p : Std) → state ns role t ≡ std p → v ≡ view r p → next (state ns role t) (cue-record r) ≡ only b (over ∷ [])
     seen-ends p d h = ap (λ s. next s (cue-record r)) d ∙ last-ends p r b (subst (λ s. Fits s (cue-records (r ∷ []))) d f) (q ∙ view-ends r p (closing-of r) h)
 
-    pub std-ends : (z : Sense) → role ≡ Plain z → {c c′ : List ℕ} → Counted (scene ns t r) (Plain z) i c c′ v → next (state ns role t) (cue-record r) ≡ only b (over ∷ [])
+    pub std-ends : (z : Sense) → role ≡ Plain z → {c c′ : Notes} → Counted (scene ns t r) (Plain z) i c c′ v → next (state ns role t) (cue-record r) ≡ only b (over ∷ [])
     std-ends z g k = seen-ends (part ns (modes t) i .std z) (ap (λ x. state ns x t) g ∙ state-is ns t (Plain z) ∙ ap (λ j. std (part ns (modes t) j .std z)) (sym e)) (k .seen)
 
   -- a part that runs takes two closings

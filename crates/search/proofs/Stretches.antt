@@ -3,11 +3,9 @@
 use Prim.Native.Nat.{ℕ, suc, _+_, _-_, _*_, _≤_, _<_}
 use mathlib.Core.Path.{_≡_, refl, sym, ap, _∙_, subst}
 use mathlib.Core.List.{List, [], _++_, append-assoc, append-nil}
-use mathlib.Core.Logic.{inl, inr}
 use native.Mathlib.Omega.{arith}
 use native.Mathlib.Numerals.{add-one}
 use native.Mathlib.Nat.{mul-suc}
-use lib.Dec.{T}
 use lib.ListN.{length, take, drop, getD, set, length-drop, List·getD-append, drop-of-length-le}
 use lib.Seq.{paste, paste-suc, length-paste, drop-paste, getD-take, getD-drop, length-take-le, take-at, drop-at, take-all, drop-drop, ext-getD}
 use borrow.Rule.Slice.PartMut.{putMid, midOf}
@@ -16,11 +14,11 @@ use Rattle.flow.specs.Kinds.{shape}
 use Rattle.flow.specs.Trees.{Under}
 use Rattle.flow.specs.Nodes.{under-le}
 use Rattle.flow.specs.Refusals.{count, root}
-use Rattle.states.specs.State.{modes, counts}
-use Rattle.states.specs.StateLaws.{part-frame, stored-frame}
-use Rattle.states.specs.Contracts.{Sound, Kept, scene}
-use Rattle.seek.specs.Weighed.{MayKnow}
-use Rattle.seek.specs.WeighedLaws.{weighed-same}
+use Rattle.states.specs.State.{modes}
+use Rattle.states.specs.StateLaws.{part-frame}
+use Rattle.states.specs.Contracts.{Sound, Kept}
+use Rattle.states.specs.Rows.{notes}
+use Rattle.seek.specs.WeighedLaws.{noted-still}
 use Rattle.states.specs.Roles.{ok}
 use Rattle.states.specs.declared.Role.{Role}
 use Rattle.states.specs.declared.Role.the-variants.{Plain, Running}
@@ -153,14 +151,7 @@ module _ (ns : List ℕ) (sound : Sound ns) (some : 3 ≤ length ns) where
     state-same Running = ap (λ x. cmp (x .run)) (part-frame ns (sound .tree) (modes t) (modes t′) (root ns) (λ j u. same j (below u)))
 
     pub right-same : (role : Role) (a : ℕ) (c d : List ℕ) → RightCounts ns role a t c d → RightCounts ns role a t′ c d
-    right-same role a c d r = record {
-      steps = λ h. subst (λ x. T (ok role x)) (stored-frame ns (sound .tree) a (modes t) (modes t′) (counts c) (counts c) (root ns) (λ j u. same j (below u)) (λ j u. refl)) (r .steps h);
-      closings = λ h. by (r .closings h);
-    }
-      where
-        by : MayKnow (scene ns t a) d (root ns) → MayKnow (scene ns t′ a) d (root ns)
-        by (inl e) = inl e
-        by (inr w) = inr (weighed-same ns (sound .tree) a t t′ d (root ns) (λ j u. same j (below u)) w)
+    right-same role a c d r = record { long = r .long; right = noted-still ns (sound .tree) a (root ns) t t′ (notes c d) (notes c d) (λ j u. same j (below u)) (λ j u. refl) (ok role) (r .right) }
 
   pub used-modes : (m : ℕ) (t t′ : List ℕ) → Used (count ns) m t t′ → (j : ℕ) → j < count ns → getD t j 0 ≡ getD t′ j 0
   used-modes m t t′ u j h =

@@ -24,8 +24,8 @@ use Rattle.states.specs.declared.Role.{Role}
 use Rattle.states.specs.declared.Role.the-variants.{Plain, Running}
 use Rattle.states.specs.State.{part, modes}
 use Rattle.states.specs.Roles.{ok}
-use Rattle.states.specs.Contracts.{Sound, Kept, scene, stored-at}
-use Rattle.seek.specs.Weighed.{MayKnow, Weighed}
+use Rattle.states.specs.Rows.{notes}
+use Rattle.states.specs.Contracts.{Sound, Kept, scene, noted-at}
 use Rattle.memory.specs.declared.Sight.{Sight}
 use Rattle.memory.specs.Memory.{slots, Held, Same}
 use Rattle.search.specs.declared.Out.{Out}
@@ -247,37 +247,26 @@ abbrev pub Inner : Role → ℕ → Type 0
 Inner (Plain s) r = r < done-cue
 Inner Running r = r ≤ failed-cue
 
--- whether a part that runs closes, as the code tells
-unfoldable pub closes : Role → ℕ → Bool
-closes (Plain s) r = false
-closes Running r = leb done-cue r
-
 -- whether a standard part closes, as the code tells: then nothing is left
 unfoldable pub ends : Role → ℕ → Bool
 ends (Plain s) r = leb done-cue r
 ends Running r = false
 
--- the counts that the successors by this record are found by: those of steps, or those of a running part's compensations, where they
--- are known
+-- the tables that the successors by this record are found by: what is kept of the root, and of what is live in it, is right
 pub record RightCounts (ns : List ℕ) (role : Role) (a : ℕ) (t c d : List ℕ) : Type 0 where
-  pub steps : a < done-cue → T (ok role (stored-at (scene ns t a) c (root ns)))
-  pub closings : done-cue ≤ a → MayKnow (scene ns t a) d (root ns)
+  pub long : length d ≡ 576
+  pub right : T (ok role (noted-at (scene ns t a) (notes c d) (root ns)))
 
 -- how many successors, capped
 abbrev pub successor-count : List ℕ → Role → ℕ → List ℕ → ℕ
 successor-count ns role r t = cap (length (next (state ns role t) (cue-record r)))
 
 module _ (ns : List ℕ) (role : Role) (r : ℕ) (t : List ℕ) where
-  pub record SuccessorsCounted (c′ : List ℕ) (n : ℕ) : Type 0 where
+  pub record SuccessorsCounted (c′ d′ : List ℕ) (n : ℕ) : Type 0 where
     pub many : n ≡ successor-count ns role r t
-    pub right : T (ok role (stored-at (scene ns t r) c′ (root ns)))
+    pub right : RightCounts ns role r t c′ d′
 
   -- the stretch has become the k-th successor's
   pub record Applied (k : ℕ) (t′ : List ℕ) : Type 0 where
     pub goes : At (next (state ns role t) (cue-record r)) k (state ns (role-next role r) t′)
     pub kept : Kept ns (root ns) (modes t) (modes t′)
-
--- the compensations of a part that runs, by a closing
-pub record ClosingsCounted (ns : List ℕ) (r : ℕ) (t d′ : List ℕ) (n : ℕ) : Type 0 where
-  pub many : n ≡ successor-count ns Running r t
-  pub right : Weighed (scene ns t r) d′ (root ns)

@@ -27,7 +27,7 @@ ghost use Rattle.memory.specs.Memory.{Fitting};
 ghost use Rattle.search.specs.declared.Out.the-variants.{Back};
 ghost use Rattle.search.specs.Room.{room-of, cleared};
 ghost use Rattle.search.specs.Searches.{role-of, LeftWithin, SearchReady, Searched, answered, went-through, Asked};
-ghost use Rattle.search.specs.Visits.{state, role-next, out-of, closing-of, ends-by, onward, VisitReady, Asking, memory, key-of, saw-none, Truthful, KeptOut, quest, Began, Visited, Tried, Followed, Inner, closes, ends, RightCounts, successor-count, SuccessorsCounted, ClosingsCounted, Applied};
+ghost use Rattle.search.specs.Visits.{state, role-next, out-of, closing-of, ends-by, onward, VisitReady, Asking, memory, key-of, saw-none, Truthful, KeptOut, quest, Began, Visited, Tried, Followed, Inner, ends, RightCounts, successor-count, SuccessorsCounted, Applied};
 
 // What a search brings back: whether it found the end, how many records at most it followed, and what is left of the allowance.
 pub struct Trip {
@@ -74,7 +74,8 @@ fn root_of(ns: &[u16]) -> usize
     ns.len() / 3 - 1
 }
 
-// How many successors a state has by an event.
+// How many successors a state has by a record that does not end the search. What is known of its parts is left in c and d, for all of
+// them to be found by.
 fn successors(
     ns: &[u16],
     t: &[u8],
@@ -84,8 +85,9 @@ fn successors(
     role: Role,
 ) -> u32
     requires { ⌜ Spot (now ns) (now t) (root (now ns)) ⌝ }
-    requires { ⌜ (3 ≤ length (now ns)) × (cue < done-cue) ⌝ }
-    ensures { λ r. ⌜ SuccessorsCounted (now (ns .entry)) role cue (now (t .entry)) (now (c .exit)) r ⌝ }
+    requires { ⌜ (3 ≤ length (now ns)) × Inner role cue ⌝ }
+    requires { ⌜ length (now d) ≡ 576 ⌝ }
+    ensures { λ r. ⌜ SuccessorsCounted (now (ns .entry)) role cue (now (t .entry)) (now (c .exit)) (now (d .exit)) r ⌝ }
 {
     let i = root_of(ns);
     match role {
@@ -199,32 +201,14 @@ fn finish(ns: &[u16], t: &[u8], cue: u64, role: Role, left: u32) -> Out
     }
 }
 
-// Whether the root can close by this closing.
-fn closes_by(ns: &[u16], t: &[u8], cue: u64, role: Role) -> bool
-    requires { ⌜ Spot (now ns) (now t) (root (now ns)) ⌝ }
-    requires { ⌜ (3 ≤ length (now ns)) × ((done-cue ≤ cue) × (cue ≤ failed-cue)) ⌝ }
-    ensures { λ r. ⌜ r ≡ may-follow [] (state (now (ns .entry)) role (now (t .entry))) (cue-record cue) ⌝ }
-{
-    match role {
-        Role::Plain(_) => can_end(ns, t, cue, role),
-        Role::Running => {
-            let mut c = [0u32; 64];
-            let mut d = [0u32; 576];
-            let w = counting::count_run(ns, t, cue, &mut c, &mut d, root_of(ns));
-            let y = tallies::tally_by(w, rank_of(cue));
-            y.many > 0
-        }
-    }
-}
-
 // Whether the record of a cue can follow in this state.
 fn follows(ns: &[u16], t: &[u8], cue: u64, role: Role) -> bool
     requires { ⌜ Spot (now ns) (now t) (root (now ns)) ⌝ }
     requires { ⌜ (3 ≤ length (now ns)) × (cue ≤ failed-cue) ⌝ }
     ensures { λ r. ⌜ r ≡ may-follow [] (state (now (ns .entry)) role (now (t .entry))) (cue-record cue) ⌝ }
 {
-    if cue >= flow::DONE_CUE {
-        return closes_by(ns, t, cue, role);
+    if ends(role, cue) {
+        return can_end(ns, t, cue, role);
     }
     let mut c = [0u32; 64];
     let mut d = [0u32; 576];

@@ -21,12 +21,14 @@ use Rattle.states.specs.Hands.{move, Makes}
 pub record Writes (r : Role) (c : Notes) (i : ℕ) (v : Sight r) (c′ : Notes) : Type 0 where
   pub here : Keeps r (entries c′ i) v
   pub others : (j : ℕ) → j ≢ i → entries c′ j ≡ entries c j
+  pub long : length (c′ .rows) ≡ length (c .rows)
 
 -- the counting pass in a role: tables c before and c′ after, answer v
 pub record Counted (s : Scene) (r : Role) (i : ℕ) (c c′ : Notes) (v : Sight r) : Type 0 where
   pub seen : v ≡ look r (s .a) (get r (part-at s i))
   pub right : T (ok r (noted-at s c′ i))
   pub kept : Kept (s .ns) i (entries c) (entries c′)
+  pub long : length (c′ .rows) ≡ length (c .rows)
 
 -- what is kept of node i, which runs, and of what is live in it, is right; there are rows for 64 nodes
 pub record Weighed (s : Scene) (c : Notes) (i : ℕ) : Type 0 where

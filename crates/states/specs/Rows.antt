@@ -32,6 +32,7 @@ pub record Shared (d : List ℕ) (k : ℕ) (x : Tally) (d′ : List ℕ) : Type 
 pub record Written (d : List ℕ) (i : ℕ) (x : Word) (d′ : List ℕ) : Type 0 where
   pub here : row d′ i ≡ bareW x
   pub others : (j : ℕ) → j ≢ i → row d′ j ≡ row d j
+  pub long : length d′ ≡ length d
 
 -- whether the numbers of a row are those of x
 unfoldable pub same-share : Tally → Tally → Bool

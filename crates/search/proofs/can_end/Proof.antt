@@ -12,7 +12,7 @@ enum-known-role : tie.Need-enum-known-role
 enum-known-role c = search needs
 
 count-std-requires : tie.Need-count-std-requires
-count-std-requires c κs = rw (c .before .before .before .before .root-of .ensures) (c .before .before .before .before .before .before .before .pre .0)
+count-std-requires c κs = rw (c .before .before .before .before .before .root-of .ensures) (c .before .before .before .before .before .before .before .before .pre .0)
 
 ends-by-requires : tie.Need-ends-by-requires
 ends-by-requires c κs = search needs
@@ -22,10 +22,10 @@ enum-told c = search needs
 
 returns : tie.Need-returns
 returns c =
-    let s = c .before .before .before .before .before .before .before .before .before in
+    let s = c .before .before .before .before .before .before .before .before .before .before in
     let a = s .args in
-    let i = c .before .before .before .before .before .before .root-of in
-    std-ends (a .ns .now) (a .t .now) (a .cue) (i .result) (i .ensures) (a .role) (s .pre .1 .1) (c .ends-by .ensures) _ (c .before .before .before .before .role .given .1) (c .before .count-std .ensures)
+    let i = c .before .before .before .before .before .before .before .root-of in
+    std-ends (a .ns .now) (a .t .now) (a .cue) (i .result) (i .ensures) (a .role) (s .pre .1 .1) (c .ends-by .ensures) _ (c .before .before .before .before .before .role .given .1) (c .before .count-std .ensures)
 
 returns-2 : tie.Need-returns-2
 returns-2 c =

@@ -1,4 +1,4 @@
--- The counted search meets its contract: `visit` recalls a state or enters it, `visit_each` and `visit_closing` count its successors,
+-- The counted search meets its contract: `visit` recalls a state or enters it, `visit_each` counts its successors,
 -- `try_each` goes through them and `follow` into one. The recursion's measure is six for each record that is left. The loop's invariant
 -- is `Going`: what is kept, what was learned, and that what comes of all successors is what comes of those still to be tried. Assumes
 -- nothing.
@@ -13,7 +13,6 @@ use Rattle.flow.specs.Cues.{cue-records}
 use Rattle.search.specs.SearchLaws.{visit-within}
 use Rattle.search.specs.Visits.{Truthful, state, memory}
 use Rattle.flow.specs.Refusals.{count}
-use Rattle.search.proofs.OneRecord.{closing-low, closing-high, closing-tried, event-low, event-tried}
 use Rattle.search.proofs.Deeper.{memory-fits, visited-known, visited-kept, Going, ready-spot, first-low, visited-spent, visited-arrived, visited-last, visited-tried, ready-still, right-still, count-still, goes-still, tried-none, tried-spent, tried-found, tried-on, tried-over, two-stretches, copied-room, apply-asked, back-room, back-length, visit-asked, followed, rest-is, rest-length}
 use Rattle.search.proofs.Numbers.{first-inner, ends-fits}
 use Rattle.search.proofs.Stretches.{used-same, used-trans}
@@ -22,27 +21,22 @@ use Rattle.search.proofs.Asks.{strikes-same, asking-still}
 use Rattle.search.proofs.Memories.{learned-same, learned-trans, truthful-still, truthful-rest}
 use Rattle.search.proofs.enter.Reads as enter
 use Rattle.search.proofs.enter.Kinds as enter-kinds
-use Rattle.search.proofs.+enter+follow+try_each+visit+visit_closing+visit_each.Lts-enter as enter-lts
+use Rattle.search.proofs.+enter+follow+try_each+visit+visit_each.Lts-enter as enter-lts
 use Rattle.search.proofs.follow.Reads as follow
 use Rattle.search.proofs.follow.Kinds as follow-kinds
-use Rattle.search.proofs.+enter+follow+try_each+visit+visit_closing+visit_each.Lts-follow as follow-lts
+use Rattle.search.proofs.+enter+follow+try_each+visit+visit_each.Lts-follow as follow-lts
 use Rattle.search.proofs.try_each.Reads as try-each
 use Rattle.search.proofs.try_each.Kinds as try-each-kinds
-use Rattle.search.proofs.+enter+follow+try_each+visit+visit_closing+visit_each.Lts-try_each as try-each-lts
+use Rattle.search.proofs.+enter+follow+try_each+visit+visit_each.Lts-try_each as try-each-lts
 use Rattle.search.proofs.visit.Reads as visit
 use Rattle.search.proofs.visit.Kinds as visit-kinds
-use Rattle.search.proofs.+enter+follow+try_each+visit+visit_closing+visit_each.Lts-visit as visit-lts
-use Rattle.search.proofs.visit_closing.Reads as visit-closing
-use Rattle.search.proofs.visit_closing.Kinds as visit-closing-kinds
-use Rattle.search.proofs.+enter+follow+try_each+visit+visit_closing+visit_each.Lts-visit_closing as visit-closing-lts
+use Rattle.search.proofs.+enter+follow+try_each+visit+visit_each.Lts-visit as visit-lts
 use Rattle.search.proofs.visit_each.Reads as visit-each
 use Rattle.search.proofs.visit_each.Kinds as visit-each-kinds
-use Rattle.search.proofs.+enter+follow+try_each+visit+visit_closing+visit_each.Lts-visit_each as visit-each-lts
+use Rattle.search.proofs.+enter+follow+try_each+visit+visit_each.Lts-visit_each as visit-each-lts
 use Rattle.memory.proofs.recall.Reads as recall-reads
 use Rattle.search.proofs.apply.Reads as apply-reads
 use Rattle.search.proofs.arrive.Reads as arrive-reads
-use Rattle.search.proofs.closes.Reads as closes-reads
-use Rattle.search.proofs.closings.Reads as closings-reads
 use Rattle.search.proofs.copy_down.Reads as copy-down-reads
 use Rattle.search.proofs.ends.Reads as ends-reads
 use Rattle.search.proofs.finish.Reads as finish-reads
@@ -52,8 +46,8 @@ use Rattle.search.proofs.key_of.Reads as key-of-reads
 use Rattle.search.proofs.known.Reads as known-reads
 use Rattle.search.proofs.role_after.Reads as role-after-reads
 use Rattle.search.proofs.successors.Reads as successors-reads
-use Rattle.search.proofs.+enter+follow+try_each+visit+visit_closing+visit_each.{statement}
-use Rattle.search.proofs.+enter+follow+try_each+visit+visit_closing+visit_each.Tie.{close}
+use Rattle.search.proofs.+enter+follow+try_each+visit+visit_each.{statement}
+use Rattle.search.proofs.+enter+follow+try_each+visit+visit_each.Tie.{close}
 
 abbrev μ-enter : Measures 6 enter-kinds.ps ℕ
 μ-enter κs a = 6 * length (a .1 .0 .now) + 4
@@ -66,9 +60,6 @@ abbrev μ-try-each : Measures 8 try-each-kinds.ps ℕ
 
 abbrev μ-visit : Measures 6 visit-kinds.ps ℕ
 μ-visit κs a = 6 * length (a .1 .0 .now) + 5
-
-abbrev μ-visit-closing : Measures 6 visit-closing-kinds.ps ℕ
-μ-visit-closing κs a = 6 * length (a .1 .0 .now) + 2
 
 abbrev μ-visit-each : Measures 6 visit-each-kinds.ps ℕ
 μ-visit-each κs a = 6 * length (a .1 .0 .now) + 3
@@ -98,18 +89,6 @@ visit-at t = and 6 visit-kinds.ps (is 6 visit-kinds.ps μ-visit t) visit.Pre
 abbrev visit-below : ℕ → In 6 visit-kinds.ps
 visit-below t = and 6 visit-kinds.ps (falls 6 visit-kinds.ps _<_ μ-visit t) visit.Pre
 
-abbrev visit-closing-at : ℕ → In 6 visit-closing-kinds.ps
-visit-closing-at t =
-    and 6 visit-closing-kinds.ps (is 6 visit-closing-kinds.ps μ-visit-closing t) visit-closing.Pre
-
-abbrev visit-closing-below : ℕ → In 6 visit-closing-kinds.ps
-visit-closing-below t =
-    and
-    6
-    visit-closing-kinds.ps
-    (falls 6 visit-closing-kinds.ps _<_ μ-visit-closing t)
-    visit-closing.Pre
-
 abbrev visit-each-at : ℕ → In 6 visit-each-kinds.ps
 visit-each-at t =
     and 6 visit-each-kinds.ps (is 6 visit-each-kinds.ps μ-visit-each t) visit-each.Pre
@@ -130,11 +109,8 @@ try-each-calls t = (follow-below t, follow.Post, further-reads.Asked, further-re
 abbrev visit-calls : ℕ → visit-lts.Claims
 visit-calls t = (key-of-reads.Asked, key-of-reads.Learnt, recall-reads.Asked, recall-reads.Learnt, known-reads.Asked, known-reads.Learnt, enter-below t, enter.Post, keep-reads.Asked, keep-reads.Learnt)
 
-abbrev visit-closing-calls : ℕ → visit-closing-lts.Claims
-visit-closing-calls t = (closings-reads.Asked, closings-reads.Learnt, try-each-below t, try-each.Post)
-
 abbrev visit-each-calls : ℕ → visit-each-lts.Claims
-visit-each-calls t = (closes-reads.Asked, closes-reads.Learnt, visit-closing-below t, visit-closing.Post, successors-reads.Asked, successors-reads.Learnt, try-each-below t, try-each.Post)
+visit-each-calls t = (successors-reads.Asked, successors-reads.Learnt, try-each-below t, try-each.Post)
 
 enter-returns : (t : ℕ) → enter-lts.Need-returns (enter-calls t) (enter-at t) enter.Post
 enter-returns t c =
@@ -571,125 +547,40 @@ visit-returns-2 t c =
     let k = c .before .before .before .before .keep in
     visited-kept (s .pre .1 .0) (memory (a .modes .now) (a .marks .now)) (c .before .before .before .before .before .before .before .before .before .before .before .before .before .before .before .before .before .before .before .before .before .before .before .before .before .before .before .before .key-of .ensures) (a .asks .now) (a .left) (v .last .1 .1 .0) (v .last .1 .1 .1 .1 .0) (memory (v .last .1 .1 .1 .1 .1 .1 .0) (v .last .1 .1 .1 .1 .1 .1 .1 .0)) (memory (k .last .1 .1 .0) (k .last .1 .1 .1 .0)) (v .result) (v .ensures) (k .ensures)
 
-visit-closing-shared-slice-read-closings : (t : ℕ) → visit-closing-lts.Need-shared-slice-read-closings (visit-closing-calls t) (visit-closing-at t) visit-closing.Post
-visit-closing-shared-slice-read-closings t c =
-    let q = c .before .before .before .before .before .before .before .before .pre .1 .1 .1 .0 .0 in
-    omega arith
-
-visit-closing-closings-requires : (t : ℕ) → visit-closing-lts.Need-closings-requires (visit-closing-calls t) (visit-closing-at t) visit-closing.Post
-visit-closing-closings-requires t c κs =
-    let s = c .before .before .before .before .before .before .before .before .before in
-    let a = s .args in
-    let p = s .pre .1 in
-    let r = p .0 in
-    let n = getD (a .cues .now) 0 0 in (
-      ready-spot r,
-      (
-        r .some,
-        (
-          closing-low (a .ns .now) (a .work .now) (a .role) n (p .1 .1 .1 .1),
-          closing-high (a .ns .now) (a .work .now) (a .role) n (p .1 .1 .1 .1) (first-inner (a .role) n (first-low r (p .1 .1 .0 .0)) (p .1 .1 .1 .0)),
-        ),
-      ),
-    )
-
-visit-closing-slice-aggregate-try-each : (t : ℕ) → visit-closing-lts.Need-slice-aggregate-try-each (visit-closing-calls t) (visit-closing-at t) visit-closing.Post
-visit-closing-slice-aggregate-try-each t c = sym (c .before .before .before .before .before .before .closings .ensures .right .long)
-
-visit-closing-try-each-requires : (t : ℕ) → visit-closing-lts.Need-try-each-requires (visit-closing-calls t) (visit-closing-at t) visit-closing.Post
-visit-closing-try-each-requires t c κs =
-    let s = c .before .before .before .before .before .before .before .before .before .before .before .before .before .before .before .before in
-    let a = s .args in
-    let p = s .pre .1 in
-    let k = c .before .before .before .before .before .before .closings in
-    (omega (arith, s .pre .0), (p .0, (p .1 .0, (p .1 .1 .0, (p .1 .1 .1 .0, closing-tried (a .ns .now) (a .work .now) (a .role) (getD (a .cues .now) 0 0) (p .1 .1 .1 .1) (k .ensures))))))
-
-visit-closing-same-length : (t : ℕ) → visit-closing-lts.Need-same-length (visit-closing-calls t) (visit-closing-at t) visit-closing.Post
-visit-closing-same-length t c = c .before .before .before .before .before .before .before .before .try-each .kept .1 .1 .0
-
-visit-closing-same-length-2 : (t : ℕ) → visit-closing-lts.Need-same-length-2 (visit-closing-calls t) (visit-closing-at t) visit-closing.Post
-visit-closing-same-length-2 t c = c .before .before .before .before .before .before .before .before .try-each .kept .1 .1 .1 .1 .0
-
-visit-closing-same-length-3 : (t : ℕ) → visit-closing-lts.Need-same-length-3 (visit-closing-calls t) (visit-closing-at t) visit-closing.Post
-visit-closing-same-length-3 t c = c .before .before .before .before .before .before .before .before .try-each .kept .1 .1 .1 .1 .1 .1 .0
-
-visit-closing-same-length-4 : (t : ℕ) → visit-closing-lts.Need-same-length-4 (visit-closing-calls t) (visit-closing-at t) visit-closing.Post
-visit-closing-same-length-4 t c = c .before .before .before .before .before .before .before .before .try-each .kept .1 .1 .1 .1 .1 .1 .1 .0
-
-visit-closing-returns : (t : ℕ) → visit-closing-lts.Need-returns (visit-closing-calls t) (visit-closing-at t) visit-closing.Post
-visit-closing-returns t c = c .before .before .before .before .before .before .before .before .try-each .ensures
-
-visit-each-shared-slice-read-closes : (t : ℕ) → visit-each-lts.Need-shared-slice-read-closes (visit-each-calls t) (visit-each-at t) visit-each.Post
-visit-each-shared-slice-read-closes t c =
-    let q = c .before .before .before .before .before .before .before .pre .1 .1 .1 .0 .0 in
-    omega arith
-
-visit-each-closes-requires : (t : ℕ) → visit-each-lts.Need-closes-requires (visit-each-calls t) (visit-each-at t) visit-each.Post
-visit-each-closes-requires t c κs = search needs
-
-visit-each-visit-closing-requires : (t : ℕ) → visit-each-lts.Need-visit-closing-requires (visit-each-calls t) (visit-each-at t) visit-each.Post
-visit-each-visit-closing-requires t c κs =
-    let s = c .before .before .before .before .before .before .before .before .before .before .before .before .before in
-    let p = s .pre .1 in
-    (omega (arith, s .pre .0), (p .0, (p .1 .0, (p .1 .1 .0, (p .1 .1 .1, sym (c .before .before .before .before .before .closes .ensures) ∙ c .before .before .before .before .if1 .taken)))))
-
-visit-each-same-length : (t : ℕ) → visit-each-lts.Need-same-length (visit-each-calls t) (visit-each-at t) visit-each.Post
-visit-each-same-length t c = c .before .before .before .before .before .before .before .before .visit-closing .kept .1 .1 .0
-
-visit-each-same-length-2 : (t : ℕ) → visit-each-lts.Need-same-length-2 (visit-each-calls t) (visit-each-at t) visit-each.Post
-visit-each-same-length-2 t c = c .before .before .before .before .before .before .before .before .visit-closing .kept .1 .1 .1 .1 .0
-
-visit-each-same-length-3 : (t : ℕ) → visit-each-lts.Need-same-length-3 (visit-each-calls t) (visit-each-at t) visit-each.Post
-visit-each-same-length-3 t c = c .before .before .before .before .before .before .before .before .visit-closing .kept .1 .1 .1 .1 .1 .1 .0
-
-visit-each-same-length-4 : (t : ℕ) → visit-each-lts.Need-same-length-4 (visit-each-calls t) (visit-each-at t) visit-each.Post
-visit-each-same-length-4 t c = c .before .before .before .before .before .before .before .before .visit-closing .kept .1 .1 .1 .1 .1 .1 .1 .0
-
-visit-each-returns : (t : ℕ) → visit-each-lts.Need-returns (visit-each-calls t) (visit-each-at t) visit-each.Post
-visit-each-returns t c = c .before .before .before .before .before .before .before .before .visit-closing .ensures
-
 visit-each-shared-slice-read-successors : (t : ℕ) → visit-each-lts.Need-shared-slice-read-successors (visit-each-calls t) (visit-each-at t) visit-each.Post
 visit-each-shared-slice-read-successors t c =
-    let q = c .before .before .before .before .before .before .before .before .before .before .before .pre .1 .1 .1 .0 .0 in
+    let q = c .before .before .before .before .before .before .before .before .pre .1 .1 .1 .0 .0 in
     omega arith
 
 visit-each-successors-requires : (t : ℕ) → visit-each-lts.Need-successors-requires (visit-each-calls t) (visit-each-at t) visit-each.Post
 visit-each-successors-requires t c κs =
-    let s = c .before .before .before .before .before .before .before .before .before .before .before .before in
-    let a = s .args in
-    let p = s .pre .1 in
-    let r = p .0 in
-    (ready-spot r, (r .some, event-low (a .ns .now) (a .work .now) (a .role) (getD (a .cues .now) 0 0) (sym (c .before .before .before .before .closes .ensures) ∙ c .before .before .before .if1 .left) (first-inner (a .role) (getD (a .cues .now) 0 0) (first-low r (p .1 .1 .0 .0)) (p .1 .1 .1))))
-
-visit-each-array-share-prefix-none : (t : ℕ) → visit-each-lts.Need-array-share-prefix-none (visit-each-calls t) (visit-each-at t) visit-each.Post
-visit-each-array-share-prefix-none t c = omega arith
+    let a = c .before .before .before .before .before .before .before .before .before .before .args in
+    let p = c .before .before .before .before .before .before .before .before .before .before .pre .1 in
+    (ready-spot (p .0), ((p .0 .some, first-inner (a .role) (getD (a .cues .now) 0 0) (first-low (p .0) (p .1 .1 .0 .0)) (p .1 .1 .1)), refl))
 
 visit-each-slice-aggregate-try-each : (t : ℕ) → visit-each-lts.Need-slice-aggregate-try-each (visit-each-calls t) (visit-each-at t) visit-each.Post
-visit-each-slice-aggregate-try-each t c = refl
+visit-each-slice-aggregate-try-each t c = sym (c .before .before .before .before .before .before .successors .ensures .right .long)
 
 visit-each-try-each-requires : (t : ℕ) → visit-each-lts.Need-try-each-requires (visit-each-calls t) (visit-each-at t) visit-each.Post
 visit-each-try-each-requires t c κs =
-    let s = c .before .before .before .before .before .before .before .before .before .before .before .before .before .before .before .before .before .before .before in
-    let a = s .args in
-    let p = s .pre .1 in
-    let r = p .0 in
-    let k = c .before .before .before .before .before .before .successors in
-    (omega (arith, s .pre .0), (r, (p .1 .0, (p .1 .1 .0, (p .1 .1 .1, event-tried (a .ns .now) (a .work .now) (a .role) (getD (a .cues .now) 0 0) (sym (c .before .before .before .before .before .before .before .before .before .before .before .closes .ensures) ∙ c .before .before .before .before .before .before .before .before .before .before .if1 .left) (first-inner (a .role) (getD (a .cues .now) 0 0) (first-low r (p .1 .1 .0 .0)) (p .1 .1 .1)) refl (k .ensures))))))
+    let p = c .before .before .before .before .before .before .before .before .before .before .before .before .before .before .before .before .before .pre .1 in
+    let k = c .before .before .before .before .before .before .successors .ensures in
+    (omega (arith, c .before .before .before .before .before .before .before .before .before .before .before .before .before .before .before .before .before .pre .0), (p .0, (p .1 .0, (p .1 .1 .0, (p .1 .1 .1, (k .right, k .many))))))
 
-visit-each-same-length-5 : (t : ℕ) → visit-each-lts.Need-same-length-5 (visit-each-calls t) (visit-each-at t) visit-each.Post
-visit-each-same-length-5 t c = c .before .before .before .before .before .before .before .before .try-each .kept .1 .1 .0
+visit-each-same-length : (t : ℕ) → visit-each-lts.Need-same-length (visit-each-calls t) (visit-each-at t) visit-each.Post
+visit-each-same-length t c = c .before .before .before .before .before .before .before .before .try-each .kept .1 .1 .0
 
-visit-each-same-length-6 : (t : ℕ) → visit-each-lts.Need-same-length-6 (visit-each-calls t) (visit-each-at t) visit-each.Post
-visit-each-same-length-6 t c = c .before .before .before .before .before .before .before .before .try-each .kept .1 .1 .1 .1 .0
+visit-each-same-length-2 : (t : ℕ) → visit-each-lts.Need-same-length-2 (visit-each-calls t) (visit-each-at t) visit-each.Post
+visit-each-same-length-2 t c = c .before .before .before .before .before .before .before .before .try-each .kept .1 .1 .1 .1 .0
 
-visit-each-same-length-7 : (t : ℕ) → visit-each-lts.Need-same-length-7 (visit-each-calls t) (visit-each-at t) visit-each.Post
-visit-each-same-length-7 t c = c .before .before .before .before .before .before .before .before .try-each .kept .1 .1 .1 .1 .1 .1 .0
+visit-each-same-length-3 : (t : ℕ) → visit-each-lts.Need-same-length-3 (visit-each-calls t) (visit-each-at t) visit-each.Post
+visit-each-same-length-3 t c = c .before .before .before .before .before .before .before .before .try-each .kept .1 .1 .1 .1 .1 .1 .0
 
-visit-each-same-length-8 : (t : ℕ) → visit-each-lts.Need-same-length-8 (visit-each-calls t) (visit-each-at t) visit-each.Post
-visit-each-same-length-8 t c = c .before .before .before .before .before .before .before .before .try-each .kept .1 .1 .1 .1 .1 .1 .1 .0
+visit-each-same-length-4 : (t : ℕ) → visit-each-lts.Need-same-length-4 (visit-each-calls t) (visit-each-at t) visit-each.Post
+visit-each-same-length-4 t c = c .before .before .before .before .before .before .before .before .try-each .kept .1 .1 .1 .1 .1 .1 .1 .0
 
-visit-each-returns-2 : (t : ℕ) → visit-each-lts.Need-returns-2 (visit-each-calls t) (visit-each-at t) visit-each.Post
-visit-each-returns-2 t c = c .before .before .before .before .before .before .before .before .try-each .ensures
+visit-each-returns : (t : ℕ) → visit-each-lts.Need-returns (visit-each-calls t) (visit-each-at t) visit-each.Post
+visit-each-returns t c = c .before .before .before .before .before .before .before .before .try-each .ensures
 
-pub +enter+follow+try-each+visit+visit-closing+visit-each-spec : {M : Type 1} → statement M
-+enter+follow+try-each+visit+visit-closing+visit-each-spec = close μ-enter μ-follow μ-try-each μ-visit μ-visit-closing μ-visit-each (λ t. enter-lts.spec (enter-calls t) (enter-at t) enter.Post (enter-returns t) (enter-sub-arrive t) (enter-arrive-requires t) (enter-same-length t) (enter-same-length-2 t) (enter-returns-2 t) (enter-shared-slice-read-ends t) (enter-ends-requires t) (enter-shared-slice-read-finish t) (enter-sub-finish t) (enter-finish-requires t) (enter-sub-visit-each t) (enter-visit-each-requires t) (enter-same-length-3 t) (enter-returns-3 t) (enter-same-length-4 t) (enter-same-length-5 t) (enter-same-length-6 t) (enter-same-length-7 t) (enter-returns-4 t)) (λ t. follow-lts.spec (follow-calls t) (follow-at t) follow.Post (follow-copy-down-requires t) (follow-mul-w t) (follow-sub-apply t) (follow-part-apply-start t) (follow-part-apply-end t) (follow-shared-slice-read-apply t) (follow-apply-requires t) (follow-shared-slice-read-role-after t) (follow-role-after-requires t) (follow-sub-visit t) (follow-part-visit-start t) (follow-part-visit-end t) (follow-sub-visit-2 t) (follow-part-visit-start-2 t) (follow-part-visit-end-2 t) (follow-visit-requires t) (follow-same-length t) (follow-same-length-2 t) (follow-same-length-3 t) (follow-same-length-4 t) (follow-returns t)) (λ t. try-each-lts.spec (try-each-calls t) (try-each-at t) try-each.Post try-each-Inv-loop try-each-μ-loop (try-each-loop-holds t) (try-each-follow-requires t) (try-each-enum-told t) (try-each-same-length t) (try-each-same-length-2 t) (try-each-same-length-3 t) (try-each-same-length-4 t) (try-each-returns t) (try-each-enum-known-trip t) (try-each-further-requires t) (try-each-same-length-5 t) (try-each-same-length-6 t) (try-each-same-length-7 t) (try-each-same-length-8 t) (try-each-returns-2 t) (try-each-add-k t) (try-each-loop-less t) (try-each-loop-again t) (try-each-same-length-9 t) (try-each-same-length-10 t) (try-each-same-length-11 t) (try-each-same-length-12 t) (try-each-returns-3 t)) (λ t. visit-lts.spec (visit-calls t) (visit-at t) visit.Post (visit-key-of-requires t) (visit-recall-requires t) (visit-enum-known-seen t) (visit-known-requires t) (visit-enum-known-slot t) (visit-enter-requires t) (visit-keep-requires t) (visit-same-length t) (visit-same-length-2 t) (visit-same-length-3 t) (visit-returns t) (visit-same-length-4 t) (visit-same-length-5 t) (visit-same-length-6 t) (visit-same-length-7 t) (visit-returns-2 t)) (λ t. visit-closing-lts.spec (visit-closing-calls t) (visit-closing-at t) visit-closing.Post (visit-closing-shared-slice-read-closings t) (visit-closing-closings-requires t) (visit-closing-slice-aggregate-try-each t) (visit-closing-try-each-requires t) (visit-closing-same-length t) (visit-closing-same-length-2 t) (visit-closing-same-length-3 t) (visit-closing-same-length-4 t) (visit-closing-returns t)) λ t. visit-each-lts.spec (visit-each-calls t) (visit-each-at t) visit-each.Post (visit-each-shared-slice-read-closes t) (visit-each-closes-requires t) (visit-each-visit-closing-requires t) (visit-each-same-length t) (visit-each-same-length-2 t) (visit-each-same-length-3 t) (visit-each-same-length-4 t) (visit-each-returns t) (visit-each-shared-slice-read-successors t) (visit-each-successors-requires t) (visit-each-array-share-prefix-none t) (visit-each-slice-aggregate-try-each t) (visit-each-try-each-requires t) (visit-each-same-length-5 t) (visit-each-same-length-6 t) (visit-each-same-length-7 t) (visit-each-same-length-8 t) (visit-each-returns-2 t)
+pub +enter+follow+try-each+visit+visit-each-spec : {M : Type 1} → statement M
++enter+follow+try-each+visit+visit-each-spec = close μ-enter μ-follow μ-try-each μ-visit μ-visit-each (λ t. enter-lts.spec (enter-calls t) (enter-at t) enter.Post (enter-returns t) (enter-sub-arrive t) (enter-arrive-requires t) (enter-same-length t) (enter-same-length-2 t) (enter-returns-2 t) (enter-shared-slice-read-ends t) (enter-ends-requires t) (enter-shared-slice-read-finish t) (enter-sub-finish t) (enter-finish-requires t) (enter-sub-visit-each t) (enter-visit-each-requires t) (enter-same-length-3 t) (enter-returns-3 t) (enter-same-length-4 t) (enter-same-length-5 t) (enter-same-length-6 t) (enter-same-length-7 t) (enter-returns-4 t)) (λ t. follow-lts.spec (follow-calls t) (follow-at t) follow.Post (follow-copy-down-requires t) (follow-mul-w t) (follow-sub-apply t) (follow-part-apply-start t) (follow-part-apply-end t) (follow-shared-slice-read-apply t) (follow-apply-requires t) (follow-shared-slice-read-role-after t) (follow-role-after-requires t) (follow-sub-visit t) (follow-part-visit-start t) (follow-part-visit-end t) (follow-sub-visit-2 t) (follow-part-visit-start-2 t) (follow-part-visit-end-2 t) (follow-visit-requires t) (follow-same-length t) (follow-same-length-2 t) (follow-same-length-3 t) (follow-same-length-4 t) (follow-returns t)) (λ t. try-each-lts.spec (try-each-calls t) (try-each-at t) try-each.Post try-each-Inv-loop try-each-μ-loop (try-each-loop-holds t) (try-each-follow-requires t) (try-each-enum-told t) (try-each-same-length t) (try-each-same-length-2 t) (try-each-same-length-3 t) (try-each-same-length-4 t) (try-each-returns t) (try-each-enum-known-trip t) (try-each-further-requires t) (try-each-same-length-5 t) (try-each-same-length-6 t) (try-each-same-length-7 t) (try-each-same-length-8 t) (try-each-returns-2 t) (try-each-add-k t) (try-each-loop-less t) (try-each-loop-again t) (try-each-same-length-9 t) (try-each-same-length-10 t) (try-each-same-length-11 t) (try-each-same-length-12 t) (try-each-returns-3 t)) (λ t. visit-lts.spec (visit-calls t) (visit-at t) visit.Post (visit-key-of-requires t) (visit-recall-requires t) (visit-enum-known-seen t) (visit-known-requires t) (visit-enum-known-slot t) (visit-enter-requires t) (visit-keep-requires t) (visit-same-length t) (visit-same-length-2 t) (visit-same-length-3 t) (visit-returns t) (visit-same-length-4 t) (visit-same-length-5 t) (visit-same-length-6 t) (visit-same-length-7 t) (visit-returns-2 t)) λ t. visit-each-lts.spec (visit-each-calls t) (visit-each-at t) visit-each.Post (visit-each-shared-slice-read-successors t) (visit-each-successors-requires t) (visit-each-slice-aggregate-try-each t) (visit-each-try-each-requires t) (visit-each-same-length t) (visit-each-same-length-2 t) (visit-each-same-length-3 t) (visit-each-same-length-4 t) (visit-each-returns t)
