@@ -1,28 +1,33 @@
--- `tallies::parallel_word` meets its contract: by what its callees ensure. Assumes nothing.
+-- `tallies::parallel_word` meets its contract: by the closed forms. Assumes nothing.
 use Rattle.tallies.specs.Formulas.{cparW}
-use borrow.Author.Needs.{needs}
+use Rattle.tallies.proofs.ClosedForms.{beside-done, beside-withdrawn, beside-failed}
 use Rattle.tallies.proofs.parallel_word.Statement.{statement}
 use Rattle.tallies.proofs.parallel_word.Tie as tie
-
-both-tally-requires : tie.Need-both-tally-requires
-both-tally-requires c κs = search needs
-
-both-tally-requires-2 : tie.Need-both-tally-requires-2
-both-tally-requires-2 c κs = search needs
-
-both-tally-requires-3 : tie.Need-both-tally-requires-3
-both-tally-requires-3 c κs = search needs
 
 returns : tie.Need-returns
 unfolding cparW
 returns c =
+    let failed = c .before .before .before in
+    let withdrawn = failed .before .before .before .before .before in
+    let sums = withdrawn .before .before .before in
     simp (
       c .word-of .ensures,
-      c .before .both-tally3 .ensures,
-      c .before .before .both-tally2 .ensures,
-      c .before .before .before .both-tally .ensures,
-      c .before .before .before .before .sides .ensures,
+      c .before .parallel-tally6 .ensures,
+      c .before .before .sides .ensures,
+      failed .plus5 .ensures,
+      failed .before .parallel-tally5 .ensures,
+      failed .before .before .plus4 .ensures,
+      failed .before .before .before .parallel-tally4 .ensures,
+      failed .before .before .before .before .parallel-tally3 .ensures,
+      withdrawn .plus3 .ensures,
+      withdrawn .before .parallel-tally2 .ensures,
+      withdrawn .before .before .parallel-tally .ensures,
+      sums .plus2 .ensures,
+      sums .before .plus .ensures,
+      beside-done,
+      beside-withdrawn,
+      beside-failed,
     )
 
 pub parallel-word-spec : {M : Type 1} → statement M
-parallel-word-spec = tie.close (tie.spec (λ _ _. tt) both-tally-requires both-tally-requires-2 both-tally-requires-3 (λ _ _. tt) returns)
+parallel-word-spec = tie.close (tie.spec (λ _ _. tt) (λ _ _. tt) (λ _ _. tt) (λ _ _. tt) (λ _ _. tt) (λ _ _. tt) (λ _ _. tt) (λ _ _. tt) (λ _ _. tt) (λ _ _. tt) (λ _ _. tt) (λ _ _. tt) (λ _ _. tt) returns)
