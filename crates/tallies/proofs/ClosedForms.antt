@@ -1,17 +1,16 @@
 -- What two sides come to by each closing, without going through the nine pairs of closings: by the laws of join (JoinLaws). First what
 -- they can end by, then their compensations; a list that is empty adds nothing. Assumes nothing.
 use Prim.Native.Nat.{ℕ, _+_, _*_, _<_}
-use mathlib.Core.Path.{_≡_, refl, sym, _∙_, ap, fun-ext}
+use mathlib.Core.Path.{_≡_, refl, sym, _∙_, ap}
 use mathlib.Core.Bool.{Bool, true, false, _&&_, _||_, cond}
 use native.Mathlib.Omega.{arith}
 use native.Mathlib.Nat.{mul-pos}
 use borrow.Author.Tests.{eqb-true, eqb-false}
 use lib.Dec.{eqb}
-use Rattle.calculus.specs.Term.{Closing, done, withdrawn, failed, join}
-use Rattle.calculus.specs.Successors.{eqc}
+use Rattle.calculus.specs.Term.{Closing, done, withdrawn, failed}
 use Rattle.tallies.specs.Capped.{cap}
 use Rattle.tallies.specs.Formulas.{endsV, meetV, bothV, noneT, whenT, plusT, parT, overT, byW, fittingT, partnersT, bothT}
-use Rattle.tallies.specs.JoinLaws.{join-done, join-withdrawn, join-failed, ends-both-done, ends-both-withdrawn, ends-both-failed}
+use Rattle.tallies.specs.JoinLaws.{join-done, join-withdrawn, join-failed, by-law, ends-both-done, ends-both-withdrawn, ends-both-failed}
 use Rattle.tallies.specs.declared.View.{View}
 use Rattle.tallies.specs.declared.Tally.{Tally}
 use Rattle.tallies.specs.declared.Word.{Word}
@@ -96,25 +95,21 @@ module _ (j : Bool) (p q : Word) where
   abbrev over-pairs : (Closing → Closing → Bool) → Tally
   over-pairs h = overT (λ x. parT j (byW p x) (overT (λ y. whenT (h x y) (byW q y))))
 
-  by-law : (u : Closing) {h : Closing → Closing → Bool} → ((x y : Closing) → eqc u (join x y) ≡ h x y) → bothT j p q u ≡ over-pairs h
-  unfolding bothT partnersT fittingT
-  by-law u e = ap over-pairs (fun-ext (λ x. fun-ext (e x)))
-
   pub beside-done : bothT j p q done ≡ parT j (p .done) (q .done)
-  unfolding plusT
+  unfolding plusT bothT partnersT fittingT
   beside-done =
-      by-law done join-done
+      by-law over-pairs done join-done
       ∙ (λ i. plusT (plusT ((par-none-right j (p .done) (plusT (q .done) noneT) ∙ par-none-right j (p .done) (q .done)) i) (par-empty j (p .withdrawn) noneT refl i)) (par-empty j (p .failed) noneT refl i))
       ∙ ap (λ z. plusT z noneT) (none-right _ (par-settled j (p .done) (q .done)))
       ∙ none-right _ (par-settled j (p .done) (q .done))
 
   pub beside-withdrawn : bothT j p q withdrawn ≡ plusT (parT j (p .done) (q .withdrawn)) (parT j (p .withdrawn) (plusT (q .done) (q .withdrawn)))
-  unfolding plusT
+  unfolding plusT bothT partnersT fittingT
   beside-withdrawn =
-      by-law withdrawn join-withdrawn
+      by-law over-pairs withdrawn join-withdrawn
       ∙ (λ i. plusT (plusT (par-none-right j (p .done) (q .withdrawn) i) (par-none-right j (p .withdrawn) (plusT (q .done) (q .withdrawn)) i)) (par-empty j (p .failed) noneT refl i))
       ∙ none-right _ (plus-settled _ _ (par-settled j (p .done) (q .withdrawn)) (par-settled j (p .withdrawn) (plusT (q .done) (q .withdrawn))))
 
   pub beside-failed : bothT j p q failed ≡ plusT (plusT (parT j (p .done) (q .failed)) (parT j (p .withdrawn) (q .failed))) (parT j (p .failed) (plusT (plusT (q .done) (q .withdrawn)) (q .failed)))
-  unfolding plusT
-  beside-failed = by-law failed join-failed
+  unfolding plusT bothT partnersT fittingT
+  beside-failed = by-law over-pairs failed join-failed

@@ -29,6 +29,10 @@ join-failed withdrawn withdrawn = refl
 join-failed withdrawn failed = refl
 join-failed failed y = refl
 
+-- so whatever goes by which closings join to u goes by the law of u
+pub by-law : {A : Type 0} (f : (Closing → Closing → Bool) → A) (u : Closing) {h : Closing → Closing → Bool} → ((x y : Closing) → eqc u (join x y) ≡ h x y) → f (λ x y. eqc u (join x y)) ≡ f h
+by-law f u e = ap f (fun-ext (λ x. fun-ext (e x)))
+
 -- What two sides can end by together ------------------------------------------------------------------------------------
 
 module _ (f g : Closing → Bool) where
@@ -36,20 +40,17 @@ module _ (f g : Closing → Bool) where
   abbrev ends-by : (Closing → Closing → Bool) → Bool
   ends-by h = some-of (λ x. some-of (λ y. h x y && (f x && g y)) closings) closings
 
-  by-law : (u : Closing) {h : Closing → Closing → Bool} → ((x y : Closing) → eqc u (join x y) ≡ h x y) → ends-both f g u ≡ ends-by h
-  by-law u e = ap ends-by (fun-ext (λ x. fun-ext (e x)))
-
   pub ends-both-done : ends-both f g done ≡ (f done && g done)
   unfolding some-of
-  ends-both-done = by-law done join-done ∙ or-false _ ∙ or-false _
+  ends-both-done = by-law ends-by done join-done ∙ or-false _ ∙ or-false _
 
   pub ends-both-withdrawn : ends-both f g withdrawn ≡ ((f done && g withdrawn) || (f withdrawn && (g done || g withdrawn)))
   unfolding some-of
-  ends-both-withdrawn = by-law withdrawn join-withdrawn ∙ simp (or-false, and-or-distrib-left)
+  ends-both-withdrawn = by-law ends-by withdrawn join-withdrawn ∙ simp (or-false, and-or-distrib-left)
 
   pub ends-both-failed : ends-both f g failed ≡ (((f done || f withdrawn) && g failed) || (f failed && (g done || (g withdrawn || g failed))))
   unfolding some-of
-  ends-both-failed = by-law failed join-failed ∙ grouped (f done) (f withdrawn) (f failed) (g done) (g withdrawn) (g failed)
+  ends-both-failed = by-law ends-by failed join-failed ∙ grouped (f done) (f withdrawn) (f failed) (g done) (g withdrawn) (g failed)
     where
       grouped : (a b c x y z : Bool) → (((a && z) || false) || (((b && z) || false) || (((c && x) || ((c && y) || ((c && z) || false))) || false))) ≡ (((a || b) && z) || (c && (x || (y || z))))
       grouped a b c x y z = simp (or-false, and-or-distrib-left, and-or-distrib-right, or-assoc)

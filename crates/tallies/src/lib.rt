@@ -5,9 +5,9 @@
 ghost use mathlib.Core.Path.{_≡_};
 ghost use Prim.Native.Nat.{_+_, _*_, _<_};
 ghost use Rattle.tallies.specs.Capped.{cap};
-ghost use Rattle.tallies.specs.Formulas.{closing, rank, viewed, skipV, throwV, yieldV, evV, altV, seqV, hndV, bothV, sides, parV, tallied, noneT, oneT, whenT, plusT, seqT, anyV, sidesT, parT, worded, byW, blkV, pairW, cseqW, heldW, caltW, fittingT, partnersT, cparW, skippW, throwwW, yielddW, weighs, is-own, total, afterG, insideG, besideG, withinG};
+ghost use Rattle.tallies.specs.Formulas.{closing, rank, viewed, skipV, throwV, yieldV, evV, altV, seqV, hndV, bothV, sides, parV, tallied, noneT, oneT, whenT, plusT, seqT, anyV, sidesT, parT, overT, worded, byW, blkV, pairW, cseqW, heldW, caltW, fittingT, partnersT, cparW, skippW, throwwW, yielddW, weighs, is-own, total, afterG, insideG, besideG, withinG};
 ghost use mathlib.Core.Bool.{cond};
-ghost use Rattle.calculus.specs.Term.{withdrawn, failed, join};
+ghost use Rattle.calculus.specs.Term.{done, withdrawn, failed, join};
 ghost use Rattle.calculus.specs.Successors.{eqc};
 
 const MOST: u64 = 4294967295;
@@ -450,21 +450,41 @@ pub fn partners(q: Word, u: u8, x: u8) -> Tally
     )
 }
 
+// Of all k of t beside each compensation of a side that has not failed. Most lists are empty, so this is told before what goes with them
+// is put together.
+fn beside_unfailed(joint: bool, t: Tally, q: Word) -> Tally
+    ensures { λ r. ⌜ r ≡ parT joint t (plusT (byW q done) (byW q withdrawn)) ⌝ }
+{
+    if t.many == 0 {
+        return no_tally();
+    }
+    parallel_tally(joint, t, plus(q.done, q.withdrawn))
+}
+
+// The same of a side that has ended in any way.
+fn beside_any(joint: bool, t: Tally, q: Word) -> Tally
+    ensures { λ r. ⌜ r ≡ parT joint t (overT (byW q)) ⌝ }
+{
+    if t.many == 0 {
+        return no_tally();
+    }
+    parallel_tally(joint, t, plus(plus(q.done, q.withdrawn), q.failed))
+}
+
+// Which closings of the sides go with which is by `join-done`, `join-withdrawn` and `join-failed`.
 pub fn parallel_word(joint: bool, x: Word, y: Word) -> Word
     ensures { λ r. ⌜ r ≡ cparW joint x y ⌝ }
 {
-    let going = plus(y.done, y.withdrawn);
-    let all = plus(going, y.failed);
     let w = plus(
         parallel_tally(joint, x.done, y.withdrawn),
-        parallel_tally(joint, x.withdrawn, going),
+        beside_unfailed(joint, x.withdrawn, y),
     );
     let f = plus(
         plus(
             parallel_tally(joint, x.done, y.failed),
             parallel_tally(joint, x.withdrawn, y.failed),
         ),
-        parallel_tally(joint, x.failed, all),
+        beside_any(joint, x.failed, y),
     );
     word_of(
         sides(joint, x.moves, y.moves),

@@ -9,25 +9,22 @@ unfolding cparW
 returns c =
     let failed = c .before .before .before in
     let withdrawn = failed .before .before .before .before .before in
-    let sums = withdrawn .before .before .before in
     simp (
       c .word-of .ensures,
-      c .before .parallel-tally6 .ensures,
+      c .before .parallel-tally4 .ensures,
       c .before .before .sides .ensures,
-      failed .plus5 .ensures,
-      failed .before .parallel-tally5 .ensures,
-      failed .before .before .plus4 .ensures,
-      failed .before .before .before .parallel-tally4 .ensures,
-      failed .before .before .before .before .parallel-tally3 .ensures,
-      withdrawn .plus3 .ensures,
-      withdrawn .before .parallel-tally2 .ensures,
+      failed .plus3 .ensures,
+      failed .before .beside-any .ensures,
+      failed .before .before .plus2 .ensures,
+      failed .before .before .before .parallel-tally3 .ensures,
+      failed .before .before .before .before .parallel-tally2 .ensures,
+      withdrawn .plus .ensures,
+      withdrawn .before .beside-unfailed .ensures,
       withdrawn .before .before .parallel-tally .ensures,
-      sums .plus2 .ensures,
-      sums .before .plus .ensures,
       beside-done,
       beside-withdrawn,
       beside-failed,
     )
 
 pub parallel-word-spec : {M : Type 1} → statement M
-parallel-word-spec = tie.close (tie.spec (λ _ _. tt) (λ _ _. tt) (λ _ _. tt) (λ _ _. tt) (λ _ _. tt) (λ _ _. tt) (λ _ _. tt) (λ _ _. tt) (λ _ _. tt) (λ _ _. tt) (λ _ _. tt) (λ _ _. tt) (λ _ _. tt) returns)
+parallel-word-spec = tie.close (tie.spec (λ _ _. tt) (λ _ _. tt) (λ _ _. tt) (λ _ _. tt) (λ _ _. tt) (λ _ _. tt) (λ _ _. tt) (λ _ _. tt) (λ _ _. tt) (λ _ _. tt) (λ _ _. tt) returns)
