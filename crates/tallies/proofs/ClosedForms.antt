@@ -1,7 +1,7 @@
 -- What two sides come to by each closing, without going through the nine pairs of closings: by the laws of join (JoinLaws). First what
 -- they can end by, then their compensations; a list that is empty adds nothing. Assumes nothing.
 use Prim.Native.Nat.{ℕ, _+_, _*_, _<_}
-use mathlib.Core.Path.{_≡_, refl, sym, _∙_, ap}
+use mathlib.Core.Path.{_≡_, refl, sym, _∙_, ap, ap₂}
 use mathlib.Core.Bool.{Bool, true, false, _&&_, _||_, cond}
 use native.Mathlib.Omega.{arith}
 use native.Mathlib.Nat.{mul-pos}
@@ -72,6 +72,13 @@ module _ (j : Bool) where
           settled-some t (omega (arith, h, q))
 
   -- beside an empty list is nothing
+  par-first-empty : (x y : Tally) → eqb (x .many) 0 ≡ true → parT j x y ≡ noneT
+  unfolding parT
+  par-first-empty x y e = empty e _
+    where
+      empty : {b : Bool} → b ≡ true → (t : Tally) → cond b noneT t ≡ noneT
+      empty e t = ap (λ b. cond b noneT t) e
+
   par-empty : (x y : Tally) → eqb (y .many) 0 ≡ true → parT j x y ≡ noneT
   unfolding parT
   par-empty x y e = empty (eqb (x .many) 0) _ e
@@ -113,3 +120,20 @@ module _ (j : Bool) (p q : Word) where
   pub beside-failed : bothT j p q failed ≡ plusT (plusT (parT j (p .done) (q .failed)) (parT j (p .withdrawn) (q .failed))) (parT j (p .failed) (plusT (plusT (q .done) (q .withdrawn)) (q .failed)))
   unfolding plusT bothT partnersT fittingT
   beside-failed = by-law over-pairs failed join-failed
+
+  -- where the first side can only fail, and where no side can
+  module _ (d : eqb (p .done .many) 0 ≡ true) (w : eqb (p .withdrawn .many) 0 ≡ true) where
+    pub fails-done : bothT j p q done ≡ noneT
+    fails-done = beside-done ∙ par-first-empty j _ _ d
+
+    pub fails-withdrawn : bothT j p q withdrawn ≡ noneT
+    unfolding plusT
+    fails-withdrawn = beside-withdrawn ∙ ap₂ plusT (par-first-empty j _ _ d) (par-first-empty j _ _ w)
+
+    pub fails-failed : bothT j p q failed ≡ parT j (p .failed) (overT (byW q))
+    unfolding plusT
+    fails-failed = beside-failed ∙ ap₂ (λ x y. plusT (plusT x y) (parT j (p .failed) (overT (byW q)))) (par-first-empty j _ _ d) (par-first-empty j _ _ w)
+
+  pub none-fails : eqb (p .failed .many) 0 ≡ true → eqb (q .failed .many) 0 ≡ true → bothT j p q failed ≡ noneT
+  unfolding plusT
+  none-fails x y = beside-failed ∙ (λ i. plusT (plusT (par-empty j (p .done) (q .failed) y i) (par-empty j (p .withdrawn) (q .failed) y i)) (par-first-empty j (p .failed) (overT (byW q)) x i))

@@ -5,8 +5,9 @@
 ghost use mathlib.Core.Path.{_≡_};
 ghost use Prim.Native.Nat.{_+_, _*_, _<_};
 ghost use Rattle.tallies.specs.Capped.{cap};
-ghost use Rattle.tallies.specs.Formulas.{closing, rank, viewed, skipV, throwV, yieldV, evV, altV, seqV, hndV, bothV, sides, parV, tallied, noneT, oneT, whenT, plusT, seqT, anyV, sidesT, parT, overT, worded, byW, blkV, pairW, cseqW, heldW, caltW, fittingT, partnersT, cparW, skippW, throwwW, yielddW, weighs, is-own, total, afterG, insideG, besideG, withinG};
-ghost use mathlib.Core.Bool.{cond};
+ghost use Rattle.tallies.specs.Formulas.{closing, rank, viewed, skipV, throwV, yieldV, evV, altV, seqV, hndV, bothV, sides, parV, tallied, noneT, oneT, whenT, plusT, seqT, anyV, sidesT, parT, overT, worded, byW, blkV, pairW, cseqW, heldW, caltW, fittingT, partnersT, bothT, cparW, skippW, throwwW, yielddW, weighs, is-own, total, afterG, insideG, besideG, withinG};
+ghost use mathlib.Core.Bool.{_&&_, cond};
+ghost use lib.Dec.{eqb};
 ghost use Rattle.calculus.specs.Term.{done, withdrawn, failed, join};
 ghost use Rattle.calculus.specs.Successors.{eqc};
 
@@ -450,48 +451,62 @@ pub fn partners(q: Word, u: u8, x: u8) -> Tally
     )
 }
 
-// Of all k of t beside each compensation of a side that has not failed. Most lists are empty, so this is told before what goes with them
-// is put together.
-fn beside_unfailed(joint: bool, t: Tally, q: Word) -> Tally
-    ensures { λ r. ⌜ r ≡ parT joint t (plusT (byW q done) (byW q withdrawn)) ⌝ }
-{
-    if t.many == 0 {
-        return no_tally();
-    }
-    parallel_tally(joint, t, plus(q.done, q.withdrawn))
-}
-
-// The same of a side that has ended in any way.
+// Of all k of t beside each compensation of q, by whatever closing.
 fn beside_any(joint: bool, t: Tally, q: Word) -> Tally
     ensures { λ r. ⌜ r ≡ parT joint t (overT (byW q)) ⌝ }
 {
-    if t.many == 0 {
-        return no_tally();
-    }
     parallel_tally(joint, t, plus(plus(q.done, q.withdrawn), q.failed))
 }
 
-// Which closings of the sides go with which is by `join-done`, `join-withdrawn` and `join-failed`.
-pub fn parallel_word(joint: bool, x: Word, y: Word) -> Word
-    ensures { λ r. ⌜ r ≡ cparW joint x y ⌝ }
+// Compensations of both sides, where both end withdrawn: by `join-withdrawn`.
+fn withdrawn_tally(joint: bool, x: Word, y: Word) -> Tally
+    ensures { λ r. ⌜ r ≡ bothT joint x y withdrawn ⌝ }
 {
-    let w = plus(
+    let unfailed = plus(y.done, y.withdrawn);
+    plus(
         parallel_tally(joint, x.done, y.withdrawn),
-        beside_unfailed(joint, x.withdrawn, y),
-    );
-    let f = plus(
+        parallel_tally(joint, x.withdrawn, unfailed),
+    )
+}
+
+// Where both end failed: by `join-failed`.
+fn failed_tally(joint: bool, x: Word, y: Word) -> Tally
+    ensures { λ r. ⌜ r ≡ bothT joint x y failed ⌝ }
+{
+    plus(
         plus(
             parallel_tally(joint, x.done, y.failed),
             parallel_tally(joint, x.withdrawn, y.failed),
         ),
         beside_any(joint, x.failed, y),
-    );
-    word_of(
-        sides(joint, x.moves, y.moves),
-        parallel_tally(joint, x.done, y.done),
-        w,
-        f,
     )
+}
+
+fn both_empty(x: Tally, y: Tally) -> bool
+    ensures { λ r. ⌜ r ≡ (eqb (x .many) 0 && eqb (y .many) 0) ⌝ }
+{
+    (x.many == 0) & (y.many == 0)
+}
+
+// Most often the first side can only fail, or none can: told first, since it leaves little to do. Where both end done, by `join-done`.
+pub fn parallel_word(joint: bool, x: Word, y: Word) -> Word
+    ensures { λ r. ⌜ r ≡ cparW joint x y ⌝ }
+{
+    let moves = sides(joint, x.moves, y.moves);
+    if both_empty(x.done, x.withdrawn) {
+        return word_of(
+            moves,
+            no_tally(),
+            no_tally(),
+            beside_any(joint, x.failed, y),
+        );
+    }
+    let d = parallel_tally(joint, x.done, y.done);
+    let w = withdrawn_tally(joint, x, y);
+    if both_empty(x.failed, y.failed) {
+        return word_of(moves, d, w, no_tally());
+    }
+    word_of(moves, d, w, failed_tally(joint, x, y))
 }
 
 pub fn skipp_word() -> Word
