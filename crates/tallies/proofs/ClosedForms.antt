@@ -18,17 +18,17 @@ use Rattle.tallies.specs.declared.Word.{Word}
 -- Views -----------------------------------------------------------------------------------------------------------------
 
 module _ (p q : View) where
-  pub both-done : bothV p q done ≡ (p .done && q .done)
+  pub bothV-done : bothV p q done ≡ (p .done && q .done)
   unfolding bothV meetV
-  both-done = ends-both-done (endsV p) (endsV q)
+  bothV-done = ends-both-done (endsV p) (endsV q)
 
-  pub both-withdrawn : bothV p q withdrawn ≡ ((p .done && q .withdraws) || (p .withdraws && (q .done || q .withdraws)))
+  pub bothV-withdrawn : bothV p q withdrawn ≡ ((p .done && q .withdraws) || (p .withdraws && (q .done || q .withdraws)))
   unfolding bothV meetV
-  both-withdrawn = ends-both-withdrawn (endsV p) (endsV q)
+  bothV-withdrawn = ends-both-withdrawn (endsV p) (endsV q)
 
-  pub both-failed : bothV p q failed ≡ (((p .done || p .withdraws) && q .fails) || (p .fails && (q .done || (q .withdraws || q .fails))))
+  pub bothV-failed : bothV p q failed ≡ (((p .done || p .withdraws) && q .fails) || (p .fails && (q .done || (q .withdraws || q .fails))))
   unfolding bothV meetV
-  both-failed = ends-both-failed (endsV p) (endsV q)
+  bothV-failed = ends-both-failed (endsV p) (endsV q)
 
 -- Tallies ---------------------------------------------------------------------------------------------------------------
 
@@ -102,38 +102,38 @@ module _ (j : Bool) (p q : Word) where
   abbrev over-pairs : (Closing → Closing → Bool) → Tally
   over-pairs h = overT (λ x. parT j (byW p x) (overT (λ y. whenT (h x y) (byW q y))))
 
-  pub beside-done : bothT j p q done ≡ parT j (p .done) (q .done)
+  pub bothT-done : bothT j p q done ≡ parT j (p .done) (q .done)
   unfolding plusT bothT partnersT fittingT
-  beside-done =
+  bothT-done =
       by-law over-pairs done join-done
       ∙ (λ i. plusT (plusT ((par-none-right j (p .done) (plusT (q .done) noneT) ∙ par-none-right j (p .done) (q .done)) i) (par-empty j (p .withdrawn) noneT refl i)) (par-empty j (p .failed) noneT refl i))
       ∙ ap (λ z. plusT z noneT) (none-right _ (par-settled j (p .done) (q .done)))
       ∙ none-right _ (par-settled j (p .done) (q .done))
 
-  pub beside-withdrawn : bothT j p q withdrawn ≡ plusT (parT j (p .done) (q .withdrawn)) (parT j (p .withdrawn) (plusT (q .done) (q .withdrawn)))
+  pub bothT-withdrawn : bothT j p q withdrawn ≡ plusT (parT j (p .done) (q .withdrawn)) (parT j (p .withdrawn) (plusT (q .done) (q .withdrawn)))
   unfolding plusT bothT partnersT fittingT
-  beside-withdrawn =
+  bothT-withdrawn =
       by-law over-pairs withdrawn join-withdrawn
       ∙ (λ i. plusT (plusT (par-none-right j (p .done) (q .withdrawn) i) (par-none-right j (p .withdrawn) (plusT (q .done) (q .withdrawn)) i)) (par-empty j (p .failed) noneT refl i))
       ∙ none-right _ (plus-settled _ _ (par-settled j (p .done) (q .withdrawn)) (par-settled j (p .withdrawn) (plusT (q .done) (q .withdrawn))))
 
-  pub beside-failed : bothT j p q failed ≡ plusT (plusT (parT j (p .done) (q .failed)) (parT j (p .withdrawn) (q .failed))) (parT j (p .failed) (plusT (plusT (q .done) (q .withdrawn)) (q .failed)))
+  pub bothT-failed : bothT j p q failed ≡ plusT (plusT (parT j (p .done) (q .failed)) (parT j (p .withdrawn) (q .failed))) (parT j (p .failed) (plusT (plusT (q .done) (q .withdrawn)) (q .failed)))
   unfolding plusT bothT partnersT fittingT
-  beside-failed = by-law over-pairs failed join-failed
+  bothT-failed = by-law over-pairs failed join-failed
 
   -- where the first side can only fail, and where no side can
   module _ (d : eqb (p .done .many) 0 ≡ true) (w : eqb (p .withdrawn .many) 0 ≡ true) where
     pub fails-done : bothT j p q done ≡ noneT
-    fails-done = beside-done ∙ par-first-empty j _ _ d
+    fails-done = bothT-done ∙ par-first-empty j _ _ d
 
     pub fails-withdrawn : bothT j p q withdrawn ≡ noneT
     unfolding plusT
-    fails-withdrawn = beside-withdrawn ∙ ap₂ plusT (par-first-empty j _ _ d) (par-first-empty j _ _ w)
+    fails-withdrawn = bothT-withdrawn ∙ ap₂ plusT (par-first-empty j _ _ d) (par-first-empty j _ _ w)
 
     pub fails-failed : bothT j p q failed ≡ parT j (p .failed) (overT (byW q))
     unfolding plusT
-    fails-failed = beside-failed ∙ ap₂ (λ x y. plusT (plusT x y) (parT j (p .failed) (overT (byW q)))) (par-first-empty j _ _ d) (par-first-empty j _ _ w)
+    fails-failed = bothT-failed ∙ ap₂ (λ x y. plusT (plusT x y) (parT j (p .failed) (overT (byW q)))) (par-first-empty j _ _ d) (par-first-empty j _ _ w)
 
   pub none-fails : eqb (p .failed .many) 0 ≡ true → eqb (q .failed .many) 0 ≡ true → bothT j p q failed ≡ noneT
   unfolding plusT
-  none-fails x y = beside-failed ∙ (λ i. plusT (plusT (par-empty j (p .done) (q .failed) y i) (par-empty j (p .withdrawn) (q .failed) y i)) (par-first-empty j (p .failed) (overT (byW q)) x i))
+  none-fails x y = bothT-failed ∙ (λ i. plusT (plusT (par-empty j (p .done) (q .failed) y i) (par-empty j (p .withdrawn) (q .failed) y i)) (par-first-empty j (p .failed) (overT (byW q)) x i))

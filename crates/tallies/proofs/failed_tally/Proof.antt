@@ -1,5 +1,5 @@
 -- `tallies::failed_tally` meets its contract: the closed form. Assumes nothing.
-use Rattle.tallies.proofs.ClosedForms.{beside-failed}
+use Rattle.tallies.proofs.ClosedForms.{bothT-failed}
 use Rattle.tallies.proofs.failed_tally.Statement.{statement}
 use Rattle.tallies.proofs.failed_tally.Tie as tie
 
@@ -11,7 +11,7 @@ returns c =
       c .before .before .plus .ensures,
       c .before .before .before .parallel-tally2 .ensures,
       c .before .before .before .before .parallel-tally .ensures,
-      beside-failed,
+      bothT-failed,
     )
 
 pub failed-tally-spec : {M : Type 1} → statement M

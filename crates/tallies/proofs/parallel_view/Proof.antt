@@ -1,6 +1,6 @@
 -- `tallies::parallel_view` meets its contract: by the closed forms. Assumes nothing.
 use Rattle.tallies.specs.Formulas.{parV}
-use Rattle.tallies.proofs.ClosedForms.{both-done}
+use Rattle.tallies.proofs.ClosedForms.{bothV-done}
 use Rattle.tallies.proofs.parallel_view.Statement.{statement}
 use Rattle.tallies.proofs.parallel_view.Tie as tie
 
@@ -12,7 +12,7 @@ returns c =
       c .before .both-fail .ensures,
       c .before .before .both-withdraw .ensures,
       c .before .before .before .before .before .sides .ensures,
-      both-done,
+      bothV-done,
     )
 
 pub parallel-view-spec : {M : Type 1} → statement M

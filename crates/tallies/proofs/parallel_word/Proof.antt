@@ -2,7 +2,7 @@
 use mathlib.Core.Path.{sym, _∙_}
 use Rattle.tallies.specs.Formulas.{cparW}
 use Rattle.tallies.specs.OwnLaws.{both-true}
-use Rattle.tallies.proofs.ClosedForms.{beside-done, fails-done, fails-withdrawn, fails-failed, none-fails}
+use Rattle.tallies.proofs.ClosedForms.{bothT-done, fails-done, fails-withdrawn, fails-failed, none-fails}
 use Rattle.tallies.proofs.parallel_word.Statement.{statement}
 use Rattle.tallies.proofs.parallel_word.Tie as tie
 
@@ -36,7 +36,7 @@ returns-2 c =
       tallies .withdrawn-tally .ensures,
       tallies .before .parallel-tally .ensures,
       tallies .before .before .before .before .sides .ensures,
-      beside-done,
+      bothT-done,
       none-fails (a .joint) (a .x) (a .y) (e .0) (e .1),
     )
 
@@ -50,7 +50,7 @@ returns-3 c =
       tallies .withdrawn-tally .ensures,
       tallies .before .parallel-tally .ensures,
       tallies .before .before .before .before .sides .ensures,
-      beside-done,
+      bothT-done,
     )
 
 pub parallel-word-spec : {M : Type 1} → statement M

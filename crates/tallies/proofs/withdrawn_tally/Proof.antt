@@ -1,5 +1,5 @@
 -- `tallies::withdrawn_tally` meets its contract: the closed form. Assumes nothing.
-use Rattle.tallies.proofs.ClosedForms.{beside-withdrawn}
+use Rattle.tallies.proofs.ClosedForms.{bothT-withdrawn}
 use Rattle.tallies.proofs.withdrawn_tally.Statement.{statement}
 use Rattle.tallies.proofs.withdrawn_tally.Tie as tie
 
@@ -10,7 +10,7 @@ returns c =
       c .before .parallel-tally2 .ensures,
       c .before .before .parallel-tally .ensures,
       c .before .before .before .plus .ensures,
-      beside-withdrawn,
+      bothT-withdrawn,
     )
 
 pub withdrawn-tally-spec : {M : Type 1} → statement M
