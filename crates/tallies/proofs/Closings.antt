@@ -1,11 +1,7 @@
--- Rules of two closings, shown by trying the nine pairs of ranks, which are numbered as in the table JOIN of the code; and a rule
--- of some closing, by trying the three. Assumes nothing.
+-- Rules of two closings, shown by trying the nine pairs of ranks, which are numbered as in the table JOIN of the code. Assumes nothing.
 use Prim.Native.Nat.{ℕ, _+_, _*_, _<_}
-use mathlib.Core.Path.{_≡_, sym, ap}
-use mathlib.Core.Bool.{Bool, _||_, or-false}
+use mathlib.Core.Path.{_≡_}
 use native.Mathlib.Omega.{arith}
-use Rattle.calculus.specs.Term.{Closing, done, withdrawn, failed}
-use Rattle.calculus.specs.Successors.{closings, some-of}
 use Rattle.tallies.specs.RankLaws.{by-rank}
 
 module _ {A : Type 0} (x y : ℕ) (hx : x < 3) (hy : y < 3) {k : ℕ} (hk : k ≡ 3 * x + y) where
@@ -17,7 +13,3 @@ module _ {A : Type 0} (x y : ℕ) (hx : x < 3) (hy : y < 3) {k : ℕ} (hk : k �
       (λ e. by-rank y hy (λ f. dd e f (omega arith)) (λ f. dw e f (omega arith)) (λ f. df e f (omega arith)))
       (λ e. by-rank y hy (λ f. wd e f (omega arith)) (λ f. ww e f (omega arith)) (λ f. wf e f (omega arith)))
       (λ e. by-rank y hy (λ f. fd e f (omega arith)) (λ f. fw e f (omega arith)) (λ f. ff e f (omega arith)))
-
-pub some-closing : (f : Closing → Bool) → (f done || (f withdrawn || f failed)) ≡ some-of f closings
-unfolding some-of
-some-closing f = ap (λ z. f done || (f withdrawn || z)) (sym (or-false (f failed)))

@@ -1,3 +1,4 @@
 pub mod Beside
+pub mod ClosedForms
 pub mod Closings
 pub mod Products

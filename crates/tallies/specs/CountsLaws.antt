@@ -17,6 +17,7 @@ use Rattle.tallies.specs.CappedLaws.{cap-add, cap-mul, cap-mul-right, ca
 use Rattle.tallies.specs.Formulas.{viewed, skipV, throwV, yieldV, evV, altV, seqV, hndV, endsV, meetV, bothV, sides, parV, tallied, some?, noneT, oneT, whenT, plusT, seqT, anyV, sidesT, parT, overT, worded, byW, blkV, pairW, cseqW, heldW, caltW, cparW, skippW, throwwW, yielddW, fittingT, partnersT, bothT, total}
 use Rattle.tallies.specs.Counts.{sum-of, moves-both, moves, able, view, tally, word, weight}
 use Rattle.tallies.specs.Grids.{afters, besides, partners}
+use Rattle.tallies.specs.JoinLaws.{ends-both-done}
 use Rattle.tallies.specs.SumsLaws.{turned, numbers, truths, sum-append, sum-plus, sum-products, sum-products₂, sum-pairs, grid-nil, sum-right, sum-same, length-is, length-each, length-grid}
 use Rattle.tallies.specs.declared.View.{View}
 use Rattle.tallies.specs.declared.Tally.{Tally}
@@ -25,8 +26,7 @@ use Rattle.tallies.specs.declared.Weight.{Weight}
 -- How a term ends that has two sides ------------------------------------------------------------------------------------
 
 pub both-done : (j : Joint) (p q : Std) → ends (par j p q) done ≡ (ends p done && ends q done)
-unfolding some-of
-both-done j p q = ends-par j p q done ∙ or-false _ ∙ or-false _
+both-done j p q = ends-par j p q done ∙ ends-both-done (ends p) (ends q)
 
 -- two sides end together by the views of them
 both-by : {p q : View} (u : Closing) {f g : Closing → Bool} → ((x : Closing) → f x ≡ endsV p x) → ((y : Closing) → g y ≡ endsV q y) →

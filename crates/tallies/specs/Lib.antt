@@ -9,6 +9,7 @@ pub mod Bare
 -- Laws.
 pub mod CappedLaws
 pub mod RankLaws
+pub mod JoinLaws
 pub mod SumsLaws
 pub mod CountsLaws
 pub mod PlacesLaws

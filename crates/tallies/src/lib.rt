@@ -5,10 +5,11 @@
 ghost use mathlib.Core.Path.{_≡_};
 ghost use Prim.Native.Nat.{_+_, _*_, _<_};
 ghost use Rattle.tallies.specs.Capped.{cap};
-ghost use Rattle.tallies.specs.Formulas.{closing, rank, viewed, skipV, throwV, yieldV, evV, altV, seqV, hndV, endsV, meetV, bothV, sides, parV, tallied, noneT, oneT, whenT, plusT, seqT, anyV, sidesT, parT, worded, byW, blkV, pairW, cseqW, heldW, caltW, fittingT, partnersT, bothT, cparW, skippW, throwwW, yielddW, weighs, is-own, total, afterG, insideG, besideG, withinG};
-ghost use mathlib.Core.Bool.{cond};
-ghost use Rattle.calculus.specs.Term.{join};
-ghost use Rattle.calculus.specs.Successors.{eqc, closings, some-of};
+ghost use Rattle.tallies.specs.Formulas.{closing, rank, viewed, skipV, throwV, yieldV, evV, altV, seqV, hndV, bothV, sides, parV, tallied, noneT, oneT, whenT, plusT, seqT, anyV, sidesT, parT, overT, worded, byW, blkV, pairW, cseqW, heldW, caltW, fittingT, partnersT, bothT, cparW, skippW, throwwW, yielddW, weighs, is-own, total, afterG, insideG, besideG, withinG};
+ghost use mathlib.Core.Bool.{_&&_, cond};
+ghost use lib.Dec.{eqb};
+ghost use Rattle.calculus.specs.Term.{done, withdrawn, failed, join};
+ghost use Rattle.calculus.specs.Successors.{eqc};
 
 const MOST: u64 = 4294967295;
 
@@ -91,7 +92,8 @@ fn view_of(moves: u32, done: bool, withdraws: bool, fails: bool) -> View
 
 // Closings ----------------------------------------------------------------------------------------------------------
 
-// How two parallel sides end that end by x and y. Nothing else combines two closings.
+// How two parallel sides end that end by x and y: each single pair of closings is combined here. Sums over all pairs are in closed form,
+// by the laws `join-done`, `join-withdrawn` and `join-failed` (specs/JoinLaws.antt).
 fn joined(x: u8, y: u8) -> u8
     requires { ⌜ (x < 3) × (y < 3) ⌝ }
     ensures { λ r. ⌜ r ≡ rank (join (closing x) (closing y)) ⌝ }
@@ -185,42 +187,18 @@ pub fn handler_view(p: View, q: View) -> View
     }
 }
 
-fn ends_by(v: View, w: u8) -> bool
-    ensures { λ r. ⌜ r ≡ endsV v (closing w) ⌝ }
+// Whether two sides can end withdrawn together, by `join-withdrawn`.
+fn both_withdraw(p: View, q: View) -> bool
+    ensures { λ r. ⌜ r ≡ bothV p q withdrawn ⌝ }
 {
-    if w == RANK_DONE {
-        return v.done;
-    }
-    if w == RANK_WITHDRAWN {
-        return v.withdraws;
-    }
-    v.fails
+    (p.done & q.withdraws) | (p.withdraws & (q.done | q.withdraws))
 }
 
-// Whether p can end by x and q by y, and both end by u then.
-fn meets(p: View, q: View, u: u8, x: u8, y: u8) -> bool
-    requires { ⌜ (u < 3) × ((x < 3) × (y < 3)) ⌝ }
-    ensures { λ r. ⌜ r ≡ meetV p q (closing u) (closing x) (closing y) ⌝ }
+// Whether they can end failed together, by `join-failed`.
+fn both_fail(p: View, q: View) -> bool
+    ensures { λ r. ⌜ r ≡ bothV p q failed ⌝ }
 {
-    joins(u, x, y) & (ends_by(p, x) & ends_by(q, y))
-}
-
-// The same for some y.
-fn meets_some(p: View, q: View, u: u8, x: u8) -> bool
-    requires { ⌜ (u < 3) × (x < 3) ⌝ }
-    ensures { λ r. ⌜ r ≡ some-of (meetV p q (closing u) (closing x)) closings ⌝ }
-{
-    meets(p, q, u, x, RANK_DONE)
-        | (meets(p, q, u, x, RANK_WITHDRAWN) | meets(p, q, u, x, RANK_FAILED))
-}
-
-// Whether two sides can end by u together: the same for some x and y.
-fn both_end(p: View, q: View, u: u8) -> bool
-    requires { ⌜ u < 3 ⌝ }
-    ensures { λ r. ⌜ r ≡ bothV p q (closing u) ⌝ }
-{
-    meets_some(p, q, u, RANK_DONE)
-        | (meets_some(p, q, u, RANK_WITHDRAWN) | meets_some(p, q, u, RANK_FAILED))
+    ((p.done | p.withdraws) & q.fails) | (p.fails & (q.done | (q.withdraws | q.fails)))
 }
 
 // How many steps two sides have that have m and n: a joint event is one step of both.
@@ -235,9 +213,9 @@ pub fn parallel_view(joint: bool, p: View, q: View) -> View
 {
     view_of(
         sides(joint, p.moves, q.moves),
-        both_end(p, q, RANK_DONE),
-        both_end(p, q, RANK_WITHDRAWN),
-        both_end(p, q, RANK_FAILED),
+        p.done & q.done,
+        both_withdraw(p, q),
+        both_fail(p, q),
     )
 }
 
@@ -341,7 +319,7 @@ fn steps_beside(joint: bool, x: Tally, y: Tally) -> u32
     }
 }
 
-// Of all k beside l, k of x and l of y. Those that can end done multiply: only done and done join to done.
+// Of all k beside l, k of x and l of y. Those that can end done multiply, by `join-done`.
 fn parallel_tally(joint: bool, x: Tally, y: Tally) -> Tally
     ensures { λ r. ⌜ r ≡ parT joint x y ⌝ }
 {
@@ -357,8 +335,8 @@ fn parallel_tally(joint: bool, x: Tally, y: Tally) -> Tally
         product(x.many, y.many),
         product(x.able, y.able),
         steps_beside(joint, x, y),
-        both_end(p, q, RANK_WITHDRAWN),
-        both_end(p, q, RANK_FAILED),
+        both_withdraw(p, q),
+        both_fail(p, q),
     )
 }
 
@@ -473,41 +451,62 @@ pub fn partners(q: Word, u: u8, x: u8) -> Tally
     )
 }
 
-// Of all k beside what goes with it, k of t: where the first side ends by x and both by u. Most lists are empty, so this is told before
-// what goes with them is put together.
-fn beside_partners(joint: bool, t: Tally, q: Word, u: u8, x: u8) -> Tally
-    requires { ⌜ (u < 3) × (x < 3) ⌝ }
-    ensures { λ r. ⌜ r ≡ parT joint t (partnersT q (closing u) (closing x)) ⌝ }
+// Of all k of t beside each compensation of q, by whatever closing.
+fn beside_any(joint: bool, t: Tally, q: Word) -> Tally
+    ensures { λ r. ⌜ r ≡ parT joint t (overT (byW q)) ⌝ }
 {
-    if t.many == 0 {
-        return no_tally();
-    }
-    parallel_tally(joint, t, partners(q, u, x))
+    parallel_tally(joint, t, plus(plus(q.done, q.withdrawn), q.failed))
 }
 
-// Compensations of both sides, where both end by u.
-fn both_tally(joint: bool, p: Word, q: Word, u: u8) -> Tally
-    requires { ⌜ u < 3 ⌝ }
-    ensures { λ r. ⌜ r ≡ bothT joint p q (closing u) ⌝ }
+// Compensations of both sides, where both end withdrawn: by `join-withdrawn`.
+fn withdrawn_tally(joint: bool, x: Word, y: Word) -> Tally
+    ensures { λ r. ⌜ r ≡ bothT joint x y withdrawn ⌝ }
+{
+    let unfailed = plus(y.done, y.withdrawn);
+    plus(
+        parallel_tally(joint, x.done, y.withdrawn),
+        parallel_tally(joint, x.withdrawn, unfailed),
+    )
+}
+
+// Where both end failed: by `join-failed`.
+fn failed_tally(joint: bool, x: Word, y: Word) -> Tally
+    ensures { λ r. ⌜ r ≡ bothT joint x y failed ⌝ }
 {
     plus(
         plus(
-            beside_partners(joint, p.done, q, u, RANK_DONE),
-            beside_partners(joint, p.withdrawn, q, u, RANK_WITHDRAWN),
+            parallel_tally(joint, x.done, y.failed),
+            parallel_tally(joint, x.withdrawn, y.failed),
         ),
-        beside_partners(joint, p.failed, q, u, RANK_FAILED),
+        beside_any(joint, x.failed, y),
     )
 }
 
+fn both_empty(x: Tally, y: Tally) -> bool
+    ensures { λ r. ⌜ r ≡ (eqb (x .many) 0 && eqb (y .many) 0) ⌝ }
+{
+    (x.many == 0) & (y.many == 0)
+}
+
+// Most often the first side can only fail, or none can: told first, since it leaves little to do. Where both end done, by `join-done`.
 pub fn parallel_word(joint: bool, x: Word, y: Word) -> Word
     ensures { λ r. ⌜ r ≡ cparW joint x y ⌝ }
 {
-    word_of(
-        sides(joint, x.moves, y.moves),
-        both_tally(joint, x, y, RANK_DONE),
-        both_tally(joint, x, y, RANK_WITHDRAWN),
-        both_tally(joint, x, y, RANK_FAILED),
-    )
+    let moves = sides(joint, x.moves, y.moves);
+    if both_empty(x.done, x.withdrawn) {
+        return word_of(
+            moves,
+            no_tally(),
+            no_tally(),
+            beside_any(joint, x.failed, y),
+        );
+    }
+    let d = parallel_tally(joint, x.done, y.done);
+    let w = withdrawn_tally(joint, x, y);
+    if both_empty(x.failed, y.failed) {
+        return word_of(moves, d, w, no_tally());
+    }
+    word_of(moves, d, w, failed_tally(joint, x, y))
 }
 
 pub fn skipp_word() -> Word
@@ -581,7 +580,7 @@ pub fn weight_inside(g: Weight, moves: u32, able: bool) -> Weight
     )
 }
 
-// What p weighs with all q beside it, q of t.
+// What p weighs with all q beside it, q of t. Those that can end done multiply, by `join-done`.
 pub fn weight_beside(joint: bool, t: Tally, g: Weight) -> Weight
     ensures { λ r. ⌜ r ≡ besideG joint t g ⌝ }
 {
@@ -595,7 +594,7 @@ pub fn weight_beside(joint: bool, t: Tally, g: Weight) -> Weight
     }
 }
 
-// What q weighs beside p, where p has so many steps, and can end done or not.
+// What q weighs beside p, where p has so many steps, and can end done or not: both end done where both can, by `join-done`.
 pub fn weight_within(joint: bool, g: Weight, moves: u32, able: bool) -> Weight
     ensures { λ r. ⌜ r ≡ withinG joint g moves able ⌝ }
 {

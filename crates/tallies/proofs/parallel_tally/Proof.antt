@@ -1,16 +1,9 @@
 -- `tallies::parallel_tally` meets its contract: each return rewrites with the tests that led there. Assumes nothing.
 use Rattle.tallies.specs.Formulas.{parT}
 use Rattle.tallies.proofs.Beside.{beside}
-use borrow.Author.Needs.{needs}
 use borrow.Author.Tests.{eq-eqb, ne-eqb}
 use Rattle.tallies.proofs.parallel_tally.Statement.{statement}
 use Rattle.tallies.proofs.parallel_tally.Tie as tie
-
-both-end-requires : tie.Need-both-end-requires
-both-end-requires c κs = search needs
-
-both-end-requires-2 : tie.Need-both-end-requires-2
-both-end-requires-2 c κs = search needs
 
 returns : tie.Need-returns
 unfolding parT
@@ -27,7 +20,7 @@ returns-3 c =
     let tests = views .before .before in
     beside _ _ _ (ne-eqb _ _ (tests .before .before .if1 .left)) (ne-eqb _ _ (tests .if2 .left)) (views .before .any-view .ensures) (views .any-view2 .ensures)
     (sides .before .before .product .ensures) (sides .before .product2 .ensures) (sides .steps-beside .ensures)
-    (c .before .before .both-end .ensures) (c .before .both-end2 .ensures) (c .tally-of .ensures)
+    (c .before .before .both-withdraw .ensures) (c .before .both-fail .ensures) (c .tally-of .ensures)
 
 pub parallel-tally-spec : {M : Type 1} → statement M
-parallel-tally-spec = tie.close (tie.spec (λ _ _. tt) returns (λ _ _. tt) returns-2 (λ _ _. tt) (λ _ _. tt) (λ _ _. tt) (λ _ _. tt) (λ _ _. tt) both-end-requires both-end-requires-2 (λ _ _. tt) returns-3)
+parallel-tally-spec = tie.close (tie.spec (λ _ _. tt) returns (λ _ _. tt) returns-2 (λ _ _. tt) (λ _ _. tt) (λ _ _. tt) (λ _ _. tt) (λ _ _. tt) (λ _ _. tt) (λ _ _. tt) (λ _ _. tt) returns-3)
