@@ -1,11 +1,12 @@
 -- What the small functions of the checks go by: what is asked of a node without children and of one with them, what the marks of
--- taken children say, and what is known of the closings while the records are gone through. Definitions only. Assumes nothing.
+-- taken children and the sorts of the nodes passed say, and what is known of the closings while the records are gone through. Definitions only. Assumes nothing.
 use Prim.Native.Nat.{ℕ, _+_, _<_, _≤_}
 use mathlib.Core.Path.{_≡_}
 use mathlib.Core.Bool.{Bool, true, false}
 use mathlib.Core.List.{List}
 use lib.ListN.{length, getD, drop}
 use Rattle.flow.specs.declared.Form.{Form}
+use Rattle.flow.specs.Kinds.{node, is-standard}
 use Rattle.flow.specs.Refusals.{taken, closed, after-closings, too-many-closings, extra-closing}
 
 -- of the kinds without children, and of those with them
@@ -19,6 +20,11 @@ branch-form standard kids inner = record { known = true; standard = standard; ev
 pub record Marks (ns : List ℕ) (i : ℕ) (marks : List Bool) : Type 0 where
   pub size : length marks ≡ 64
   pub each : (c : ℕ) → c < 64 → getD marks c false ≡ taken ns i c
+
+-- the sorts say which nodes below i are standard
+pub record Sorts (ns : List ℕ) (i : ℕ) (sorts : List Bool) : Type 0 where
+  pub size : length sorts ≡ 64
+  pub each : (c : ℕ) → c < i → getD sorts c false ≡ is-standard (node ns c)
 
 -- i records are passed, and `left` closings of the wanted ones are to come
 pub record Passed (rs : List ℕ) (wanted i left : ℕ) : Type 0 where

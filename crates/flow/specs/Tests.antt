@@ -30,6 +30,11 @@ pub then-false : (a b : Bool) → (a && b) ≡ false → T a → b ≡ false
 then-false true b e t = e
 then-false false b e t = absurd t
 
+-- only where the first holds does the second matter
+pub then-same : (a b c : Bool) → (T a → b ≡ c) → (a && b) ≡ (a && c)
+then-same true b c e = e tt
+then-same false b c e = refl
+
 pub same-of-xor : (a b : Bool) → xor a b ≡ false → a ≡ b
 unfolding xor
 same-of-xor true true e = refl

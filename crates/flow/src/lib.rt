@@ -5,14 +5,13 @@
 ghost use mathlib.Core.Path.{_≡_};
 ghost use mathlib.Core.Bool.{true, false, cond, xor, _&&_};
 ghost use Prim.Native.Nat.{_+_, _*_, _-_, _<_, _≤_};
-ghost use lib.Dec.{T};
+ghost use lib.Dec.{T, ltb, leb};
 ghost use lib.ListN.{length, getD, set};
 ghost use Rattle.flow.specs.declared.Extent.the-variants.{Whole, Beginning};
-ghost use Rattle.flow.specs.PlainKinds.{plain-kind, kind-set};
-ghost use Rattle.flow.specs.Kinds.{node-of, node, one-of, two-of, form, is-standard, operator-set, set-number};
-ghost use Rattle.flow.specs.Forms.{leaf-form, branch-form, Marks};
+ghost use Rattle.flow.specs.Kinds.{node-of, node, one-of, two-of, form, most-sets, operator-set, set-number};
+ghost use Rattle.flow.specs.Forms.{leaf-form, branch-form, Marks, Sorts};
 ghost use Rattle.flow.specs.Records.{is-event-number, is-closing-number};
-ghost use Rattle.flow.specs.Refusals.{unknown-kind, no-such-set, wrong-field, not-lower, wrong-sort, child-taken, no-record, closings-wanted, node-grounds, child-grounds, count};
+ghost use Rattle.flow.specs.Refusals.{wrong-field, not-lower, wrong-sort, child-taken, no-record, closings-wanted, node-grounds, child-grounds, count};
 ghost use Rattle.flow.specs.Checks.{refused, first, each, table-length-check, sets-check, table-check, nodes-check, values-check, closings-check, records-length-check, records-check};
 
 // A refusal of document 01: its number, and the node or record that it names.
@@ -52,8 +51,8 @@ pub struct Two {
     pub second: usize,
 }
 
-// What a node is, in the calculus's words, with its event or its children: the one place that goes by the number of a kind is
-// `node_of`.
+// What a node is, in the calculus's words, with its event or its children. Only `node_of` goes by the number of a kind, with the table of
+// each sort, `standard_of` and `compensable_of`.
 pub enum Node {
     Event(u16),
     Basic(Simple),
@@ -139,32 +138,49 @@ fn branch(standard: bool, kids: u8, inner: bool) -> Form
     }
 }
 
-// A kind without its set: the kinds with one are two ranges, of the parallels 7 and 13.
-fn plain_kind(kind: u16) -> u16
-    ensures { λ r. ⌜ r ≡ plain-kind kind ⌝ }
+// The standard kinds without a set, by a node's three numbers. Single numbers are compiled to a jump, where ranges are a chain of tests.
+fn standard_of(kind: u16, first: u16, second: u16) -> Node
+    requires { ⌜ (1 ≤ kind) × (kind ≤ 9) ⌝ }
+    ensures { λ r. ⌜ r ≡ node-of kind first second ⌝ }
 {
-    if kind < 256 {
-        return kind;
-    }
+    let two = Two {
+        first: first as usize,
+        second: second as usize,
+    };
     match kind {
-        256..=271 => 7,
-        512..=527 => 13,
-        _ => 0,
+        1 => Node::Event(first),
+        2 => Node::Basic(Simple::Skip),
+        3 => Node::Basic(Simple::Throw),
+        4 => Node::Basic(Simple::Yield),
+        5 => Node::Standard(Operator::Sequence, two),
+        6 => Node::Standard(Operator::Choice, two),
+        7 => Node::Standard(Operator::Parallel(NO_SET), two),
+        8 => Node::Handler(two),
+        _ => Node::Block(first as usize),
     }
 }
 
-// The number of the set that a parallel's kind has, if it has one.
-fn kind_set(kind: u16) -> u16
-    ensures { λ r. ⌜ r ≡ kind-set kind ⌝ }
+// The compensable ones.
+fn compensable_of(kind: u16, first: u16, second: u16) -> Node
+    requires { ⌜ (10 ≤ kind) × (kind ≤ 16) ⌝ }
+    ensures { λ r. ⌜ r ≡ node-of kind first second ⌝ }
 {
-    if kind < 256 {
-        return NO_SET;
+    let two = Two {
+        first: first as usize,
+        second: second as usize,
+    };
+    match kind {
+        10 => Node::Pair(two),
+        11 => Node::Compensable(Operator::Sequence, two),
+        12 => Node::Compensable(Operator::Choice, two),
+        13 => Node::Compensable(Operator::Parallel(NO_SET), two),
+        14 => Node::Paired(Simple::Skip),
+        15 => Node::Paired(Simple::Throw),
+        _ => Node::Paired(Simple::Yield),
     }
-    kind % 256
 }
 
-// The kinds, by a node's three numbers. Each of the sixteen has an arm of its own: ranges are lowered to a chain of tests, and every visit
-// of a node comes through here. Those with a set are told apart before, by one test of all others.
+// The kinds, by a node's three numbers: a range for each sort, and one for the parallels of each that have a set.
 fn node_of(kind: u16, first: u16, second: u16) -> Node
     ensures { λ r. ⌜ r ≡ node-of kind first second ⌝ }
 {
@@ -172,23 +188,11 @@ fn node_of(kind: u16, first: u16, second: u16) -> Node
         first: first as usize,
         second: second as usize,
     };
-    match plain_kind(kind) {
-        1 => Node::Event(first),
-        2 => Node::Basic(Simple::Skip),
-        3 => Node::Basic(Simple::Throw),
-        4 => Node::Basic(Simple::Yield),
-        5 => Node::Standard(Operator::Sequence, two),
-        6 => Node::Standard(Operator::Choice, two),
-        7 => Node::Standard(Operator::Parallel(kind_set(kind)), two),
-        8 => Node::Handler(two),
-        9 => Node::Block(first as usize),
-        10 => Node::Pair(two),
-        11 => Node::Compensable(Operator::Sequence, two),
-        12 => Node::Compensable(Operator::Choice, two),
-        13 => Node::Compensable(Operator::Parallel(kind_set(kind)), two),
-        14 => Node::Paired(Simple::Skip),
-        15 => Node::Paired(Simple::Throw),
-        16 => Node::Paired(Simple::Yield),
+    match kind {
+        1..=9 => standard_of(kind, first, second),
+        10..=16 => compensable_of(kind, first, second),
+        256..=271 => Node::Standard(Operator::Parallel(kind - 256), two),
+        512..=527 => Node::Compensable(Operator::Parallel(kind - 512), two),
         _ => Node::Unknown,
     }
 }
@@ -305,119 +309,118 @@ fn refuse(number: u16, place: usize) -> Check
     })
 }
 
-// 4 of node i.
-fn unknown_kind(nodes: &[u16], i: usize) -> bool
-    requires { ⌜ 3 * i + 2 < length (now nodes) ⌝ }
-    ensures { λ r. ⌜ r ≡ unknown-kind (now (nodes .entry)) i ⌝ }
+// 22 of a node, where so many sets are present.
+fn no_such_set(node: Node, many: usize) -> bool
+    ensures { λ r. ⌜ r ≡ ltb (set-number node) most-sets && leb many (set-number node) ⌝ }
 {
-    let form = form_at(nodes, i);
-    !form.known
-}
-
-// 22 of node i, where so many sets are present.
-fn no_such_set(nodes: &[u16], i: usize, many: usize) -> bool
-    requires { ⌜ 3 * i + 2 < length (now nodes) ⌝ }
-    ensures { λ r. ⌜ r ≡ no-such-set (now (nodes .entry)) i many ⌝ }
-{
-    let set = set_number(node_at(nodes, i)) as usize;
+    let set = set_number(node) as usize;
     (set < MOST_SETS) & (many <= set)
 }
 
-// 5 of node i.
-fn wrong_field(nodes: &[u16], i: usize) -> bool
+// 5 of node i, of which this is asked.
+fn wrong_field(nodes: &[u16], i: usize, asked: Form) -> bool
     requires { ⌜ 3 * i + 2 < length (now nodes) ⌝ }
+    requires { ⌜ asked ≡ form (node (now nodes) i) ⌝ }
     ensures { λ r. ⌜ r ≡ wrong-field (now (nodes .entry)) i ⌝ }
 {
-    let form = form_at(nodes, i);
     let first = first_at(nodes, i);
     let second = second_at(nodes, i);
-    let no_event = form.event & !is_event(first);
-    let no_child = !form.event & ((form.kids == 0) & (first != 0));
-    no_event | (no_child | ((form.kids != 2) & (second != 0)))
+    let no_event = asked.event & !is_event(first);
+    let no_child = !asked.event & ((asked.kids == 0) & (first != 0));
+    no_event | (no_child | ((asked.kids != 2) & (second != 0)))
 }
 
-// 6 of node i.
-fn not_lower(nodes: &[u16], i: usize) -> bool
+// 6 of node i, of which this is asked.
+fn not_lower(nodes: &[u16], i: usize, asked: Form) -> bool
     requires { ⌜ 3 * i + 2 < length (now nodes) ⌝ }
+    requires { ⌜ asked ≡ form (node (now nodes) i) ⌝ }
     ensures { λ r. ⌜ r ≡ not-lower (now (nodes .entry)) i ⌝ }
 {
-    let form = form_at(nodes, i);
     let first = first_at(nodes, i) as usize;
     let second = second_at(nodes, i) as usize;
-    ((form.kids != 0) & (first >= i)) | ((form.kids == 2) & (second >= i))
+    ((asked.kids != 0) & (first >= i)) | ((asked.kids == 2) & (second >= i))
 }
 
-// Whether a child, if there is one, is not of the sort asked for.
-fn sort_differs(nodes: &[u16], child: usize, used: bool, standard: bool) -> bool
-    requires { ⌜ (T used → 3 * child + 2 < length (now nodes)) ⌝ }
-    ensures { λ r. ⌜ r ≡ used && xor (is-standard (node (now (nodes .entry)) child)) standard ⌝ }
-{
-    if !used {
-        return false;
-    }
-    let form = form_at(nodes, child);
-    form.standard != standard
-}
-
-// 7 of node i, whose children are lower.
-fn wrong_sort(nodes: &[u16], i: usize) -> bool
-    requires { ⌜ 3 * i + 2 < length (now nodes) ⌝ }
-    requires { ⌜ not-lower (now nodes) i ≡ false ⌝ }
-    ensures { λ r. ⌜ r ≡ wrong-sort (now (nodes .entry)) i ⌝ }
-{
-    let form = form_at(nodes, i);
-    let first = first_at(nodes, i) as usize;
-    let second = second_at(nodes, i) as usize;
-    sort_differs(nodes, first, form.kids != 0, form.inner)
-        | sort_differs(nodes, second, form.kids == 2, form.inner)
-}
-
-// Whether a child, if there is one, is marked.
+// Whether a child, if there is one, is marked. A field that names none is looked up somewhere within: the marks are read without a jump.
 fn marked(marks: &[bool; 64], child: usize, used: bool) -> bool
     requires { ⌜ (T used → child < 64) ⌝ }
     ensures { λ r. ⌜ r ≡ used && getD (now (marks .entry)) child false ⌝ }
 {
-    if used { marks[child] } else { false }
+    used & marks[child % MOST_NODES]
 }
 
-// 8 of node i, whose children are lower; the marks are those of the nodes below it.
-fn child_taken(nodes: &[u16], i: usize, marks: &[bool; 64]) -> bool
+// Whether a child, if there is one, is not of the sort asked for.
+fn sort_differs(sorts: &[bool; 64], child: usize, used: bool, standard: bool) -> bool
+    requires { ⌜ (T used → child < 64) ⌝ }
+    ensures { λ r. ⌜ r ≡ used && xor (getD (now (sorts .entry)) child false) standard ⌝ }
+{
+    used & (sorts[child % MOST_NODES] != standard)
+}
+
+// 7 of node i, of which this is asked and whose children are lower; the sorts are those of the nodes below it.
+fn wrong_sort(nodes: &[u16], i: usize, asked: Form, sorts: &[bool; 64]) -> bool
     requires { ⌜ 3 * i + 2 < length (now nodes) ⌝ }
     requires { ⌜ i < 64 ⌝ }
+    requires { ⌜ asked ≡ form (node (now nodes) i) ⌝ }
+    requires { ⌜ not-lower (now nodes) i ≡ false ⌝ }
+    requires { ⌜ Sorts (now nodes) i (now sorts) ⌝ }
+    ensures { λ r. ⌜ r ≡ wrong-sort (now (nodes .entry)) i ⌝ }
+{
+    let first = first_at(nodes, i) as usize;
+    let second = second_at(nodes, i) as usize;
+    sort_differs(sorts, first, asked.kids != 0, asked.inner)
+        | sort_differs(sorts, second, asked.kids == 2, asked.inner)
+}
+
+// 8 of node i, of which this is asked and whose children are lower; the marks are those of the nodes below it.
+fn child_taken(nodes: &[u16], i: usize, asked: Form, marks: &[bool; 64]) -> bool
+    requires { ⌜ 3 * i + 2 < length (now nodes) ⌝ }
+    requires { ⌜ i < 64 ⌝ }
+    requires { ⌜ asked ≡ form (node (now nodes) i) ⌝ }
     requires { ⌜ not-lower (now nodes) i ≡ false ⌝ }
     requires { ⌜ Marks (now nodes) i (now marks) ⌝ }
     ensures { λ r. ⌜ r ≡ child-taken (now (nodes .entry)) i ⌝ }
 {
-    let form = form_at(nodes, i);
     let first = first_at(nodes, i) as usize;
     let second = second_at(nodes, i) as usize;
-    let two = form.kids == 2;
-    marked(marks, first, form.kids != 0) | (marked(marks, second, two) | (two & (first == second)))
+    let two = asked.kids == 2;
+    marked(marks, first, asked.kids != 0) | (marked(marks, second, two) | (two & (first == second)))
 }
 
-// 4 to 8 of node i, with 22.
-fn check_node(nodes: &[u16], i: usize, many: usize, marks: &[bool; 64]) -> Check
+// 4 to 8 of node i, with 22; the node is decoded here, and what is asked of it, before.
+fn check_node(
+    nodes: &[u16],
+    i: usize,
+    many: usize,
+    decoded: Node,
+    asked: Form,
+    marks: &[bool; 64],
+    sorts: &[bool; 64],
+) -> Check
     requires { ⌜ 3 * i + 2 < length (now nodes) ⌝ }
     requires { ⌜ i < 64 ⌝ }
+    requires { ⌜ decoded ≡ node (now nodes) i ⌝ }
+    requires { ⌜ asked ≡ form (node (now nodes) i) ⌝ }
     requires { ⌜ Marks (now nodes) i (now marks) ⌝ }
+    requires { ⌜ Sorts (now nodes) i (now sorts) ⌝ }
     ensures { λ r. ⌜ r ≡ first (node-grounds many (now (nodes .entry)) i) ⌝ }
 {
-    if unknown_kind(nodes, i) {
+    if !asked.known {
         return refuse(4, i);
     }
-    if no_such_set(nodes, i, many) {
+    if no_such_set(decoded, many) {
         return refuse(22, i);
     }
-    if wrong_field(nodes, i) {
+    if wrong_field(nodes, i, asked) {
         return refuse(5, i);
     }
-    if not_lower(nodes, i) {
+    if not_lower(nodes, i, asked) {
         return refuse(6, i);
     }
-    if wrong_sort(nodes, i) {
+    if wrong_sort(nodes, i, asked, sorts) {
         return refuse(7, i);
     }
-    if child_taken(nodes, i, marks) {
+    if child_taken(nodes, i, asked, marks) {
         return refuse(8, i);
     }
     Check::Fine
@@ -428,24 +431,23 @@ fn mark(marks: &mut [bool; 64], child: usize, used: bool)
     requires { ⌜ (T used → child < 64) ⌝ }
     ensures { λ r. ⌜ now (marks .exit) ≡ cond used (set (now (marks .entry)) child true) (now (marks .entry)) ⌝ }
 {
-    if used {
-        marks[child] = true;
-    }
+    let at = child % MOST_NODES;
+    marks[at] = used | marks[at];
 }
 
-// Marks the children of node i, which are lower.
-fn mark_children(nodes: &[u16], i: usize, marks: &mut [bool; 64])
+// Marks the children of node i, of which this is asked; they are lower.
+fn mark_children(nodes: &[u16], i: usize, asked: Form, marks: &mut [bool; 64])
     requires { ⌜ 3 * i + 2 < length (now nodes) ⌝ }
     requires { ⌜ i < 64 ⌝ }
+    requires { ⌜ asked ≡ form (node (now nodes) i) ⌝ }
     requires { ⌜ not-lower (now nodes) i ≡ false ⌝ }
     requires { ⌜ Marks (now nodes) i (now marks) ⌝ }
     ensures { λ r. ⌜ Marks (now (nodes .entry)) (i + 1) (now (marks .exit)) ⌝ }
 {
-    let form = form_at(nodes, i);
     let first = first_at(nodes, i) as usize;
     let second = second_at(nodes, i) as usize;
-    mark(marks, first, form.kids != 0);
-    mark(marks, second, form.kids == 2);
+    mark(marks, first, asked.kids != 0);
+    mark(marks, second, asked.kids == 2);
 }
 
 // 9: the lowest node that is nobody's child, the last one aside. The marks are those of all nodes.
@@ -472,13 +474,17 @@ pub fn check_nodes(nodes: &[u16], many: usize) -> Check
 {
     let n = nodes.len() / 3;
     let mut marks = [false; 64];
+    let mut sorts = [false; 64];
     let mut i = 0;
     while i < n {
-        let found = check_node(nodes, i, many, &marks);
+        let decoded = node_at(nodes, i);
+        let asked = form_of(decoded);
+        let found = check_node(nodes, i, many, decoded, asked, &marks, &sorts);
         if let Check::Refused(refusal) = found {
             return Check::Refused(refusal);
         }
-        mark_children(nodes, i, &mut marks);
+        mark_children(nodes, i, asked, &mut marks);
+        sorts[i] = asked.standard;
         i += 1;
     }
     check_children(nodes, &marks)

@@ -1,14 +1,27 @@
 -- `flow::check_node` meets its contract: each return rewrites with the conditions that led there. Assumes nothing.
-use mathlib.Core.Path.{_≡_, sym, _∙_}
-use mathlib.Core.Bool.{true, false}
+use Prim.Native.Nat.{ℕ}
+use mathlib.Core.Path.{_≡_, sym, ap, _∙_}
+use mathlib.Core.Bool.{Bool, true, false, not, _&&_}
+use mathlib.Core.List.{List}
+use lib.Dec.{ltb, leb}
 use borrow.Author.Needs.{needs}
+use Rattle.flow.specs.declared.Node.{Node}
+use Rattle.flow.specs.declared.Form.{Form}
+use Rattle.flow.specs.Kinds.{node, form, most-sets, set-number}
 use Rattle.flow.specs.Refusals.{unknown-kind, no-such-set, wrong-field, not-lower, wrong-sort, child-taken, node-grounds}
 use Rattle.flow.specs.Checks.{first, answer, or-else-check}
 use Rattle.flow.proofs.check_node.Statement.{statement}
 use Rattle.flow.proofs.check_node.Tie as tie
 
-unknown-kind-requires : tie.Need-unknown-kind-requires
-unknown-kind-requires c κs = search needs
+-- 4 and 22, by the node that was decoded
+module _ (ns : List ℕ) (i : ℕ) where
+  unknown-is : (asked : Form) → asked ≡ form (node ns i) → not (asked .known) ≡ unknown-kind ns i
+  unfolding unknown-kind
+  unknown-is asked e = ap (λ (f : Form). not (f .known)) e
+
+  set-is : (many : ℕ) (decoded : Node) → decoded ≡ node ns i → {b : Bool} → b ≡ (ltb (set-number decoded) most-sets && leb many (set-number decoded)) → b ≡ no-such-set ns i many
+  unfolding no-such-set
+  set-is many decoded e d = d ∙ ap (λ (n : Node). ltb (set-number n) most-sets && leb many (set-number n)) e
 
 refuse-requires : tie.Need-refuse-requires
 refuse-requires c κs = search needs
@@ -17,7 +30,7 @@ returns : tie.Need-returns
 unfolding first node-grounds answer or-else-check
 returns c =
     let s = c .before .before .before .before in
-    let e4 : unknown-kind (s .args .nodes .now) (s .args .i) ≡ true = sym (c .before .before .unknown-kind .ensures) ∙ c .before .if1 .taken in
+    let e4 : unknown-kind (s .args .nodes .now) (s .args .i) ≡ true = sym (unknown-is (s .args .nodes .now) (s .args .i) (s .args .asked) (s .pre .1 .1 .1 .0)) ∙ c .before .if1 .taken in
     rw (c .refuse .ensures, e4)
 
 no-such-set-requires : tie.Need-no-such-set-requires
@@ -30,8 +43,8 @@ returns-2 : tie.Need-returns-2
 unfolding first node-grounds answer or-else-check
 returns-2 c =
     let s = c .before .before .before .before .before .before in
-    let e4 : unknown-kind (s .args .nodes .now) (s .args .i) ≡ false = sym (c .before .before .before .before .unknown-kind .ensures) ∙ c .before .before .before .if1 .left in
-    let e22 : no-such-set (s .args .nodes .now) (s .args .i) (s .args .many) ≡ true = sym (c .before .before .no-such-set .ensures) ∙ c .before .if2 .taken in
+    let e4 : unknown-kind (s .args .nodes .now) (s .args .i) ≡ false = sym (unknown-is (s .args .nodes .now) (s .args .i) (s .args .asked) (s .pre .1 .1 .1 .0)) ∙ c .before .before .before .if1 .left in
+    let e22 : no-such-set (s .args .nodes .now) (s .args .i) (s .args .many) ≡ true = sym (set-is (s .args .nodes .now) (s .args .i) (s .args .many) (s .args .decoded) (s .pre .1 .1 .0) (c .before .before .no-such-set .ensures)) ∙ c .before .if2 .taken in
     rw (c .refuse2 .ensures, e4, e22)
 
 wrong-field-requires : tie.Need-wrong-field-requires
@@ -44,8 +57,8 @@ returns-3 : tie.Need-returns-3
 unfolding first node-grounds answer or-else-check
 returns-3 c =
     let s = c .before .before .before .before .before .before .before .before in
-    let e4 : unknown-kind (s .args .nodes .now) (s .args .i) ≡ false = sym (c .before .before .before .before .before .before .unknown-kind .ensures) ∙ c .before .before .before .before .before .if1 .left in
-    let e22 : no-such-set (s .args .nodes .now) (s .args .i) (s .args .many) ≡ false = sym (c .before .before .before .before .no-such-set .ensures) ∙ c .before .before .before .if2 .left in
+    let e4 : unknown-kind (s .args .nodes .now) (s .args .i) ≡ false = sym (unknown-is (s .args .nodes .now) (s .args .i) (s .args .asked) (s .pre .1 .1 .1 .0)) ∙ c .before .before .before .before .before .if1 .left in
+    let e22 : no-such-set (s .args .nodes .now) (s .args .i) (s .args .many) ≡ false = sym (set-is (s .args .nodes .now) (s .args .i) (s .args .many) (s .args .decoded) (s .pre .1 .1 .0) (c .before .before .before .before .no-such-set .ensures)) ∙ c .before .before .before .if2 .left in
     let e5 : wrong-field (s .args .nodes .now) (s .args .i) ≡ true = sym (c .before .before .wrong-field .ensures) ∙ c .before .if3 .taken in
     rw (c .refuse3 .ensures, e4, e22, e5)
 
@@ -59,8 +72,8 @@ returns-4 : tie.Need-returns-4
 unfolding first node-grounds answer or-else-check
 returns-4 c =
     let s = c .before .before .before .before .before .before .before .before .before .before in
-    let e4 : unknown-kind (s .args .nodes .now) (s .args .i) ≡ false = sym (c .before .before .before .before .before .before .before .before .unknown-kind .ensures) ∙ c .before .before .before .before .before .before .before .if1 .left in
-    let e22 : no-such-set (s .args .nodes .now) (s .args .i) (s .args .many) ≡ false = sym (c .before .before .before .before .before .before .no-such-set .ensures) ∙ c .before .before .before .before .before .if2 .left in
+    let e4 : unknown-kind (s .args .nodes .now) (s .args .i) ≡ false = sym (unknown-is (s .args .nodes .now) (s .args .i) (s .args .asked) (s .pre .1 .1 .1 .0)) ∙ c .before .before .before .before .before .before .before .if1 .left in
+    let e22 : no-such-set (s .args .nodes .now) (s .args .i) (s .args .many) ≡ false = sym (set-is (s .args .nodes .now) (s .args .i) (s .args .many) (s .args .decoded) (s .pre .1 .1 .0) (c .before .before .before .before .before .before .no-such-set .ensures)) ∙ c .before .before .before .before .before .if2 .left in
     let e5 : wrong-field (s .args .nodes .now) (s .args .i) ≡ false = sym (c .before .before .before .before .wrong-field .ensures) ∙ c .before .before .before .if3 .left in
     let e6 : not-lower (s .args .nodes .now) (s .args .i) ≡ true = sym (c .before .before .not-lower .ensures) ∙ c .before .if4 .taken in
     rw (c .refuse4 .ensures, e4, e22, e5, e6)
@@ -69,7 +82,7 @@ wrong-sort-requires : tie.Need-wrong-sort-requires
 wrong-sort-requires c κs =
     let s = c .before .before .before .before .before .before .before .before .before in
     let e6 : not-lower (s .args .nodes .now) (s .args .i) ≡ false = sym (c .before .not-lower .ensures) ∙ c .if4 .left in
-    (s .pre .0, e6)
+    (s .pre .0, (s .pre .1 .0, (s .pre .1 .1 .1 .0, (e6, s .pre .1 .1 .1 .1 .1))))
 
 refuse-requires-5 : tie.Need-refuse-requires-5
 refuse-requires-5 c κs = search needs
@@ -78,8 +91,8 @@ returns-5 : tie.Need-returns-5
 unfolding first node-grounds answer or-else-check
 returns-5 c =
     let s = c .before .before .before .before .before .before .before .before .before .before .before .before in
-    let e4 : unknown-kind (s .args .nodes .now) (s .args .i) ≡ false = sym (c .before .before .before .before .before .before .before .before .before .before .unknown-kind .ensures) ∙ c .before .before .before .before .before .before .before .before .before .if1 .left in
-    let e22 : no-such-set (s .args .nodes .now) (s .args .i) (s .args .many) ≡ false = sym (c .before .before .before .before .before .before .before .before .no-such-set .ensures) ∙ c .before .before .before .before .before .before .before .if2 .left in
+    let e4 : unknown-kind (s .args .nodes .now) (s .args .i) ≡ false = sym (unknown-is (s .args .nodes .now) (s .args .i) (s .args .asked) (s .pre .1 .1 .1 .0)) ∙ c .before .before .before .before .before .before .before .before .before .if1 .left in
+    let e22 : no-such-set (s .args .nodes .now) (s .args .i) (s .args .many) ≡ false = sym (set-is (s .args .nodes .now) (s .args .i) (s .args .many) (s .args .decoded) (s .pre .1 .1 .0) (c .before .before .before .before .before .before .before .before .no-such-set .ensures)) ∙ c .before .before .before .before .before .before .before .if2 .left in
     let e5 : wrong-field (s .args .nodes .now) (s .args .i) ≡ false = sym (c .before .before .before .before .before .before .wrong-field .ensures) ∙ c .before .before .before .before .before .if3 .left in
     let e6 : not-lower (s .args .nodes .now) (s .args .i) ≡ false = sym (c .before .before .before .before .not-lower .ensures) ∙ c .before .before .before .if4 .left in
     let e7 : wrong-sort (s .args .nodes .now) (s .args .i) ≡ true = sym (c .before .before .wrong-sort .ensures) ∙ c .before .if5 .taken in
@@ -89,7 +102,7 @@ child-taken-requires : tie.Need-child-taken-requires
 child-taken-requires c κs =
     let s = c .before .before .before .before .before .before .before .before .before .before .before in
     let e6 : not-lower (s .args .nodes .now) (s .args .i) ≡ false = sym (c .before .before .before .not-lower .ensures) ∙ c .before .before .if4 .left in
-    (s .pre .0, (s .pre .1 .0, (e6, s .pre .1 .1)))
+    (s .pre .0, (s .pre .1 .0, (s .pre .1 .1 .1 .0, (e6, s .pre .1 .1 .1 .1 .0))))
 
 refuse-requires-6 : tie.Need-refuse-requires-6
 refuse-requires-6 c κs = search needs
@@ -98,8 +111,8 @@ returns-6 : tie.Need-returns-6
 unfolding first node-grounds answer or-else-check
 returns-6 c =
     let s = c .before .before .before .before .before .before .before .before .before .before .before .before .before .before in
-    let e4 : unknown-kind (s .args .nodes .now) (s .args .i) ≡ false = sym (c .before .before .before .before .before .before .before .before .before .before .before .before .unknown-kind .ensures) ∙ c .before .before .before .before .before .before .before .before .before .before .before .if1 .left in
-    let e22 : no-such-set (s .args .nodes .now) (s .args .i) (s .args .many) ≡ false = sym (c .before .before .before .before .before .before .before .before .before .before .no-such-set .ensures) ∙ c .before .before .before .before .before .before .before .before .before .if2 .left in
+    let e4 : unknown-kind (s .args .nodes .now) (s .args .i) ≡ false = sym (unknown-is (s .args .nodes .now) (s .args .i) (s .args .asked) (s .pre .1 .1 .1 .0)) ∙ c .before .before .before .before .before .before .before .before .before .before .before .if1 .left in
+    let e22 : no-such-set (s .args .nodes .now) (s .args .i) (s .args .many) ≡ false = sym (set-is (s .args .nodes .now) (s .args .i) (s .args .many) (s .args .decoded) (s .pre .1 .1 .0) (c .before .before .before .before .before .before .before .before .before .before .no-such-set .ensures)) ∙ c .before .before .before .before .before .before .before .before .before .if2 .left in
     let e5 : wrong-field (s .args .nodes .now) (s .args .i) ≡ false = sym (c .before .before .before .before .before .before .before .before .wrong-field .ensures) ∙ c .before .before .before .before .before .before .before .if3 .left in
     let e6 : not-lower (s .args .nodes .now) (s .args .i) ≡ false = sym (c .before .before .before .before .before .before .not-lower .ensures) ∙ c .before .before .before .before .before .if4 .left in
     let e7 : wrong-sort (s .args .nodes .now) (s .args .i) ≡ false = sym (c .before .before .before .before .wrong-sort .ensures) ∙ c .before .before .before .if5 .left in
@@ -110,8 +123,8 @@ returns-7 : tie.Need-returns-7
 unfolding first node-grounds answer or-else-check
 returns-7 c =
     let s = c .before .before .before .before .before .before .before .before .before .before .before .before .before in
-    let e4 : unknown-kind (s .args .nodes .now) (s .args .i) ≡ false = sym (c .before .before .before .before .before .before .before .before .before .before .before .unknown-kind .ensures) ∙ c .before .before .before .before .before .before .before .before .before .before .if1 .left in
-    let e22 : no-such-set (s .args .nodes .now) (s .args .i) (s .args .many) ≡ false = sym (c .before .before .before .before .before .before .before .before .before .no-such-set .ensures) ∙ c .before .before .before .before .before .before .before .before .if2 .left in
+    let e4 : unknown-kind (s .args .nodes .now) (s .args .i) ≡ false = sym (unknown-is (s .args .nodes .now) (s .args .i) (s .args .asked) (s .pre .1 .1 .1 .0)) ∙ c .before .before .before .before .before .before .before .before .before .before .if1 .left in
+    let e22 : no-such-set (s .args .nodes .now) (s .args .i) (s .args .many) ≡ false = sym (set-is (s .args .nodes .now) (s .args .i) (s .args .many) (s .args .decoded) (s .pre .1 .1 .0) (c .before .before .before .before .before .before .before .before .before .no-such-set .ensures)) ∙ c .before .before .before .before .before .before .before .before .if2 .left in
     let e5 : wrong-field (s .args .nodes .now) (s .args .i) ≡ false = sym (c .before .before .before .before .before .before .before .wrong-field .ensures) ∙ c .before .before .before .before .before .before .if3 .left in
     let e6 : not-lower (s .args .nodes .now) (s .args .i) ≡ false = sym (c .before .before .before .before .before .not-lower .ensures) ∙ c .before .before .before .before .if4 .left in
     let e7 : wrong-sort (s .args .nodes .now) (s .args .i) ≡ false = sym (c .before .before .before .wrong-sort .ensures) ∙ c .before .before .if5 .left in
@@ -122,7 +135,6 @@ pub check-node-spec : {M : Type 1} → statement M
 check-node-spec =
     tie.close
     (tie.spec
-    unknown-kind-requires
     refuse-requires
     returns
     no-such-set-requires

@@ -5,9 +5,6 @@ use Rattle.flow.specs.Children.{lower-one, lower-two, taken-by-marks}
 use Rattle.flow.proofs.child_taken.Statement.{statement}
 use Rattle.flow.proofs.child_taken.Tie as tie
 
-form-at-requires : tie.Need-form-at-requires
-form-at-requires c κs = search needs
-
 first-at-requires : tie.Need-first-at-requires
 first-at-requires c κs = search needs
 
@@ -22,27 +19,26 @@ cast-second c = search needs
 
 marked-requires : tie.Need-marked-requires
 marked-requires c κs = λ t.
-    let s = c .before .before .before .before .before .before in
-    let low = lower-one (s .args .nodes .now) (s .args .i) (s .pre .1 .1 .0) (rw (c .before .before .before .before .form-at .ensures) at t) in
-    omega (arith, c .before .before .before .first-at .ensures)
+    let s = c .before .before .before .before .before in
+    let low = lower-one (s .args .nodes .now) (s .args .i) (s .pre .1 .1 .1 .0) (rw (s .pre .1 .1 .0) at t) in
+    omega (arith, c .before .before .before .first-at .ensures, s .pre .1 .0)
 
 marked-requires-2 : tie.Need-marked-requires-2
 marked-requires-2 c κs = λ t.
-    let s = c .before .before .before .before .before .before .before in
-    let low = lower-two (s .args .nodes .now) (s .args .i) (s .pre .1 .1 .0) (rw (c .before .before .before .before .before .form-at .ensures) at t) in
-    omega (arith, c .before .before .before .second-at .ensures)
+    let s = c .before .before .before .before .before .before in
+    let low = lower-two (s .args .nodes .now) (s .args .i) (s .pre .1 .1 .1 .0) (rw (s .pre .1 .1 .0) at t) in
+    omega (arith, c .before .before .before .second-at .ensures, s .pre .1 .0)
 
 returns : tie.Need-returns
 returns c =
-    let s = c .before .before .before .before .before .before .before .before in
-    rw (c .marked2 .ensures, c .before .marked .ensures, c .before .before .before .before .before .before .form-at .ensures, c .before .before .before .before .before .first-at .ensures, c .before .before .before .before .second-at .ensures)
-    (taken-by-marks (s .args .nodes .now) (s .args .i) (s .args .marks .now) (s .pre .1 .1 .1) (s .pre .1 .0) (s .pre .1 .1 .0))
+    let s = c .before .before .before .before .before .before .before in
+    rw (c .marked2 .ensures, c .before .marked .ensures, s .pre .1 .1 .0, c .before .before .before .before .before .first-at .ensures, c .before .before .before .before .second-at .ensures)
+    (taken-by-marks (s .args .nodes .now) (s .args .i) (s .args .marks .now) (s .pre .1 .1 .1 .1) (s .pre .1 .0) (s .pre .1 .1 .1 .0))
 
 pub child-taken-spec : {M : Type 1} → statement M
 child-taken-spec =
     tie.close
     (tie.spec
-    form-at-requires
     first-at-requires
     cast-first
     second-at-requires

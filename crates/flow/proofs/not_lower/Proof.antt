@@ -4,9 +4,6 @@ use Rattle.flow.specs.Refusals.{not-lower}
 use Rattle.flow.proofs.not_lower.Statement.{statement}
 use Rattle.flow.proofs.not_lower.Tie as tie
 
-form-at-requires : tie.Need-form-at-requires
-form-at-requires c κs = search needs
-
 first-at-requires : tie.Need-first-at-requires
 first-at-requires c κs = search needs
 
@@ -21,9 +18,8 @@ cast-second c = search needs
 
 returns : tie.Need-returns
 unfolding not-lower
-returns c = rw (c .before .before .before .before .form-at .ensures, c .before .before .before .first-at .ensures, c .before .before .second-at .ensures)
+returns c = rw (c .before .before .before .before .before .pre .1, c .before .before .before .first-at .ensures, c .before .before .second-at .ensures)
 
 pub not-lower-spec : {M : Type 1} → statement M
 not-lower-spec =
-    tie.close
-    (tie.spec form-at-requires first-at-requires cast-first second-at-requires cast-second returns)
+    tie.close (tie.spec first-at-requires cast-first second-at-requires cast-second returns)

@@ -1,13 +1,9 @@
--- `flow::wrong_sort` meets its contract: the children are lower, so that they are nodes of the table. Assumes nothing.
+-- `flow::wrong_sort` meets its contract: the children are lower, so that the sorts speak of them. Assumes nothing.
 use native.Mathlib.Omega.{arith}
 use borrow.Author.Needs.{needs}
-use Rattle.flow.specs.Children.{lower-one, lower-two}
-use Rattle.flow.specs.Refusals.{wrong-sort}
+use Rattle.flow.specs.Children.{lower-one, lower-two, sort-by-sorts}
 use Rattle.flow.proofs.wrong_sort.Statement.{statement}
 use Rattle.flow.proofs.wrong_sort.Tie as tie
-
-form-at-requires : tie.Need-form-at-requires
-form-at-requires c κs = search needs
 
 first-at-requires : tie.Need-first-at-requires
 first-at-requires c κs = search needs
@@ -23,25 +19,26 @@ cast-second c = search needs
 
 sort-differs-requires : tie.Need-sort-differs-requires
 sort-differs-requires c κs = λ t.
-    let s = c .before .before .before .before .before in
-    let low = lower-one (s .args .nodes .now) (s .args .i) (s .pre .1) (rw (c .before .before .before .form-at .ensures) at t) in
-    omega (arith, c .before .before .first-at .ensures)
+    let s = c .before .before .before .before in
+    let low = lower-one (s .args .nodes .now) (s .args .i) (s .pre .1 .1 .1 .0) (rw (s .pre .1 .1 .0) at t) in
+    omega (arith, c .before .before .first-at .ensures, s .pre .1 .0)
 
 sort-differs-requires-2 : tie.Need-sort-differs-requires-2
 sort-differs-requires-2 c κs = λ t.
-    let s = c .before .before .before .before .before .before .before in
-    let low = lower-two (s .args .nodes .now) (s .args .i) (s .pre .1) (rw (c .before .before .before .before .before .form-at .ensures) at t) in
-    omega (arith, c .before .before .before .second-at .ensures)
+    let s = c .before .before .before .before .before .before in
+    let low = lower-two (s .args .nodes .now) (s .args .i) (s .pre .1 .1 .1 .0) (rw (s .pre .1 .1 .0) at t) in
+    omega (arith, c .before .before .before .second-at .ensures, s .pre .1 .0)
 
 returns : tie.Need-returns
-unfolding wrong-sort
-returns c = rw (c .sort-differs2 .ensures, c .before .before .sort-differs .ensures, c .before .before .before .before .before .before .form-at .ensures, c .before .before .before .before .before .first-at .ensures, c .before .before .before .before .second-at .ensures)
+returns c =
+    let s = c .before .before .before .before .before .before .before in
+    rw (c .sort-differs2 .ensures, c .before .before .sort-differs .ensures, s .pre .1 .1 .0, c .before .before .before .before .before .first-at .ensures, c .before .before .before .before .second-at .ensures)
+    (sort-by-sorts (s .args .nodes .now) (s .args .i) (s .args .sorts .now) (s .pre .1 .1 .1 .1) (s .pre .1 .1 .1 .0))
 
 pub wrong-sort-spec : {M : Type 1} → statement M
 wrong-sort-spec =
     tie.close
     (tie.spec
-    form-at-requires
     first-at-requires
     cast-first
     second-at-requires
