@@ -11,6 +11,10 @@ pub is-false : (b : Bool) → T (not b) → b ≡ false
 is-false true t = absurd t
 is-false false t = refl
 
+pub not-not : (b : Bool) → not (not b) ≡ b
+not-not true = refl
+not-not false = refl
+
 pub not-both : {b : Bool} → b ≡ false → T b → ⊥
 not-both e t = subst T e t
 

@@ -7,11 +7,12 @@ ghost use mathlib.Core.Bool.{true, false, cond, xor, _&&_};
 ghost use Prim.Native.Nat.{_+_, _*_, _-_, _<_, _≤_};
 ghost use lib.Dec.{T, ltb, leb};
 ghost use lib.ListN.{length, getD, set};
+ghost use Rattle.flow.specs.declared.Check.the-variants.{Fine};
 ghost use Rattle.flow.specs.declared.Extent.the-variants.{Whole, Beginning};
 ghost use Rattle.flow.specs.Kinds.{node-of, node, one-of, two-of, form, most-sets, operator-set, set-number};
-ghost use Rattle.flow.specs.Forms.{leaf-form, branch-form, Marks, Sorts};
+ghost use Rattle.flow.specs.Forms.{leaf-form, branch-form, fields, field-fault, low-fault, sort-fault, taken-fault, with-child, with-children, Within, Marks, Sorts};
 ghost use Rattle.flow.specs.Records.{is-event-number, is-closing-number};
-ghost use Rattle.flow.specs.Refusals.{wrong-field, not-lower, wrong-sort, child-taken, no-record, closings-wanted, node-grounds, child-grounds, count};
+ghost use Rattle.flow.specs.Refusals.{no-record, closings-wanted, node-grounds, child-grounds, count};
 ghost use Rattle.flow.specs.Checks.{refused, first, each, table-length-check, sets-check, table-check, nodes-check, values-check, closings-check, records-length-check, records-check};
 
 // A refusal of document 01: its number, and the node or record that it names.
@@ -73,6 +74,14 @@ pub struct Form {
     pub event: bool,
     pub kids: u8,
     pub inner: bool,
+}
+
+// The two fields of a node, and whether they name one child, the first, or two.
+struct Fields {
+    first: u16,
+    second: u16,
+    one: bool,
+    two: bool,
 }
 
 pub const DONE: u16 = 61441;
@@ -156,7 +165,8 @@ fn standard_of(kind: u16, first: u16, second: u16) -> Node
         6 => Node::Standard(Operator::Choice, two),
         7 => Node::Standard(Operator::Parallel(NO_SET), two),
         8 => Node::Handler(two),
-        _ => Node::Block(first as usize),
+        9 => Node::Block(first as usize),
+        _ => Node::Unknown,
     }
 }
 
@@ -176,7 +186,8 @@ fn compensable_of(kind: u16, first: u16, second: u16) -> Node
         13 => Node::Compensable(Operator::Parallel(NO_SET), two),
         14 => Node::Paired(Simple::Skip),
         15 => Node::Paired(Simple::Throw),
-        _ => Node::Paired(Simple::Yield),
+        16 => Node::Paired(Simple::Yield),
+        _ => Node::Unknown,
     }
 }
 
@@ -309,36 +320,41 @@ fn refuse(number: u16, place: usize) -> Check
     })
 }
 
-// 22 of a node, where so many sets are present.
-fn no_such_set(node: Node, many: usize) -> bool
-    ensures { λ r. ⌜ r ≡ ltb (set-number node) most-sets && leb many (set-number node) ⌝ }
-{
-    let set = set_number(node) as usize;
-    (set < MOST_SETS) & (many <= set)
-}
-
-// 5 of node i, of which this is asked.
-fn wrong_field(nodes: &[u16], i: usize, asked: Form) -> bool
+// The fields of node i, of which this is asked.
+fn fields_at(nodes: &[u16], i: usize, asked: Form) -> Fields
     requires { ⌜ 3 * i + 2 < length (now nodes) ⌝ }
     requires { ⌜ asked ≡ form (node (now nodes) i) ⌝ }
-    ensures { λ r. ⌜ r ≡ wrong-field (now (nodes .entry)) i ⌝ }
+    ensures { λ r. ⌜ r ≡ fields (now (nodes .entry)) i ⌝ }
 {
-    let first = first_at(nodes, i);
-    let second = second_at(nodes, i);
-    let no_event = asked.event & !is_event(first);
-    let no_child = !asked.event & ((asked.kids == 0) & (first != 0));
-    no_event | (no_child | ((asked.kids != 2) & (second != 0)))
+    Fields {
+        first: first_at(nodes, i),
+        second: second_at(nodes, i),
+        one: asked.kids != 0,
+        two: asked.kids == 2,
+    }
 }
 
-// 6 of node i, of which this is asked.
-fn not_lower(nodes: &[u16], i: usize, asked: Form) -> bool
-    requires { ⌜ 3 * i + 2 < length (now nodes) ⌝ }
-    requires { ⌜ asked ≡ form (node (now nodes) i) ⌝ }
-    ensures { λ r. ⌜ r ≡ not-lower (now (nodes .entry)) i ⌝ }
+// 22 of a node with this set, where so many are present.
+fn no_such_set(set: u16, many: usize) -> bool
+    ensures { λ r. ⌜ r ≡ ltb set most-sets && leb many set ⌝ }
 {
-    let first = first_at(nodes, i) as usize;
-    let second = second_at(nodes, i) as usize;
-    ((asked.kids != 0) & (first >= i)) | ((asked.kids == 2) & (second >= i))
+    (set < NO_SET) & (many <= set as usize)
+}
+
+// 5 of a node, of an event or not, with these fields.
+fn wrong_field(event: bool, f: Fields) -> bool
+    ensures { λ r. ⌜ r ≡ field-fault event f ⌝ }
+{
+    let no_event = event & !is_event(f.first);
+    let no_child = !event & (!f.one & (f.first != 0));
+    no_event | (no_child | (!f.two & (f.second != 0)))
+}
+
+// 6 of node i with these fields.
+fn not_lower(i: usize, f: Fields) -> bool
+    ensures { λ r. ⌜ r ≡ low-fault i f ⌝ }
+{
+    (f.one & (f.first as usize >= i)) | (f.two & (f.second as usize >= i))
 }
 
 // Whether a child, if there is one, is marked. A field that names none is looked up somewhere within: the marks are read without a jump.
@@ -357,97 +373,81 @@ fn sort_differs(sorts: &[bool; 64], child: usize, used: bool, standard: bool) ->
     used & (sorts[child % MOST_NODES] != standard)
 }
 
-// 7 of node i, of which this is asked and whose children are lower; the sorts are those of the nodes below it.
-fn wrong_sort(nodes: &[u16], i: usize, asked: Form, sorts: &[bool; 64]) -> bool
-    requires { ⌜ 3 * i + 2 < length (now nodes) ⌝ }
-    requires { ⌜ i < 64 ⌝ }
-    requires { ⌜ asked ≡ form (node (now nodes) i) ⌝ }
-    requires { ⌜ not-lower (now nodes) i ≡ false ⌝ }
-    requires { ⌜ Sorts (now nodes) i (now sorts) ⌝ }
-    ensures { λ r. ⌜ r ≡ wrong-sort (now (nodes .entry)) i ⌝ }
+// 7 of a node with these fields; the sorts are those of the nodes below it.
+fn wrong_sort(sorts: &[bool; 64], f: Fields, inner: bool) -> bool
+    requires { ⌜ Within f ⌝ }
+    ensures { λ r. ⌜ r ≡ sort-fault (now (sorts .entry)) f inner ⌝ }
 {
-    let first = first_at(nodes, i) as usize;
-    let second = second_at(nodes, i) as usize;
-    sort_differs(sorts, first, asked.kids != 0, asked.inner)
-        | sort_differs(sorts, second, asked.kids == 2, asked.inner)
+    sort_differs(sorts, f.first as usize, f.one, inner)
+        | sort_differs(sorts, f.second as usize, f.two, inner)
 }
 
-// 8 of node i, of which this is asked and whose children are lower; the marks are those of the nodes below it.
-fn child_taken(nodes: &[u16], i: usize, asked: Form, marks: &[bool; 64]) -> bool
-    requires { ⌜ 3 * i + 2 < length (now nodes) ⌝ }
-    requires { ⌜ i < 64 ⌝ }
-    requires { ⌜ asked ≡ form (node (now nodes) i) ⌝ }
-    requires { ⌜ not-lower (now nodes) i ≡ false ⌝ }
-    requires { ⌜ Marks (now nodes) i (now marks) ⌝ }
-    ensures { λ r. ⌜ r ≡ child-taken (now (nodes .entry)) i ⌝ }
+// 8 of a node with these fields; the marks are those of the nodes below it.
+fn child_taken(marks: &[bool; 64], f: Fields) -> bool
+    requires { ⌜ Within f ⌝ }
+    ensures { λ r. ⌜ r ≡ taken-fault (now (marks .entry)) f ⌝ }
 {
-    let first = first_at(nodes, i) as usize;
-    let second = second_at(nodes, i) as usize;
-    let two = asked.kids == 2;
-    marked(marks, first, asked.kids != 0) | (marked(marks, second, two) | (two & (first == second)))
-}
-
-// 4 to 8 of node i, with 22; the node is decoded here, and what is asked of it, before.
-fn check_node(
-    nodes: &[u16],
-    i: usize,
-    many: usize,
-    decoded: Node,
-    asked: Form,
-    marks: &[bool; 64],
-    sorts: &[bool; 64],
-) -> Check
-    requires { ⌜ 3 * i + 2 < length (now nodes) ⌝ }
-    requires { ⌜ i < 64 ⌝ }
-    requires { ⌜ decoded ≡ node (now nodes) i ⌝ }
-    requires { ⌜ asked ≡ form (node (now nodes) i) ⌝ }
-    requires { ⌜ Marks (now nodes) i (now marks) ⌝ }
-    requires { ⌜ Sorts (now nodes) i (now sorts) ⌝ }
-    ensures { λ r. ⌜ r ≡ first (node-grounds many (now (nodes .entry)) i) ⌝ }
-{
-    if !asked.known {
-        return refuse(4, i);
-    }
-    if no_such_set(decoded, many) {
-        return refuse(22, i);
-    }
-    if wrong_field(nodes, i, asked) {
-        return refuse(5, i);
-    }
-    if not_lower(nodes, i, asked) {
-        return refuse(6, i);
-    }
-    if wrong_sort(nodes, i, asked, sorts) {
-        return refuse(7, i);
-    }
-    if child_taken(nodes, i, asked, marks) {
-        return refuse(8, i);
-    }
-    Check::Fine
+    let first = marked(marks, f.first as usize, f.one);
+    let second = marked(marks, f.second as usize, f.two);
+    first | (second | (f.two & (f.first == f.second)))
 }
 
 // Marks a child, if there is one.
 fn mark(marks: &mut [bool; 64], child: usize, used: bool)
     requires { ⌜ (T used → child < 64) ⌝ }
-    ensures { λ r. ⌜ now (marks .exit) ≡ cond used (set (now (marks .entry)) child true) (now (marks .entry)) ⌝ }
+    ensures { λ r. ⌜ now (marks .exit) ≡ with-child (now (marks .entry)) child used ⌝ }
 {
     let at = child % MOST_NODES;
     marks[at] = used | marks[at];
 }
 
-// Marks the children of node i, of which this is asked; they are lower.
-fn mark_children(nodes: &[u16], i: usize, asked: Form, marks: &mut [bool; 64])
+// Marks the children that these fields name.
+fn mark_children(marks: &mut [bool; 64], f: Fields)
+    requires { ⌜ Within f ⌝ }
+    ensures { λ r. ⌜ now (marks .exit) ≡ with-children (now (marks .entry)) f ⌝ }
+{
+    mark(marks, f.first as usize, f.one);
+    mark(marks, f.second as usize, f.two);
+}
+
+// 4 to 8 of node i, with 22. Marks and sorts are those of the nodes below it; if it is fine, it is added.
+fn check_node(
+    nodes: &[u16],
+    i: usize,
+    many: usize,
+    marks: &mut [bool; 64],
+    sorts: &mut [bool; 64],
+) -> Check
     requires { ⌜ 3 * i + 2 < length (now nodes) ⌝ }
     requires { ⌜ i < 64 ⌝ }
-    requires { ⌜ asked ≡ form (node (now nodes) i) ⌝ }
-    requires { ⌜ not-lower (now nodes) i ≡ false ⌝ }
-    requires { ⌜ Marks (now nodes) i (now marks) ⌝ }
-    ensures { λ r. ⌜ Marks (now (nodes .entry)) (i + 1) (now (marks .exit)) ⌝ }
+    requires { ⌜ Marks (now nodes) i (now marks) × Sorts (now nodes) i (now sorts) ⌝ }
+    ensures { λ r. ⌜ r ≡ first (node-grounds many (now (nodes .entry)) i) ⌝ }
+    ensures { λ r. ⌜ (r ≡ Fine → Marks (now (nodes .entry)) (i + 1) (now (marks .exit)) × Sorts (now (nodes .entry)) (i + 1) (now (sorts .exit))) ⌝ }
 {
-    let first = first_at(nodes, i) as usize;
-    let second = second_at(nodes, i) as usize;
-    mark(marks, first, asked.kids != 0);
-    mark(marks, second, asked.kids == 2);
+    let decoded = node_at(nodes, i);
+    let asked = form_of(decoded);
+    if !asked.known {
+        return refuse(4, i);
+    }
+    if no_such_set(set_number(decoded), many) {
+        return refuse(22, i);
+    }
+    let f = fields_at(nodes, i, asked);
+    if wrong_field(asked.event, f) {
+        return refuse(5, i);
+    }
+    if not_lower(i, f) {
+        return refuse(6, i);
+    }
+    if wrong_sort(sorts, f, asked.inner) {
+        return refuse(7, i);
+    }
+    if child_taken(marks, f) {
+        return refuse(8, i);
+    }
+    mark_children(marks, f);
+    sorts[i] = asked.standard;
+    Check::Fine
 }
 
 // 9: the lowest node that is nobody's child, the last one aside. The marks are those of all nodes.
@@ -477,14 +477,10 @@ pub fn check_nodes(nodes: &[u16], many: usize) -> Check
     let mut sorts = [false; 64];
     let mut i = 0;
     while i < n {
-        let decoded = node_at(nodes, i);
-        let asked = form_of(decoded);
-        let found = check_node(nodes, i, many, decoded, asked, &marks, &sorts);
+        let found = check_node(nodes, i, many, &mut marks, &mut sorts);
         if let Check::Refused(refusal) = found {
             return Check::Refused(refusal);
         }
-        mark_children(nodes, i, asked, &mut marks);
-        sorts[i] = asked.standard;
         i += 1;
     }
     check_children(nodes, &marks)
