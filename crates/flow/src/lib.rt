@@ -147,7 +147,8 @@ fn branch(standard: bool, kids: u8, inner: bool) -> Form
     }
 }
 
-// The standard kinds without a set, by a node's three numbers. Single numbers are compiled to a jump, where ranges are a chain of tests.
+// The table of the standard kinds without a set, by a node's three numbers; no other number comes here. Single numbers are compiled to a
+// jump, where ranges are a chain of tests.
 fn standard_of(kind: u16, first: u16, second: u16) -> Node
     requires { ⌜ (1 ≤ kind) × (kind ≤ 9) ⌝ }
     ensures { λ r. ⌜ r ≡ node-of kind first second ⌝ }
@@ -170,7 +171,7 @@ fn standard_of(kind: u16, first: u16, second: u16) -> Node
     }
 }
 
-// The compensable ones.
+// The table of the compensable ones.
 fn compensable_of(kind: u16, first: u16, second: u16) -> Node
     requires { ⌜ (10 ≤ kind) × (kind ≤ 16) ⌝ }
     ensures { λ r. ⌜ r ≡ node-of kind first second ⌝ }
