@@ -11,7 +11,6 @@ pub mod Trees
 pub mod Drawn
 pub mod Cues
 pub mod Checks
-pub mod PlainKinds
 pub mod Forms
 pub mod Fine
 -- Theorems.

@@ -11,6 +11,10 @@ pub is-false : (b : Bool) → T (not b) → b ≡ false
 is-false true t = absurd t
 is-false false t = refl
 
+pub not-not : (b : Bool) → not (not b) ≡ b
+not-not true = refl
+not-not false = refl
+
 pub not-both : {b : Bool} → b ≡ false → T b → ⊥
 not-both e t = subst T e t
 
@@ -29,6 +33,11 @@ neither-two false b e = e
 pub then-false : (a b : Bool) → (a && b) ≡ false → T a → b ≡ false
 then-false true b e t = e
 then-false false b e t = absurd t
+
+-- only where the first holds does the second matter
+pub then-same : (a b c : Bool) → (T a → b ≡ c) → (a && b) ≡ (a && c)
+then-same true b c e = e tt
+then-same false b c e = refl
 
 pub same-of-xor : (a b : Bool) → xor a b ≡ false → a ≡ b
 unfolding xor

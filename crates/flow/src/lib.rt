@@ -5,14 +5,14 @@
 ghost use mathlib.Core.Path.{_≡_};
 ghost use mathlib.Core.Bool.{true, false, cond, xor, _&&_};
 ghost use Prim.Native.Nat.{_+_, _*_, _-_, _<_, _≤_};
-ghost use lib.Dec.{T};
+ghost use lib.Dec.{T, ltb, leb};
 ghost use lib.ListN.{length, getD, set};
+ghost use Rattle.flow.specs.declared.Check.the-variants.{Fine};
 ghost use Rattle.flow.specs.declared.Extent.the-variants.{Whole, Beginning};
-ghost use Rattle.flow.specs.PlainKinds.{plain-kind, kind-set};
-ghost use Rattle.flow.specs.Kinds.{node-of, node, one-of, two-of, form, is-standard, operator-set, set-number};
-ghost use Rattle.flow.specs.Forms.{leaf-form, branch-form, Marks};
+ghost use Rattle.flow.specs.Kinds.{node-of, node, one-of, two-of, form, most-sets, operator-set, set-number};
+ghost use Rattle.flow.specs.Forms.{leaf-form, branch-form, fields, field-fault, low-fault, sort-fault, taken-fault, with-child, with-children, Within, Marks, Sorts};
 ghost use Rattle.flow.specs.Records.{is-event-number, is-closing-number};
-ghost use Rattle.flow.specs.Refusals.{unknown-kind, no-such-set, wrong-field, not-lower, wrong-sort, child-taken, no-record, closings-wanted, node-grounds, child-grounds, count};
+ghost use Rattle.flow.specs.Refusals.{no-record, closings-wanted, node-grounds, child-grounds, count};
 ghost use Rattle.flow.specs.Checks.{refused, first, each, table-length-check, sets-check, table-check, nodes-check, values-check, closings-check, records-length-check, records-check};
 
 // A refusal of document 01: its number, and the node or record that it names.
@@ -52,8 +52,8 @@ pub struct Two {
     pub second: usize,
 }
 
-// What a node is, in the calculus's words, with its event or its children: the one place that goes by the number of a kind is
-// `node_of`.
+// What a node is, in the calculus's words, with its event or its children. Only `node_of` goes by the number of a kind, with the table of
+// each sort, `standard_of` and `compensable_of`.
 pub enum Node {
     Event(u16),
     Basic(Simple),
@@ -74,6 +74,14 @@ pub struct Form {
     pub event: bool,
     pub kids: u8,
     pub inner: bool,
+}
+
+// The two fields of a node, and whether they name one child, the first, or two.
+struct Fields {
+    first: u16,
+    second: u16,
+    one: bool,
+    two: bool,
 }
 
 pub const DONE: u16 = 61441;
@@ -139,32 +147,52 @@ fn branch(standard: bool, kids: u8, inner: bool) -> Form
     }
 }
 
-// A kind without its set: the kinds with one are two ranges, of the parallels 7 and 13.
-fn plain_kind(kind: u16) -> u16
-    ensures { λ r. ⌜ r ≡ plain-kind kind ⌝ }
+// The table of the standard kinds without a set, by a node's three numbers; no other number comes here. Single numbers are compiled to a
+// jump, where ranges are a chain of tests.
+fn standard_of(kind: u16, first: u16, second: u16) -> Node
+    requires { ⌜ (1 ≤ kind) × (kind ≤ 9) ⌝ }
+    ensures { λ r. ⌜ r ≡ node-of kind first second ⌝ }
 {
-    if kind < 256 {
-        return kind;
-    }
+    let two = Two {
+        first: first as usize,
+        second: second as usize,
+    };
     match kind {
-        256..=271 => 7,
-        512..=527 => 13,
-        _ => 0,
+        1 => Node::Event(first),
+        2 => Node::Basic(Simple::Skip),
+        3 => Node::Basic(Simple::Throw),
+        4 => Node::Basic(Simple::Yield),
+        5 => Node::Standard(Operator::Sequence, two),
+        6 => Node::Standard(Operator::Choice, two),
+        7 => Node::Standard(Operator::Parallel(NO_SET), two),
+        8 => Node::Handler(two),
+        9 => Node::Block(first as usize),
+        _ => Node::Unknown,
     }
 }
 
-// The number of the set that a parallel's kind has, if it has one.
-fn kind_set(kind: u16) -> u16
-    ensures { λ r. ⌜ r ≡ kind-set kind ⌝ }
+// The table of the compensable ones.
+fn compensable_of(kind: u16, first: u16, second: u16) -> Node
+    requires { ⌜ (10 ≤ kind) × (kind ≤ 16) ⌝ }
+    ensures { λ r. ⌜ r ≡ node-of kind first second ⌝ }
 {
-    if kind < 256 {
-        return NO_SET;
+    let two = Two {
+        first: first as usize,
+        second: second as usize,
+    };
+    match kind {
+        10 => Node::Pair(two),
+        11 => Node::Compensable(Operator::Sequence, two),
+        12 => Node::Compensable(Operator::Choice, two),
+        13 => Node::Compensable(Operator::Parallel(NO_SET), two),
+        14 => Node::Paired(Simple::Skip),
+        15 => Node::Paired(Simple::Throw),
+        16 => Node::Paired(Simple::Yield),
+        _ => Node::Unknown,
     }
-    kind % 256
 }
 
-// The kinds, by a node's three numbers. Each of the sixteen has an arm of its own: ranges are lowered to a chain of tests, and every visit
-// of a node comes through here. Those with a set are told apart before, by one test of all others.
+// The kinds, by a node's three numbers: a range for each sort, and one for the parallels of each that have a set.
 fn node_of(kind: u16, first: u16, second: u16) -> Node
     ensures { λ r. ⌜ r ≡ node-of kind first second ⌝ }
 {
@@ -172,23 +200,11 @@ fn node_of(kind: u16, first: u16, second: u16) -> Node
         first: first as usize,
         second: second as usize,
     };
-    match plain_kind(kind) {
-        1 => Node::Event(first),
-        2 => Node::Basic(Simple::Skip),
-        3 => Node::Basic(Simple::Throw),
-        4 => Node::Basic(Simple::Yield),
-        5 => Node::Standard(Operator::Sequence, two),
-        6 => Node::Standard(Operator::Choice, two),
-        7 => Node::Standard(Operator::Parallel(kind_set(kind)), two),
-        8 => Node::Handler(two),
-        9 => Node::Block(first as usize),
-        10 => Node::Pair(two),
-        11 => Node::Compensable(Operator::Sequence, two),
-        12 => Node::Compensable(Operator::Choice, two),
-        13 => Node::Compensable(Operator::Parallel(kind_set(kind)), two),
-        14 => Node::Paired(Simple::Skip),
-        15 => Node::Paired(Simple::Throw),
-        16 => Node::Paired(Simple::Yield),
+    match kind {
+        1..=9 => standard_of(kind, first, second),
+        10..=16 => compensable_of(kind, first, second),
+        256..=271 => Node::Standard(Operator::Parallel(kind - 256), two),
+        512..=527 => Node::Compensable(Operator::Parallel(kind - 512), two),
         _ => Node::Unknown,
     }
 }
@@ -305,147 +321,134 @@ fn refuse(number: u16, place: usize) -> Check
     })
 }
 
-// 4 of node i.
-fn unknown_kind(nodes: &[u16], i: usize) -> bool
+// The fields of node i, of which this is asked.
+fn fields_at(nodes: &[u16], i: usize, asked: Form) -> Fields
     requires { ⌜ 3 * i + 2 < length (now nodes) ⌝ }
-    ensures { λ r. ⌜ r ≡ unknown-kind (now (nodes .entry)) i ⌝ }
+    requires { ⌜ asked ≡ form (node (now nodes) i) ⌝ }
+    ensures { λ r. ⌜ r ≡ fields (now (nodes .entry)) i ⌝ }
 {
-    let form = form_at(nodes, i);
-    !form.known
-}
-
-// 22 of node i, where so many sets are present.
-fn no_such_set(nodes: &[u16], i: usize, many: usize) -> bool
-    requires { ⌜ 3 * i + 2 < length (now nodes) ⌝ }
-    ensures { λ r. ⌜ r ≡ no-such-set (now (nodes .entry)) i many ⌝ }
-{
-    let set = set_number(node_at(nodes, i)) as usize;
-    (set < MOST_SETS) & (many <= set)
-}
-
-// 5 of node i.
-fn wrong_field(nodes: &[u16], i: usize) -> bool
-    requires { ⌜ 3 * i + 2 < length (now nodes) ⌝ }
-    ensures { λ r. ⌜ r ≡ wrong-field (now (nodes .entry)) i ⌝ }
-{
-    let form = form_at(nodes, i);
-    let first = first_at(nodes, i);
-    let second = second_at(nodes, i);
-    let no_event = form.event & !is_event(first);
-    let no_child = !form.event & ((form.kids == 0) & (first != 0));
-    no_event | (no_child | ((form.kids != 2) & (second != 0)))
-}
-
-// 6 of node i.
-fn not_lower(nodes: &[u16], i: usize) -> bool
-    requires { ⌜ 3 * i + 2 < length (now nodes) ⌝ }
-    ensures { λ r. ⌜ r ≡ not-lower (now (nodes .entry)) i ⌝ }
-{
-    let form = form_at(nodes, i);
-    let first = first_at(nodes, i) as usize;
-    let second = second_at(nodes, i) as usize;
-    ((form.kids != 0) & (first >= i)) | ((form.kids == 2) & (second >= i))
-}
-
-// Whether a child, if there is one, is not of the sort asked for.
-fn sort_differs(nodes: &[u16], child: usize, used: bool, standard: bool) -> bool
-    requires { ⌜ (T used → 3 * child + 2 < length (now nodes)) ⌝ }
-    ensures { λ r. ⌜ r ≡ used && xor (is-standard (node (now (nodes .entry)) child)) standard ⌝ }
-{
-    if !used {
-        return false;
+    Fields {
+        first: first_at(nodes, i),
+        second: second_at(nodes, i),
+        one: asked.kids != 0,
+        two: asked.kids == 2,
     }
-    let form = form_at(nodes, child);
-    form.standard != standard
 }
 
-// 7 of node i, whose children are lower.
-fn wrong_sort(nodes: &[u16], i: usize) -> bool
-    requires { ⌜ 3 * i + 2 < length (now nodes) ⌝ }
-    requires { ⌜ not-lower (now nodes) i ≡ false ⌝ }
-    ensures { λ r. ⌜ r ≡ wrong-sort (now (nodes .entry)) i ⌝ }
+// 22 of a node with this set, where so many are present.
+fn no_such_set(set: u16, many: usize) -> bool
+    ensures { λ r. ⌜ r ≡ ltb set most-sets && leb many set ⌝ }
 {
-    let form = form_at(nodes, i);
-    let first = first_at(nodes, i) as usize;
-    let second = second_at(nodes, i) as usize;
-    sort_differs(nodes, first, form.kids != 0, form.inner)
-        | sort_differs(nodes, second, form.kids == 2, form.inner)
+    (set < NO_SET) & (many <= set as usize)
 }
 
-// Whether a child, if there is one, is marked.
+// 5 of a node, of an event or not, with these fields.
+fn wrong_field(event: bool, f: Fields) -> bool
+    ensures { λ r. ⌜ r ≡ field-fault event f ⌝ }
+{
+    let no_event = event & !is_event(f.first);
+    let no_child = !event & (!f.one & (f.first != 0));
+    no_event | (no_child | (!f.two & (f.second != 0)))
+}
+
+// 6 of node i with these fields.
+fn not_lower(i: usize, f: Fields) -> bool
+    ensures { λ r. ⌜ r ≡ low-fault i f ⌝ }
+{
+    (f.one & (f.first as usize >= i)) | (f.two & (f.second as usize >= i))
+}
+
+// Whether a child, if there is one, is marked. A field that names none is looked up somewhere within: the marks are read without a jump.
 fn marked(marks: &[bool; 64], child: usize, used: bool) -> bool
     requires { ⌜ (T used → child < 64) ⌝ }
     ensures { λ r. ⌜ r ≡ used && getD (now (marks .entry)) child false ⌝ }
 {
-    if used { marks[child] } else { false }
+    used & marks[child % MOST_NODES]
 }
 
-// 8 of node i, whose children are lower; the marks are those of the nodes below it.
-fn child_taken(nodes: &[u16], i: usize, marks: &[bool; 64]) -> bool
-    requires { ⌜ 3 * i + 2 < length (now nodes) ⌝ }
-    requires { ⌜ i < 64 ⌝ }
-    requires { ⌜ not-lower (now nodes) i ≡ false ⌝ }
-    requires { ⌜ Marks (now nodes) i (now marks) ⌝ }
-    ensures { λ r. ⌜ r ≡ child-taken (now (nodes .entry)) i ⌝ }
+// Whether a child, if there is one, is not of the sort asked for.
+fn sort_differs(sorts: &[bool; 64], child: usize, used: bool, standard: bool) -> bool
+    requires { ⌜ (T used → child < 64) ⌝ }
+    ensures { λ r. ⌜ r ≡ used && xor (getD (now (sorts .entry)) child false) standard ⌝ }
 {
-    let form = form_at(nodes, i);
-    let first = first_at(nodes, i) as usize;
-    let second = second_at(nodes, i) as usize;
-    let two = form.kids == 2;
-    marked(marks, first, form.kids != 0) | (marked(marks, second, two) | (two & (first == second)))
+    used & (sorts[child % MOST_NODES] != standard)
 }
 
-// 4 to 8 of node i, with 22.
-fn check_node(nodes: &[u16], i: usize, many: usize, marks: &[bool; 64]) -> Check
-    requires { ⌜ 3 * i + 2 < length (now nodes) ⌝ }
-    requires { ⌜ i < 64 ⌝ }
-    requires { ⌜ Marks (now nodes) i (now marks) ⌝ }
-    ensures { λ r. ⌜ r ≡ first (node-grounds many (now (nodes .entry)) i) ⌝ }
+// 7 of a node with these fields; the sorts are those of the nodes below it.
+fn wrong_sort(sorts: &[bool; 64], f: Fields, inner: bool) -> bool
+    requires { ⌜ Within f ⌝ }
+    ensures { λ r. ⌜ r ≡ sort-fault (now (sorts .entry)) f inner ⌝ }
 {
-    if unknown_kind(nodes, i) {
-        return refuse(4, i);
-    }
-    if no_such_set(nodes, i, many) {
-        return refuse(22, i);
-    }
-    if wrong_field(nodes, i) {
-        return refuse(5, i);
-    }
-    if not_lower(nodes, i) {
-        return refuse(6, i);
-    }
-    if wrong_sort(nodes, i) {
-        return refuse(7, i);
-    }
-    if child_taken(nodes, i, marks) {
-        return refuse(8, i);
-    }
-    Check::Fine
+    sort_differs(sorts, f.first as usize, f.one, inner)
+        | sort_differs(sorts, f.second as usize, f.two, inner)
+}
+
+// 8 of a node with these fields; the marks are those of the nodes below it.
+fn child_taken(marks: &[bool; 64], f: Fields) -> bool
+    requires { ⌜ Within f ⌝ }
+    ensures { λ r. ⌜ r ≡ taken-fault (now (marks .entry)) f ⌝ }
+{
+    let first = marked(marks, f.first as usize, f.one);
+    let second = marked(marks, f.second as usize, f.two);
+    first | (second | (f.two & (f.first == f.second)))
 }
 
 // Marks a child, if there is one.
 fn mark(marks: &mut [bool; 64], child: usize, used: bool)
     requires { ⌜ (T used → child < 64) ⌝ }
-    ensures { λ r. ⌜ now (marks .exit) ≡ cond used (set (now (marks .entry)) child true) (now (marks .entry)) ⌝ }
+    ensures { λ r. ⌜ now (marks .exit) ≡ with-child (now (marks .entry)) child used ⌝ }
 {
-    if used {
-        marks[child] = true;
-    }
+    let at = child % MOST_NODES;
+    marks[at] = used | marks[at];
 }
 
-// Marks the children of node i, which are lower.
-fn mark_children(nodes: &[u16], i: usize, marks: &mut [bool; 64])
+// Marks the children that these fields name.
+fn mark_children(marks: &mut [bool; 64], f: Fields)
+    requires { ⌜ Within f ⌝ }
+    ensures { λ r. ⌜ now (marks .exit) ≡ with-children (now (marks .entry)) f ⌝ }
+{
+    mark(marks, f.first as usize, f.one);
+    mark(marks, f.second as usize, f.two);
+}
+
+// 4 to 8 of node i, with 22. Marks and sorts are those of the nodes below it; if it is fine, it is added.
+fn check_node(
+    nodes: &[u16],
+    i: usize,
+    many: usize,
+    marks: &mut [bool; 64],
+    sorts: &mut [bool; 64],
+) -> Check
     requires { ⌜ 3 * i + 2 < length (now nodes) ⌝ }
     requires { ⌜ i < 64 ⌝ }
-    requires { ⌜ not-lower (now nodes) i ≡ false ⌝ }
-    requires { ⌜ Marks (now nodes) i (now marks) ⌝ }
-    ensures { λ r. ⌜ Marks (now (nodes .entry)) (i + 1) (now (marks .exit)) ⌝ }
+    requires { ⌜ Marks (now nodes) i (now marks) × Sorts (now nodes) i (now sorts) ⌝ }
+    ensures { λ r. ⌜ r ≡ first (node-grounds many (now (nodes .entry)) i) ⌝ }
+    ensures { λ r. ⌜ (r ≡ Fine → Marks (now (nodes .entry)) (i + 1) (now (marks .exit)) × Sorts (now (nodes .entry)) (i + 1) (now (sorts .exit))) ⌝ }
 {
-    let form = form_at(nodes, i);
-    let first = first_at(nodes, i) as usize;
-    let second = second_at(nodes, i) as usize;
-    mark(marks, first, form.kids != 0);
-    mark(marks, second, form.kids == 2);
+    let decoded = node_at(nodes, i);
+    let asked = form_of(decoded);
+    if !asked.known {
+        return refuse(4, i);
+    }
+    if no_such_set(set_number(decoded), many) {
+        return refuse(22, i);
+    }
+    let f = fields_at(nodes, i, asked);
+    if wrong_field(asked.event, f) {
+        return refuse(5, i);
+    }
+    if not_lower(i, f) {
+        return refuse(6, i);
+    }
+    if wrong_sort(sorts, f, asked.inner) {
+        return refuse(7, i);
+    }
+    if child_taken(marks, f) {
+        return refuse(8, i);
+    }
+    mark_children(marks, f);
+    sorts[i] = asked.standard;
+    Check::Fine
 }
 
 // 9: the lowest node that is nobody's child, the last one aside. The marks are those of all nodes.
@@ -472,13 +475,13 @@ pub fn check_nodes(nodes: &[u16], many: usize) -> Check
 {
     let n = nodes.len() / 3;
     let mut marks = [false; 64];
+    let mut sorts = [false; 64];
     let mut i = 0;
     while i < n {
-        let found = check_node(nodes, i, many, &marks);
+        let found = check_node(nodes, i, many, &mut marks, &mut sorts);
         if let Check::Refused(refusal) = found {
             return Check::Refused(refusal);
         }
-        mark_children(nodes, i, &mut marks);
         i += 1;
     }
     check_children(nodes, &marks)

@@ -1,52 +1,23 @@
--- `flow::child_taken` meets its contract: the children are lower, so that the marks speak of them. Assumes nothing.
-use native.Mathlib.Omega.{arith}
+-- `flow::child_taken` meets its contract: by both children. Assumes nothing.
 use borrow.Author.Needs.{needs}
-use Rattle.flow.specs.Children.{lower-one, lower-two, taken-by-marks}
 use Rattle.flow.proofs.child_taken.Statement.{statement}
 use Rattle.flow.proofs.child_taken.Tie as tie
 
-form-at-requires : tie.Need-form-at-requires
-form-at-requires c κs = search needs
-
-first-at-requires : tie.Need-first-at-requires
-first-at-requires c κs = search needs
-
-cast-first : tie.Need-cast-first
-cast-first c = search needs
-
-second-at-requires : tie.Need-second-at-requires
-second-at-requires c κs = search needs
-
-cast-second : tie.Need-cast-second
-cast-second c = search needs
+cast-marked : tie.Need-cast-marked
+cast-marked c = search needs
 
 marked-requires : tie.Need-marked-requires
-marked-requires c κs = λ t.
-    let s = c .before .before .before .before .before .before in
-    let low = lower-one (s .args .nodes .now) (s .args .i) (s .pre .1 .1 .0) (rw (c .before .before .before .before .form-at .ensures) at t) in
-    omega (arith, c .before .before .before .first-at .ensures)
+marked-requires c κs = search needs
+
+cast-marked-2 : tie.Need-cast-marked-2
+cast-marked-2 c = search needs
 
 marked-requires-2 : tie.Need-marked-requires-2
-marked-requires-2 c κs = λ t.
-    let s = c .before .before .before .before .before .before .before in
-    let low = lower-two (s .args .nodes .now) (s .args .i) (s .pre .1 .1 .0) (rw (c .before .before .before .before .before .form-at .ensures) at t) in
-    omega (arith, c .before .before .before .second-at .ensures)
+marked-requires-2 c κs = search needs
 
 returns : tie.Need-returns
-returns c =
-    let s = c .before .before .before .before .before .before .before .before in
-    rw (c .marked2 .ensures, c .before .marked .ensures, c .before .before .before .before .before .before .form-at .ensures, c .before .before .before .before .before .first-at .ensures, c .before .before .before .before .second-at .ensures)
-    (taken-by-marks (s .args .nodes .now) (s .args .i) (s .args .marks .now) (s .pre .1 .1 .1) (s .pre .1 .0) (s .pre .1 .1 .0))
+returns c = rw (c .before .before .marked2 .ensures, c .before .before .before .before .marked .ensures)
 
 pub child-taken-spec : {M : Type 1} → statement M
 child-taken-spec =
-    tie.close
-    (tie.spec
-    form-at-requires
-    first-at-requires
-    cast-first
-    second-at-requires
-    cast-second
-    marked-requires
-    marked-requires-2
-    returns)
+    tie.close (tie.spec cast-marked marked-requires cast-marked-2 marked-requires-2 returns)

@@ -1,16 +1,22 @@
--- `flow::marked` meets its contract: by whether there is a child. Assumes nothing.
+-- `flow::marked` meets its contract: a child that there is, is within. Assumes nothing.
+use Prim.Native.Nat.{ℕ, _%_}
+use mathlib.Core.Path.{_≡_, ap}
+use mathlib.Core.Bool.{false}
+use native.Mathlib.Omega.{arith}
+use lib.Dec.{T}
+use lib.ListN.{getD}
 use borrow.Author.Needs.{needs}
+use Rattle.flow.specs.Tests.{then-same}
 use Rattle.flow.proofs.marked.Statement.{statement}
 use Rattle.flow.proofs.marked.Tie as tie
 
 element-copy-out-result : tie.Need-element-copy-out-result
-element-copy-out-result c = c .before .pre (rw (c .if1 .taken) tt)
+element-copy-out-result c = search needs
 
 returns : tie.Need-returns
-returns c = rw (c .before .if1 .taken)
-
-returns-2 : tie.Need-returns-2
-returns-2 c = search needs
+returns c =
+    let small : T (c .before .args .used) → c .before .args .child % 64 ≡ c .before .args .child = λ t. omega (arith, c .before .pre t) in
+    then-same (c .before .args .used) _ _ (λ t. ap (λ (k : ℕ). getD (c .before .args .marks .now) k false) (small t))
 
 pub marked-spec : {M : Type 1} → statement M
-marked-spec = tie.close (tie.spec element-copy-out-result returns returns-2)
+marked-spec = tie.close (tie.spec element-copy-out-result returns)

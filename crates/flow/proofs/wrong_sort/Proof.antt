@@ -1,51 +1,29 @@
--- `flow::wrong_sort` meets its contract: the children are lower, so that they are nodes of the table. Assumes nothing.
-use native.Mathlib.Omega.{arith}
+-- `flow::wrong_sort` meets its contract: by both children. Assumes nothing.
 use borrow.Author.Needs.{needs}
-use Rattle.flow.specs.Children.{lower-one, lower-two}
-use Rattle.flow.specs.Refusals.{wrong-sort}
 use Rattle.flow.proofs.wrong_sort.Statement.{statement}
 use Rattle.flow.proofs.wrong_sort.Tie as tie
 
-form-at-requires : tie.Need-form-at-requires
-form-at-requires c κs = search needs
-
-first-at-requires : tie.Need-first-at-requires
-first-at-requires c κs = search needs
-
-cast-first : tie.Need-cast-first
-cast-first c = search needs
-
-second-at-requires : tie.Need-second-at-requires
-second-at-requires c κs = search needs
-
-cast-second : tie.Need-cast-second
-cast-second c = search needs
+cast-sort-differs : tie.Need-cast-sort-differs
+cast-sort-differs c = search needs
 
 sort-differs-requires : tie.Need-sort-differs-requires
-sort-differs-requires c κs = λ t.
-    let s = c .before .before .before .before .before in
-    let low = lower-one (s .args .nodes .now) (s .args .i) (s .pre .1) (rw (c .before .before .before .form-at .ensures) at t) in
-    omega (arith, c .before .before .first-at .ensures)
+sort-differs-requires c κs = search needs
+
+cast-sort-differs-2 : tie.Need-cast-sort-differs-2
+cast-sort-differs-2 c = search needs
 
 sort-differs-requires-2 : tie.Need-sort-differs-requires-2
-sort-differs-requires-2 c κs = λ t.
-    let s = c .before .before .before .before .before .before .before in
-    let low = lower-two (s .args .nodes .now) (s .args .i) (s .pre .1) (rw (c .before .before .before .before .before .form-at .ensures) at t) in
-    omega (arith, c .before .before .before .second-at .ensures)
+sort-differs-requires-2 c κs = search needs
 
 returns : tie.Need-returns
-unfolding wrong-sort
-returns c = rw (c .sort-differs2 .ensures, c .before .before .sort-differs .ensures, c .before .before .before .before .before .before .form-at .ensures, c .before .before .before .before .before .first-at .ensures, c .before .before .before .before .second-at .ensures)
+returns c = rw (c .sort-differs2 .ensures, c .before .before .sort-differs .ensures)
 
 pub wrong-sort-spec : {M : Type 1} → statement M
 wrong-sort-spec =
     tie.close
     (tie.spec
-    form-at-requires
-    first-at-requires
-    cast-first
-    second-at-requires
-    cast-second
+    cast-sort-differs
     sort-differs-requires
+    cast-sort-differs-2
     sort-differs-requires-2
     returns)
