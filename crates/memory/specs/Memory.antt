@@ -1,99 +1,135 @@
 -- What a memory of searches has of a state, and what it is after one more is put in: computed, one outcome for every memory; then
--- what it means that a memory holds a state. `ms` are the modes, 64 bytes a slot, `ks` the marks, three numbers a slot (key,
--- entered, reached); a state is a key and the first n modes of t.
--- Definitions only; their laws are in MemoryLaws. A caller needs `Held` and its laws, and not how a slot is chosen. Assumes nothing.
+-- what it means that a memory holds a state. `ms` are the modes, two words a slot, `ks` the marks, one number a slot; slots 2 p and
+-- 2 p + 1 are pair p. A state is a key and the first n modes of t.
+-- Definitions only; their laws are in MemoryLaws. A caller needs `Held` and its laws, and not how a pair is chosen. Assumes nothing.
 use Prim.Native.Nat.{ℕ, zero, suc, _+_, _*_, _/_, _%_, _<_, _≤_}
 use mathlib.Core.Path.{_≡_}
 use mathlib.Core.Bool.{Bool, true, _&&_, cond}
 use mathlib.Core.List.{List}
 use lib.Dec.{eqb, ltb}
 use lib.ListN.{length, getD, set}
-use lib.Seq.{paste}
 use Rattle.memory.specs.declared.Sight.{Sight}
 use Rattle.memory.specs.declared.Recalled.{Recalled}
 use Rattle.memory.specs.declared.Recalled.the-variants.{Known, Unknown}
 
--- The slot of a state -----------------------------------------------------------------------------------------------------
+-- Two words of a state ----------------------------------------------------------------------------------------------------
 
--- how many slots there are
+-- whether the first n modes have two bits each
+unfoldable pub two-bits : List ℕ → ℕ → Bool
+two-bits t zero = true
+two-bits t (suc j) = two-bits t j && ltb (getD t j 0) 4
+
+-- the mode of node j, and 0 behind the first n
+unfoldable pub padded : List ℕ → ℕ → ℕ → ℕ
+padded t n j = cond (ltb j n) (getD t j 0) 0
+
+-- k modes from `at` on, one a byte; and the most that this is
+unfoldable pub bytes : (ℕ → ℕ) → ℕ → ℕ → ℕ
+bytes m at zero = 0
+bytes m at (suc k) = m at + 256 * bytes m (at + 1) k
+
+unfoldable pub most-bytes : ℕ → ℕ
+most-bytes zero = 0
+most-bytes (suc k) = 3 + 256 * most-bytes k
+
+-- k bytes of four modes each, two bits a mode
+unfoldable pub packed : (ℕ → ℕ) → ℕ → ℕ → ℕ
+packed m at k = bytes m at k + 4 * bytes m (at + 8) k + 16 * bytes m (at + 16) k + 64 * bytes m (at + 24) k
+
+abbrev pub low-of : List ℕ → ℕ → ℕ
+low-of t n = packed (padded t n) 0 8
+
+abbrev pub high-of : List ℕ → ℕ → ℕ
+high-of t n = packed (padded t n) 32 8
+
+-- The pair of a state -----------------------------------------------------------------------------------------------------
+
+-- how many slots there are, and how many pairs
 abbrev pub slots : List ℕ → ℕ
-slots ks = length ks / 3
+slots ks = length ks
 
--- what node j's mode counts for
-unfoldable pub spread : ℕ → ℕ
-spread j = let x : ℕ = (j * 40503 + 12345) % 65536 in x * x / 256 % 65536
+abbrev pub pairs : List ℕ → ℕ
+pairs ks = length ks / 2
 
--- what it counts for in the state t
-unfoldable pub weight : List ℕ → ℕ → ℕ
-weight t j = getD t j 0 * spread j
+-- both words and the key in one number
+unfoldable pub mixed : ℕ → ℕ → ℕ → ℕ
+mixed low high key = low % 3141592661 * 1054435769 + high % 3141592661 * 640364487 + key * 1000000007
 
--- a byte is at most 255
-abbrev pub most-weight : ℕ
-most-weight = 255 * 65535
-
--- the key and the first modes in one number
-unfoldable pub mixed : List ℕ → ℕ → ℕ → ℕ
-mixed t key zero = key * 8191
-mixed t key (suc j) = mixed t key j + weight t j
-
-unfoldable pub slot-of : List ℕ → ℕ → ℕ → ℕ → ℕ
-slot-of t n key among = mixed t key n % among
+unfoldable pub pair-of : ℕ → ℕ → ℕ → ℕ
+pair-of low high key = let x : ℕ = mixed low high key / 65536 % 4294967296 in x * x / 16777216 % 3584
 
 -- What is recalled --------------------------------------------------------------------------------------------------------
 
--- whether the first n modes of t stand in ms from `at` on
-unfoldable pub alike : List ℕ → ℕ → List ℕ → ℕ → Bool
-alike ms at t zero = true
-alike ms at t (suc j) = alike ms at t j && eqb (getD ms (at + j) 0) (getD t j 0)
+-- a slot's mark
+unfoldable pub mark-of : ℕ → Sight → ℕ
+mark-of key x = x .entered * 4294967296 + (x .reached * 65536 + key)
 
--- what slot s says was seen
+-- whether slot s has the state
+unfoldable pub has : List ℕ → List ℕ → ℕ → ℕ → ℕ → ℕ → Bool
+has ms ks s low high key = eqb (getD ks s 0 % 65536) key && (eqb (getD ms (2 * s) 0) low && eqb (getD ms (2 * s + 1) 0) high)
+
+-- what it says was seen
 unfoldable pub sight-at : List ℕ → ℕ → Sight
-sight-at ks s = record { entered = getD ks (3 * s + 1) 0; reached = getD ks (3 * s + 2) 0 }
+sight-at ks s = record { entered = getD ks s 0 / 4294967296; reached = getD ks s 0 / 65536 % 65536 }
 
--- what slot s has of the state
-unfoldable pub recalled-at : List ℕ → List ℕ → List ℕ → ℕ → ℕ → ℕ → Recalled
-recalled-at ms ks t n key s = cond (eqb (getD ks (3 * s) 0) key && alike ms (64 * s) t n) (Known (sight-at ks s)) (Unknown s)
+-- what slot s has of it, or else what is said otherwise
+unfoldable pub recalled-at : List ℕ → List ℕ → ℕ → ℕ → ℕ → ℕ → Recalled → Recalled
+recalled-at ms ks low high key s r = cond (has ms ks s low high key) (Known (sight-at ks s)) r
 
--- what its own slot has of it; with no slots, nothing
+-- what a pair has of it; one that is not there has nothing
+unfoldable pub recalled-in : List ℕ → List ℕ → ℕ → ℕ → ℕ → ℕ → Recalled
+recalled-in ms ks low high key p = cond (ltb p (pairs ks))
+    (recalled-at ms ks low high key (2 * p) (recalled-at ms ks low high key (2 * p + 1) (Unknown p))) (Unknown p)
+
+-- what its own pair has of it, where all modes fit; with no pairs, nothing
 unfoldable pub recalled : List ℕ → List ℕ → List ℕ → ℕ → ℕ → Recalled
-recalled ms ks t n key = cond (eqb (slots ks) 0) (Unknown 0) (recalled-at ms ks t n key (slot-of t n key (slots ks)))
+recalled ms ks t n key = cond (eqb (pairs ks) 0) (Unknown 0)
+    (cond (two-bits t n) (recalled-in ms ks (low-of t n) (high-of t n) key (pair-of (low-of t n) (high-of t n) key)) (Unknown (pairs ks)))
 
 -- What is remembered ------------------------------------------------------------------------------------------------------
 
--- the three marks of a slot
-abbrev pub marks-put : List ℕ → ℕ → ℕ → Sight → List ℕ
-marks-put ks slot key x = set (set (set ks (3 * slot) key) (3 * slot + 1) (x .entered)) (3 * slot + 2) (x .reached)
+-- the slot of a pair that has the smaller mark
+unfoldable pub lesser : List ℕ → ℕ → ℕ
+lesser ks p = cond (ltb (getD ks (2 * p + 1) 0) (getD ks (2 * p) 0)) (2 * p + 1) (2 * p)
 
--- a slot that is not there takes nothing
-unfoldable pub remembered-marks : List ℕ → ℕ → ℕ → Sight → List ℕ
-remembered-marks ks slot key x = cond (ltb slot (slots ks)) (marks-put ks slot key x) ks
+-- whether a pair takes the state: it is there, and what is put fits
+unfoldable pub takes : List ℕ → ℕ → List ℕ → ℕ → Sight → Bool
+takes ks p t n x = ltb p (pairs ks) && (two-bits t n && ltb (x .reached) 65536)
 
-unfoldable pub remembered-modes : List ℕ → List ℕ → ℕ → List ℕ → ℕ → List ℕ
-remembered-modes ms ks slot t n = cond (ltb slot (slots ks)) (paste ms (64 * slot) t n) ms
+unfoldable pub remembered-marks : List ℕ → ℕ → List ℕ → ℕ → ℕ → Sight → List ℕ
+remembered-marks ks p t n key x = cond (takes ks p t n x) (set ks (lesser ks p) (mark-of key x)) ks
+
+-- both words into slot s
+abbrev pub words-put : List ℕ → ℕ → List ℕ → ℕ → List ℕ
+words-put ms s t n = set (set ms (2 * s) (low-of t n)) (2 * s + 1) (high-of t n)
+
+unfoldable pub remembered-modes : List ℕ → List ℕ → ℕ → List ℕ → ℕ → Sight → List ℕ
+remembered-modes ms ks p t n x = cond (takes ks p t n x) (words-put ms (lesser ks p) t n) ms
 
 -- The contracts -----------------------------------------------------------------------------------------------------------
 
--- what both functions ask: 01's at most 64 nodes, each with its mode; a key so small that no sum of the choice wraps; and modes for
--- each slot
+-- what both functions ask: 01's at most 64 nodes, each with its mode; a small key; and two words for each slot
 pub record Fitting (ms ks t : List ℕ) (n key : ℕ) : Type 0 where
   pub few : n ≤ 64
   pub there : n ≤ length t
   pub small : key ≤ 4000
-  pub room : 64 * slots ks ≤ length ms
+  pub room : 2 * slots ks ≤ length ms
 
--- of `remember`: the memory ms′ and ks′ after x is put into this slot
+-- of `remember`: the memory ms′ and ks′ after x is put into this pair
 pub record Remembered (ms ks : List ℕ) (slot : ℕ) (t : List ℕ) (n key : ℕ) (x : Sight) (ms′ ks′ : List ℕ) : Type 0 where
-  pub modes : ms′ ≡ remembered-modes ms ks slot t n
-  pub marks : ks′ ≡ remembered-marks ks slot key x
+  pub modes : ms′ ≡ remembered-modes ms ks slot t n x
+  pub marks : ks′ ≡ remembered-marks ks slot t n key x
 
 -- What a memory holds -----------------------------------------------------------------------------------------------------
 
--- slot s has this state, with what was seen of it
+-- slot s has this state, with what was seen of it: no other state has its words (`words-modes`), and no other its mark
 pub record Holds (ms ks : List ℕ) (n s key : ℕ) (t : List ℕ) (x : Sight) : Type 0 where
-  pub named : getD ks (3 * s) 0 ≡ key
-  pub modes : (j : ℕ) → j < n → getD ms (64 * s + j) 0 ≡ getD t j 0
-  pub entered : getD ks (3 * s + 1) 0 ≡ x .entered
-  pub reached : getD ks (3 * s + 2) 0 ≡ x .reached
+  pub fits : two-bits t n ≡ true
+  pub low : getD ms (2 * s) 0 ≡ low-of t n
+  pub high : getD ms (2 * s + 1) 0 ≡ high-of t n
+  pub mark : getD ks s 0 ≡ mark-of key x
+  pub keyed : key < 65536
+  pub near : x .reached < 65536
 
 -- some slot has it
 pub record Held (ms ks : List ℕ) (n key : ℕ) (t : List ℕ) (x : Sight) : Type 0 where

@@ -1,6 +1,6 @@
 -- What is remembered: that it is right for the records after the first too, and stays right by what a search adds; that an empty
 -- memory has nothing to be right about; and what a state that is recalled is worth. Assumes nothing.
-use Prim.Native.Nat.{ℕ, zero, suc, _+_, _-_, _*_, _/_, _≤_, _<_}
+use Prim.Native.Nat.{ℕ, zero, suc, _+_, _-_, _*_, _≤_, _<_}
 use mathlib.Core.Path.{_≡_, refl, sym, ap, _∙_, subst}
 use mathlib.Core.Bool.{false, cond}
 use mathlib.Core.Logic.{_⊎_, inl, inr}
@@ -108,7 +108,7 @@ module _ (ns xs : List ℕ) where
   truthful-still {qs = qs} {qs′} {m} {m′} f e g em ek =
       let r = f .room in
       record {
-        room = subst (λ n. 64 * (n / 3) ≤ length (m′ .modes)) (sym ek) (omega arith);
+        room = subst (λ n. 2 * n ≤ length (m′ .modes)) (sym ek) (omega arith);
         asking = asking-still e (f .asking);
         right = λ role d few t x h. by role d few t x (g (key-of role d) t x h);
       }
@@ -153,7 +153,7 @@ module _ (ns xs qs : List ℕ) (asks : Asking qs) where
     right = λ role d few t x h. let q = h .there in absurd (omega arith);
   }
 
-  pub truthful-zeros : (m : Memory) → 64 * slots (m .marks) ≤ length (m .modes) → ((j : ℕ) → getD (m .marks) j 0 ≡ 0) → Truthful ns xs qs m
+  pub truthful-zeros : (m : Memory) → 2 * slots (m .marks) ≤ length (m .modes) → ((j : ℕ) → getD (m .marks) j 0 ≡ 0) → Truthful ns xs qs m
   truthful-zeros m room z = record {
     room = room;
     asking = asks;
@@ -161,7 +161,7 @@ module _ (ns xs qs : List ℕ) (asks : Asking qs) where
   }
 
   -- zeros, as many modes and marks as these
-  pub truthful-fresh : (a b : ℕ) → 64 * (b / 3) ≤ a → Truthful ns xs qs (memory (replicate a 0) (replicate b 0))
+  pub truthful-fresh : (a b : ℕ) → 2 * b ≤ a → Truthful ns xs qs (memory (replicate a 0) (replicate b 0))
   truthful-fresh a b h = truthful-zeros (memory (replicate a 0) (replicate b 0))
       (rw (length-replicate, length-replicate) h) (zero-at b)
     where

@@ -153,7 +153,7 @@ module _ (ns xs : List ℕ) where
 
   -- a lookup is right: what the memory has of a state is what its search finds out
   pub record Truthful (qs : List ℕ) (m : Memory) : Type 0 where
-    pub room : 64 * slots (m .marks) ≤ length (m .modes)
+    pub room : 2 * slots (m .marks) ≤ length (m .modes)
     pub asking : Asking qs
     pub right : (role : Role) (d : ℕ) → d ≤ length xs → (t : List ℕ) (x : Sight) → Has m (key-of role d) t x → Knows qs role d t x
 

@@ -292,8 +292,8 @@ fn known(seen: Sight, left: u32) -> Out
 fn keep_trip(
     trip: Trip,
     left: u32,
-    modes: &mut [u8],
-    marks: &mut [u32],
+    modes: &mut [u64],
+    marks: &mut [u64],
     slot: usize,
     t: &[u8],
     n: usize,
@@ -316,8 +316,8 @@ fn keep_trip(
 fn keep(
     out: Out,
     left: u32,
-    modes: &mut [u8],
-    marks: &mut [u32],
+    modes: &mut [u64],
+    marks: &mut [u64],
     slot: usize,
     t: &[u8],
     n: usize,
@@ -341,8 +341,8 @@ fn visit(
     role: Role,
     asks: &mut [u64],
     left: u32,
-    modes: &mut [u8],
-    marks: &mut [u32],
+    modes: &mut [u64],
+    marks: &mut [u64],
 ) -> Out
     requires { ⌜ VisitReady (now ns) (now cues) (now work) role ⌝ }
     requires { ⌜ Truthful (now ns) (now cues) (now asks) (memory (now modes) (now marks)) ⌝ }
@@ -368,8 +368,8 @@ fn enter(
     role: Role,
     asks: &mut [u64],
     left: u32,
-    modes: &mut [u8],
-    marks: &mut [u32],
+    modes: &mut [u64],
+    marks: &mut [u64],
 ) -> Out
     requires { ⌜ VisitReady (now ns) (now cues) (now work) role ⌝ }
     requires { ⌜ Truthful (now ns) (now cues) (now asks) (memory (now modes) (now marks)) ⌝ }
@@ -414,8 +414,8 @@ fn visit_each(
     role: Role,
     asks: &mut [u64],
     left: u32,
-    modes: &mut [u8],
-    marks: &mut [u32],
+    modes: &mut [u64],
+    marks: &mut [u64],
 ) -> Out
     requires { ⌜ VisitReady (now ns) (now cues) (now work) role ⌝ }
     requires { ⌜ Truthful (now ns) (now cues) (now asks) (memory (now modes) (now marks)) ⌝ }
@@ -437,8 +437,8 @@ fn try_each(
     role: Role,
     asks: &mut [u64],
     left: u32,
-    modes: &mut [u8],
-    marks: &mut [u32],
+    modes: &mut [u64],
+    marks: &mut [u64],
     c: &[u32; 64],
     d: &[u32],
     many: u32,
@@ -504,8 +504,8 @@ fn follow(
     asks: &mut [u64],
     k: u32,
     left: u32,
-    modes: &mut [u8],
-    marks: &mut [u32],
+    modes: &mut [u64],
+    marks: &mut [u64],
 ) -> Out
     requires { ⌜ VisitReady (now ns) (now cues) (now work) role ⌝ }
     requires { ⌜ Truthful (now ns) (now cues) (now asks) (memory (now modes) (now marks)) ⌝ }
@@ -568,11 +568,6 @@ pub fn room_wanted(nodes: usize, records: usize) -> usize
 // A search of so many states at most goes without a memory: to clear one costs about as much.
 const FEW_STATES: u32 = 32;
 
-// The memory has room for 2,048 states, of 64 modes and three marks each: 152 KiB.
-const MODES: usize = 131072;
-
-const MARKS: usize = 6144;
-
 // Up to so many states, and nothing is remembered.
 fn first_search(
     ns: &[u16],
@@ -585,8 +580,8 @@ fn first_search(
     requires { ⌜ VisitReady (now ns) (now cues) (now work) role × Asking (now asks) ⌝ }
     ensures { λ r. ⌜ Began (now (ns .entry)) (now (cues .entry)) (now (work .entry)) role (now (asks .entry)) allowance (now (work .exit)) (now (asks .exit)) r ⌝ }
 {
-    let mut modes = [0u8; 1];
-    let mut marks = [0u32; 1];
+    let mut modes = [0u64; 1];
+    let mut marks = [0u64; 1];
     visit(
         ns,
         cues,
@@ -611,8 +606,8 @@ fn long_search(
     requires { ⌜ VisitReady (now ns) (now cues) (now work) role × Asking (now asks) ⌝ }
     ensures { λ r. ⌜ Began (now (ns .entry)) (now (cues .entry)) (now (work .entry)) role (now (asks .entry)) allowance (now (work .exit)) (now (asks .exit)) r ⌝ }
 {
-    let mut modes = [0u8; MODES];
-    let mut marks = [0u32; MARKS];
+    let mut modes = [0u64; memory::MODES];
+    let mut marks = [0u64; memory::MARKS];
     visit(
         ns,
         cues,

@@ -15,7 +15,7 @@ visit-requires : tie.Need-visit-requires
 visit-requires c κs =
     let s = c .before .before .before .before .before .before .before .before in
     let a = s .args in
-    (s .pre .0, truthful-fresh (a .ns .now) (a .cues .now) (a .asks .now) (s .pre .1) 131072 6144 (omega arith))
+    (s .pre .0, truthful-fresh (a .ns .now) (a .cues .now) (a .asks .now) (s .pre .1) 14336 7168 (omega arith))
 
 same-length : tie.Need-same-length
 same-length c = search needs
