@@ -32,6 +32,7 @@ WANTED = {
     "c24c828": {"nestp": 6, "c3s12": 1.8, "twelve": 8, "fourteen": 8, "bad11": 40, "paraa": 1, "choice": 1, "": 0.97},
     "4345dca": {"small": 1, "seven": 0.9},
 }
+LEVELS = ("levels2", "levels8", 2)  # one search: a state is to take at most so many times as long in the second
 PANELS = {"panel-route": False, "panel-lines": False, "panel-undone": False, "panel-machines": True}  # whether names are lent
 CLOSINGS = {61441: "done", 61442: "withdrawn", 61443: "failed"}
 LIST_ROOM = 259
@@ -53,7 +54,8 @@ NOTE = f"""
 - independent: the implementation in `tests/`, plain Rust, going through equal states again, timed inside itself (`oracle bench FILE`).
 - Prolog: the transition rules as published, in SWI-Prolog (`rules.pl`), one run, timed inside itself.
 - other, where it is there: one more program that was named to `bench/run`, timed inside itself.
-- stored: the cases `J` of `crates/replay/stdin`, calls of the judge without names, but those refused with 22, and a call is all of them. small: those of them that enter {FEW} states or fewer.
+- stored: the cases `J` of `crates/replay/stdin`, calls of the judge without names, but those refused with 22, and a call is all of them.
+  small: those of them that enter {FEW} states or fewer.
 - panel: what may come next, asked after each record of a batch of 256 on a flow of 64 nodes, from none to the last but one: 256 calls, and
   a call is all of them. `panel-route` is one step after the other, `panel-lines` three equal lines side by side, `panel-undone` three that
   fail and are undone, `panel-machines` the same with forty names, its steps drawn without a machine. No run of so many nodes has more than
@@ -366,8 +368,9 @@ def builds(arguments, folder):
 
 def commit(argument):
     """The short name of a revision, or of a checkout's last commit; None if there is none."""
-    where = (argument, "HEAD") if pathlib.Path(argument).is_dir() else (HOME, argument)
-    found = subprocess.run(["git", "-C", where[0], "rev-parse", "--short=7", f"{where[1]}^{{commit}}"], stdout=subprocess.PIPE, stderr=subprocess.DEVNULL)
+    folder, name = (argument, "HEAD") if pathlib.Path(argument).is_dir() else (HOME, argument)
+    words = ["git", "-C", folder, "rev-parse", "--short=7", f"{name}^{{commit}}"]
+    found = subprocess.run(words, stdout=subprocess.PIPE, stderr=subprocess.DEVNULL)
     return found.stdout.decode().strip() if found.returncode == 0 else None
 
 
@@ -383,12 +386,13 @@ def every_row():
 
 def compared(judges, wishes):
     """A row for each flow: of the first judge its speed and its call; of each other its call, the ratio, and what is wanted of it. And what
-    was wanted and is not so."""
-    rows, below = [], []
+    was wanted and is not so, and how much longer a state takes in more levels, by each judge."""
+    rows, below, of_levels = [], [], []
     for name, given in every_row():
         turns = calls(judges, given)
         if not any(turn.rounds for turn in turns): continue
         first, states = turns[0], given.states()
+        if name in LEVELS: of_levels.append([turn.best() for turn in turns])
         row = [name, f"{states:,}", millions(first.best() and states / first.best()), lasting(first)]
         for i, turn in enumerate(turns[1:]):
             least, ratio, between = wishes(i, name), None, "-"
@@ -400,18 +404,22 @@ def compared(judges, wishes):
             if least and ratio and ratio < least: below.append((name, i, ratio, least))
         rows.append(row)
         print(" ".join(row), file=sys.stderr, flush=True)
-    return rows, below
+    few, many = of_levels
+    return rows, below, [b / a if a and b else None for a, b in zip(few, many)]
 
 
 def against(arguments, keep, folder):
     judges, way = builds(arguments, folder)
-    rows, below = compared(judges, lambda i, name: wanted(arguments[i], name))
+    rows, below, of_levels = compared(judges, lambda i, name: wanted(arguments[i], name))
+    few, many, most = LEVELS
     head = ["flow", "states", "M states/s", "a call"]
     for argument in arguments:
         head += [f"{commit(argument) or argument}: a call", "ratio", "wanted", "rounds"]
     text = f"This build is {described()}; {way}; best of {ROUNDS} rounds by turns.\n\n{table(head, rows)}\n\n"
     text += "".join(f"- {name} against {arguments[i]}: {ratio:,.2f}, and {least:g} is wanted\n" for name, i, ratio, least in below)
-    text += "" if below else "Nothing is below what is wanted.\n"
+    text += "" if below else "- no ratio is below what is wanted\n"
+    longer = ", ".join(f"{times:,.2f} of {name}" if times else f"- of {name}" for times, name in zip(of_levels, ["this build"] + arguments))
+    text += f"- a state of {many} takes so many times as long as one of {few}: {longer}; at most {most} is wanted\n"
     print(text, end="")
     if keep:
         results = HERE / "RESULTS.md"
@@ -420,7 +428,10 @@ def against(arguments, keep, folder):
 
 
 def described():
-    return "commit " + subprocess.run(["git", "-C", HERE, "describe", "--always", "--dirty"], stdout=subprocess.PIPE, check=True).stdout.decode().strip()
+    """The last commit, and whether anything but the figures has changed since."""
+    told = lambda *words: subprocess.run(["git", "-C", HOME, *words], stdout=subprocess.PIPE, check=True).stdout.decode().strip()
+    changed = told("status", "--porcelain", "--", ".", ":!bench/RESULTS.md", ":!bench/HISTORY.md")
+    return f"commit {told('describe', '--always')}" + (" with changes" if changed else "")
 
 
 def kept(independent, other, folder):
@@ -441,7 +452,9 @@ def kept(independent, other, folder):
         nodes = "64" if name.startswith("panel") else "-"
         states = [f"{given.states():,}", "-", millions(given.states() / turn.best())] if turn.rounds else ["-", "-", "-"]
         rows.append([name, nodes] + states + [lasting(turn)] + ["-"] * (len(head) - 6))
-    text = f"# States per second, in millions\n\nOne run at {described()}, all programs on the same files (`bench/flows`), best of {ROUNDS}.\nThe judge is measured by {WAY}.\n\n{table(head, rows)}\n{NOTE}"
+    text = "# States per second, in millions\n\n"
+    text += f"One run at {described()}, all programs on the same files (`bench/flows`), best of {ROUNDS}.\n"
+    text += f"The judge is measured by {WAY}.\n\n{table(head, rows)}\n{NOTE}"
     print(text)
     results = HERE / "RESULTS.md"
     _, mark, below = results.read_text().partition(EARLIER_BUILDS)
@@ -453,7 +466,7 @@ def main(words):
     rest = words[keep:]
     with tempfile.TemporaryDirectory() as folder:
         folder = pathlib.Path(folder)
-        if rest[:1] == ["--against"] and rest[1:]:
+        if rest[:1] == ["--against"] and rest[1:] and not any(word.startswith("-") for word in rest[1:]):
             against(rest[1:], keep, folder)
         elif not keep and 1 <= len(rest) <= 2 and not rest[0].startswith("-"):
             kept(rest[0], rest[1] if len(rest) > 1 else None, folder)
