@@ -68,7 +68,7 @@ NOTE = f"""
 
 `bench/run --against EARLIER ..` sets this build beside earlier ones, by turns in one run: the best call of each in {ROUNDS} rounds, the ratio to
 this build's (above 1: this one is faster), and between what the ratios of single rounds lie. Where that is wide, something else was
-running. A build that takes over {ENOUGH} seconds for a flow has two rounds of it, and one that takes over {LIMIT} for a call has none.
+running. A build that has taken {ENOUGH} seconds for a flow has no more rounds of it than two, and one that takes over {LIMIT} for a call none.
 """
 
 
@@ -447,6 +447,7 @@ def kept(independent, other, folder):
         row = [name, str(len(nodes) // 3), f"{count:,}", f"{differ:,}", millions(turn.best() and count / turn.best())]
         row += [lasting(turn), millions(speed), millions(slow and slow[1])]
         rows.append(row + ([millions(bench([other, "bench", path])[2])] if other else []))
+        print(" ".join(rows[-1]), file=sys.stderr, flush=True)
     for name, given in list(stored()) + list(panels()):
         [turn] = calls([judge], given)
         nodes = "64" if name.startswith("panel") else "-"
