@@ -95,7 +95,7 @@ fn nested_cases_are_judged_either_way() {
 /// By the plain lists of the rules, and without a memory.
 #[test]
 fn nested_flows_are_judged_alike_by_plain_lists() {
-    const FLOWS: usize = 1_500;
+    const FLOWS: usize = 600;
     let (judged, accepted) = with_deep_stack(|| {
         let mut rng = Rng::new(7);
         let (mut judged, mut accepted) = (0, 0);
