@@ -14,10 +14,10 @@ HERE = pathlib.Path(__file__).resolve().parent
 
 
 def crates(checkout):
-    """The judge and what it builds on."""
+    """The judge, the lists of what may come next if there are any, and what they build on."""
     lines = (checkout / "crates.txt").read_text().splitlines()
     below = {name: lower.split() for name, colon, lower in (line.partition(":") for line in lines) if colon}
-    taken, left = [], ["judge"]
+    taken, left = [], [name for name in ("judge", "ahead") if name in below]
     while left:
         name = left.pop()
         if name not in taken:
@@ -50,26 +50,73 @@ def module(text, names):
     return re.sub(r"^((?:pub )?(?:struct|enum) )", r"#[derive(Clone, Copy)]\n\1", text, flags=re.M)
 
 
-def call(checkout):
-    """`judge_lists` of `native.rs`: the judge without sets, which builds before request Four know nothing of."""
-    sets = "&[], " if "sets: &[u8]" in (checkout / "crates" / "judge" / "src" / "lib.rt").read_text() else ""
+def calls(checkout, names):
+    """`judge_lists` and `next_lists` of `native.rs`: None for what this build does not know of, as it may be an earlier one."""
+    judge = (checkout / "crates" / "judge" / "src" / "lib.rt").read_text()
+    sets = "&l.sets, " if "sets: &[u8]" in judge else ""
+    unknown = [] if sets else ["!l.sets.is_empty()"]
+    unknown += [] if "pub fn judge_named(" in judge else ["l.names.is_some()"]
+    named = f"judge::judge_named(names, &l.nodes, &l.records, {sets}work, l.allowance)" if "pub fn judge_named(" in judge else "return None"
     return f"""
-fn judge_lists(nodes: &[u16], records: &[u16], work: &mut [u8], allowance: u32) -> Answer {{
-    judge::judge(nodes, records, {sets}work, allowance)
+fn judge_lists(l: &Lent, work: &mut [u8]) -> Option<Answer> {{
+    if {" || ".join(unknown) or "false"} {{
+        return None;
+    }}
+    Some(match &l.names {{
+        None => judge::judge(&l.nodes, &l.records, {sets}work, l.allowance),
+        Some(names) => {named},
+    }})
+}}
+""" + (next_call(sets) if "ahead" in names else NO_NEXT)
+
+
+NO_NEXT = """
+fn next_lists(_: &Lent, _: &mut [u16], _: &mut [u8]) -> Option<Listing> {
+    None
+}
+"""
+
+
+def next_call(sets):
+    return f"""
+fn next_lists(l: &Lent, list: &mut [u16], work: &mut [u8]) -> Option<Listing> {{
+    use ahead::answer::Next;
+    if {"false" if sets else "!l.sets.is_empty()"} {{
+        return None;
+    }}
+    let next = match &l.names {{
+        None => ahead::next(&l.nodes, &l.records, {sets}list, work, l.allowance),
+        Some(names) => ahead::next_named(names, &l.nodes, &l.records, {sets}list, work, l.allowance),
+    }};
+    Some(match next {{
+        Next::Listed(f) => Listing::Listed(f.length, f.count),
+        Next::Undecided(f) => Listing::Undecided(f.count),
+        Next::Refused(r) => Listing::Refused(r.number as u32, r.place as u32),
+    }})
 }}
 """
 
 
-def build(checkout, program):
+def write_sources(checkout, folder):
     names = crates(checkout)
+    for name in names:
+        for source in sorted((checkout / "crates" / name / "src").glob("*.rt")):
+            own = folder / f"{name}.rs" if source.stem == "lib" else folder / name / f"{source.stem}.rs"
+            own.parent.mkdir(exist_ok=True)
+            own.write_text(module(source.read_text(), names))
+    modules = "".join(f"mod {name};\n" for name in names)
+    (folder / "main.rs").write_text((HERE / "native.rs").read_text() + calls(checkout, names) + modules)
+
+
+def build(checkout, program):
+    """Fails if there is no such checkout, or if it cannot be compiled."""
     with tempfile.TemporaryDirectory() as folder:
         folder = pathlib.Path(folder)
-        for name in names:
-            text = (checkout / "crates" / name / "src" / "lib.rt").read_text()
-            (folder / f"{name}.rs").write_text(module(text, names))
-        modules = "".join(f"mod {name};\n" for name in names)
-        (folder / "main.rs").write_text((HERE / "native.rs").read_text() + call(checkout) + modules)
-        subprocess.run(["rustc", "-C", "opt-level=3", "--edition", "2021", "-A", "warnings", folder / "main.rs", "-o", program], check=True)
+        write_sources(checkout, folder)
+        # One codegen unit: with more, what is inlined into what depends on unrelated code, and one flow took 14.2 or 20.7 µs a state by an
+        # edit of native.rs alone.
+        words = ["rustc", "-C", "opt-level=3", "-C", "codegen-units=1", "--edition", "2021", "-A", "warnings"]
+        subprocess.run(words + [folder / "main.rs", "-o", program], check=True)
 
 
 if __name__ == "__main__":

@@ -1,22 +1,25 @@
-//! Comparing the program `replay` with the oracle: cases go to its standard input while its lines are read,
-//! and the first line that differs ends it.
+//! Comparing the program `replay` with the oracle: cases go to its standard input while its lines are read, and the first line that differs
+//! ends it. The cases come in parts, which are compared side by side, as many as there are cores, each by a process of its own.
 
 use crate::cases::malformed::{good_case, malformed, Malformed};
-use crate::cases::{fixed, Made, Stream, Totals};
+use crate::cases::{fixed, fresh, Made, Part, Totals};
 use std::io::{BufRead, BufReader, Write};
 use std::process::{Child, Command, Stdio};
-use std::sync::mpsc::{channel, Receiver};
+use std::sync::mpsc::{channel, sync_channel, Receiver};
+use std::sync::Mutex;
 use std::thread;
 use std::time::Duration;
+
+/// How many cases may wait for their line.
+const AHEAD: usize = 1_000;
 
 /// A line that takes longer counts as missing.
 const PATIENCE: Duration = Duration::from_secs(120);
 
 /// Compares so many cases, then the long ones and everything that is no case; `replay` is the command that runs it. The text says
-/// what was seen, or the first difference.
+/// what was seen, or the first difference that was found.
 pub fn compare(cases: u64, seed: u64, replay: &[&str]) -> Result<String, String> {
-    let totals = compare_cases(move || Stream::new(seed).take(cases as usize), replay)
-        .map_err(|difference| format!("seed {seed}, {difference}"))?;
+    let totals = compare_parts(fresh(cases, seed), replay)?;
     let made = |case| Made::within(u32::MAX, "long", case);
     let long = compare_cases(move || fixed::long().into_iter().filter_map(made), replay)?;
     let bad = malformed();
@@ -26,11 +29,35 @@ pub fn compare(cases: u64, seed: u64, replay: &[&str]) -> Result<String, String>
     Ok(format!("{}{beside}\nno difference, seed {seed}\n", totals.show()))
 }
 
+/// All parts, by as many workers as there are cores.
+fn compare_parts(parts: impl Iterator<Item = Part> + Send, replay: &[&str]) -> Result<Totals, String> {
+    let waiting = Mutex::new(parts);
+    let seen = Mutex::new(Ok(Totals::default()));
+    let work = || loop {
+        let Some(part) = waiting.lock().expect("no panic").next() else { return };
+        if seen.lock().expect("no panic").is_err() {
+            return;
+        }
+        let found = compare_cases(move || part.cases(), replay);
+        let mut all = seen.lock().expect("no panic");
+        match (&mut *all, found) {
+            (Ok(totals), Ok(own)) => totals.add(own),
+            (Ok(_), Err(difference)) => {
+                *all = Err(format!("seed {}, behind {} cases, {difference}", part.seed, part.first()));
+            }
+            (Err(_), _) => {}
+        }
+    };
+    let cores = thread::available_parallelism().map_or(1, |n| n.get());
+    thread::scope(|scope| (0..cores).for_each(|_| drop(scope.spawn(work))));
+    seen.into_inner().expect("no panic")
+}
+
 fn start(replay: &[&str]) -> Result<Child, String> {
     let (program, arguments) = replay.split_first().ok_or("no command")?;
     let mut command = Command::new(program);
     command.args(arguments).stdin(Stdio::piped()).stdout(Stdio::piped());
-    command.spawn().map_err(|e| format!("cannot run {program}: {e}"))
+    command.spawn().map_err(|e| format!("cannot run {program}: {e}\n"))
 }
 
 /// The lines that a child prints, each as soon as it is there; the channel closes with its output.
@@ -54,7 +81,8 @@ fn compare_cases<I: Iterator<Item = Made>>(
     let mut child = start(replay)?;
     let lines = lines_of(&mut child);
     let mut input = child.stdin.take().expect("a pipe");
-    let (sender, made) = channel::<Made>();
+    // The maker stays a little ahead of the child: cases that wait take room.
+    let (sender, made) = sync_channel::<Made>(AHEAD);
     // Makes the cases and hands them to the child; a child that has ended is noticed by its missing line.
     let maker = move || {
         for made in cases() {

@@ -1,6 +1,6 @@
 //! The commands: see USAGE, and README.md for what each is for.
 
-use oracle::cases::{Run, Stream, Totals, STORED_CASES, STORED_SEED};
+use oracle::cases::{fresh, Made, Run, Stream, Totals, STORED_CASES, STORED_SEED};
 use oracle::compare::compare;
 use oracle::judge::{with_deep_stack, Lent};
 use oracle::laws::laws;
@@ -36,9 +36,14 @@ fn main() -> ExitCode {
 fn run(arguments: &[String]) -> Result<String, String> {
     let words: Vec<&str> = arguments.iter().map(String::as_str).collect();
     match words[..] {
-        ["cases", n, seed, stdin, stdout] => cases(number(n)?, number(seed)?, stdin, stdout),
+        ["cases", n, seed, stdin, stdout] => {
+            let (n, seed) = (number(n)?, number(seed)?);
+            let made = fresh(n, seed).flat_map(|part| part.cases()).collect();
+            cases(made, seed, stdin, stdout)
+        }
         ["stored", folder] => {
-            cases(STORED_CASES as u64, STORED_SEED, &format!("{folder}/stdin"), &format!("{folder}/stdout"))
+            let made = Stream::new(STORED_SEED).take(STORED_CASES).collect();
+            cases(made, STORED_SEED, &format!("{folder}/stdin"), &format!("{folder}/stdout"))
         }
         ["compare", n, seed, ref replay @ ..] => compare(number(n)?, number(seed)?, replay),
         ["selfcheck", n, seed] => selfcheck(number(n)?, number(seed)?),
@@ -80,9 +85,8 @@ fn number(word: &str) -> Result<u64, String> {
     word.parse().map_err(|_| format!("{word} is no number\n{USAGE}"))
 }
 
-/// So many cases, and something that is none behind them.
-fn cases(count: u64, seed: u64, stdin: &str, stdout: &str) -> Result<String, String> {
-    let cases: Vec<_> = Stream::new(seed).take(count as usize).collect();
+/// These cases, and something that is none behind them.
+fn cases(cases: Vec<Made>, seed: u64, stdin: &str, stdout: &str) -> Result<String, String> {
     let mut totals = Totals::default();
     cases.iter().for_each(|made| totals.count(made));
     let run = Run::of(&cases, seed);

@@ -1,24 +1,82 @@
 //! Flows for measuring the search, beside the four that were drawn by hand: `flows DIR` writes their files. What each is about:
-//! how many states it enters, and how many of them differ. And batches that a panel follows, asking after each record what may come next.
+//! how many states it enters, and how many of them differ, or how long a state takes. And batches that a panel follows, asking after each
+//! record what may come next.
 
 use crate::by_hand::{A, B};
 use crate::drawing::*;
 use crate::flowfile::{entry, Entry, FlowFile};
+use crate::sets::EventSet;
 use crate::term::{is_event, kind, DONE, FAILED, WITHDRAWN};
 use std::io;
 use std::ops::RangeInclusive;
 use std::path::Path;
 
-pub fn all() -> Vec<(&'static str, Drawing, Vec<u16>)> {
-    vec![
-        ("seven", seven().0, seven().1),
-        ("twelve", tower(12, &event(A), parallel), [vec![A; 12], vec![FAILED]].concat()),
-        ("fourteen", tower(14, &event(A), parallel), [vec![A; 14], vec![FAILED]].concat()),
-        ("lines", lines().0, lines().1),
-        ("pairs", withdrawing(3, 12), vec![A, A, A, WITHDRAWN, B, FAILED]),
-        ("throww", beside(throww(), 30, &yieldd()), vec![FAILED, WITHDRAWN]),
-    ]
+pub fn all() -> Vec<(&'static str, FlowFile)> {
+    let undone = [A, FAILED];
+    let mut all = vec![
+        ("seven", file(&seven().0, &seven().1)),
+        ("twelve", file(&tower(12, &event(A), parallel), &[vec![A; 12], vec![FAILED]].concat())),
+        ("fourteen", file(&tower(14, &event(A), parallel), &[vec![A; 14], vec![FAILED]].concat())),
+        ("lines", file(&lines().0, &lines().1)),
+        ("pairs", file(&withdrawing(3, 12), &[A, A, A, WITHDRAWN, B, FAILED])),
+        ("throww", file(&beside(throww(), 30, &yieldd()), &[FAILED, WITHDRAWN])),
+        ("nestp", file(&nested(4, 21), &undone)),
+        (
+            "c3s12",
+            FlowFile {
+                sets: vec![EventSet::of(&[A]), EventSet::of(&[A, B])],
+                ..file(&crowded_meetings(), &undone)
+            },
+        ),
+        ("bad11", table_file(&ELEVEN_AMONG_OTHERS, &[vec![A; 11], vec![FAILED]].concat())),
+    ];
+    all.extend(
+        [("levels2", 2), ("levels4", 4), ("levels8", 8)]
+            .map(|(name, levels)| (name, file(&at_level(levels), &undone))),
+    );
+    all
 }
+
+// ---- flows whose states take long ----
+
+/// Blocks in what undoes a block, so many one in the other. The innermost fails beside so many parts that may withdraw or not: as many
+/// ways to undo it as there are choices among these, and each is found anew.
+pub fn nested(levels: usize, withdrawing: usize) -> Drawing {
+    let innermost = parallel(beside(throww(), withdrawing, &yieldd()), pair(skip(), event(A)));
+    (1..levels).fold(block(innermost), |inner, _| block(parallel(throww(), pair(skip(), inner))))
+}
+
+/// The same search at any level: eleven parts that may withdraw, and steps behind the whole that are never reached, for 63 nodes.
+fn at_level(levels: usize) -> Drawing {
+    const NODES: usize = 63;
+    let flow = nested(levels, 11);
+    let steps = (NODES - flow.size()) / 2;
+    (0..steps).fold(flow, |all, _| seq(all, event(B)))
+}
+
+/// A step that can be undone and many parts that withdraw or not behind it, some meeting at a and b: found by a search for slow flows.
+fn crowded_meetings() -> Drawing {
+    let (d, s) = (yieldd, skipp);
+    let (a, ab) = (|p, q| joint(0, p, q), |p, q| joint(1, p, q));
+    let early = parallel(parallel(d(), ab(d(), s())), ab(ab(d(), s()), d()));
+    let both = parallel(parallel(ab(d(), d()), d()), parallel(ab(s(), d()), d()));
+    let late = parallel(s(), ab(d(), parallel(a(d(), s()), both)));
+    let some = parallel(parallel(d(), parallel(d(), parallel(early, late))), parallel(d(), s()));
+    let more = (0..4).fold(some, |all, _| parallel(d(), all));
+    let four = parallel(d(), parallel(d(), parallel(d(), d())));
+    let crowd = parallel(ab(four, parallel(more, d())), throww());
+    block(seq(pair(yields(), event(A)), crowd))
+}
+
+/// Eleven equal events beside parts that do nothing, as nodes: where a sum of the nodes' numbers told states apart, these were alike.
+const ELEVEN_AMONG_OTHERS: [u16; 189] = [
+    2, 0, 0, 2, 0, 0, 7, 0, 1, 1, 1, 0, 7, 2, 3, 2, 0, 0, 7, 4, 5, 2, 0, 0, 7, 6, 7, 2, 0, 0, 7, 8, 9, 2, 0,
+    0, 1, 1, 0, 1, 1, 0, 7, 12, 13, 7, 11, 14, 7, 10, 15, 2, 0, 0, 7, 16, 17, 2, 0, 0, 7, 18, 19, 2, 0, 0, 7,
+    20, 21, 2, 0, 0, 7, 22, 23, 2, 0, 0, 7, 24, 25, 1, 1, 0, 7, 26, 27, 2, 0, 0, 7, 28, 29, 2, 0, 0, 1, 1, 0,
+    7, 31, 32, 7, 30, 33, 2, 0, 0, 1, 1, 0, 7, 35, 36, 7, 34, 37, 2, 0, 0, 7, 38, 39, 1, 1, 0, 7, 40, 41, 2,
+    0, 0, 7, 42, 43, 2, 0, 0, 7, 44, 45, 2, 0, 0, 7, 46, 47, 1, 1, 0, 7, 48, 49, 2, 0, 0, 7, 50, 51, 2, 0, 0,
+    7, 52, 53, 1, 1, 0, 1, 1, 0, 1, 1, 0, 7, 56, 57, 7, 55, 58, 7, 54, 59, 2, 0, 0, 7, 60, 61,
+];
 
 /// `first`, and so many copies of a part beside it.
 fn beside(first: Drawing, copies: usize, part: &Drawing) -> Drawing {
@@ -109,8 +167,11 @@ fn on_machines(file: FlowFile) -> FlowFile {
 // ---- their files ----
 
 fn file(flow: &Drawing, records: &[u16]) -> FlowFile {
-    let nodes = flow.table();
-    FlowFile::plain(plain_names(&nodes, records), nodes, records.to_vec())
+    table_file(&flow.table(), records)
+}
+
+fn table_file(nodes: &[u16], records: &[u16]) -> FlowFile {
+    FlowFile::plain(plain_names(nodes, records), nodes.to_vec(), records.to_vec())
 }
 
 /// A name for every event, each a step of its own.
@@ -122,9 +183,8 @@ fn plain_names(nodes: &[u16], records: &[u16]) -> Vec<Entry> {
 
 /// Each file's name and bytes.
 pub fn files() -> Vec<(String, Vec<u8>)> {
-    let named = |name: &str, file: FlowFile| (format!("{name}.flow"), file.bytes());
-    let judged = all().into_iter().map(|(name, flow, records)| named(name, file(&flow, &records)));
-    judged.chain(batches().into_iter().map(|(name, file)| named(name, file))).collect()
+    let files = all().into_iter().chain(batches());
+    files.map(|(name, file)| (format!("{name}.flow"), file.bytes())).collect()
 }
 
 pub fn write(folder: &str) -> io::Result<String> {

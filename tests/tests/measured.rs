@@ -20,24 +20,42 @@ fn the_files_are_up_to_date() {
 
 #[test]
 fn states_and_how_many_differ() {
+    const MILLION: u32 = 1_000_000;
     let figures = [
-        ("paraa", 986_410, 512),
-        ("choice", 107_131, 454),
-        ("yield", 566_085, 233),
-        ("undo", 765, 24),
-        ("lines", 93_310, 42),
-        ("seven", 381, 381),
-        ("pairs", 245_680, 20_471),
-        ("twelve", 1_302_061_345, 4_096),
+        ("paraa", u32::MAX, 986_410, 512),
+        ("choice", u32::MAX, 107_131, 454),
+        ("yield", u32::MAX, 566_085, 233),
+        ("undo", u32::MAX, 765, 24),
+        ("lines", u32::MAX, 93_310, 42),
+        ("seven", u32::MAX, 381, 381),
+        ("pairs", u32::MAX, 245_680, 20_471),
+        ("twelve", u32::MAX, 1_302_061_345, 4_096),
+        ("bad11", u32::MAX, 108_505_112, 2_048),
+        ("nestp", MILLION, MILLION, 2),
+        ("c3s12", MILLION, MILLION, 2),
+        // One search at each level.
+        ("levels2", u32::MAX, 2_049, 2),
+        ("levels4", u32::MAX, 2_049, 2),
+        ("levels8", u32::MAX, 2_049, 2),
     ];
     with_deep_stack(move || {
-        for (name, entered, different) in figures {
+        for (name, allowance, entered, different) in figures {
             let file = read(&std::fs::read(folder().join(format!("{name}.flow"))).unwrap()).unwrap();
-            let names = file.names_section();
-            let effort = Lent::enough(Some(&names), &file.nodes, &file.records, u32::MAX).effort();
+            let (names, sets) = (file.names_section(), file.lent_sets());
+            let lent = Lent::enough(Some(&names), &file.nodes, &file.records, allowance);
+            let effort = Lent { sets: &sets, ..lent }.effort();
             assert_eq!(effort, Effort { entered, different }, "{name}");
         }
     });
+}
+
+/// The flows of the levels have as many nodes.
+#[test]
+fn levels_are_of_one_size() {
+    for name in ["levels2", "levels4", "levels8"] {
+        let file = read(&std::fs::read(folder().join(format!("{name}.flow"))).unwrap()).unwrap();
+        assert_eq!(file.nodes.len(), 3 * 63, "{name}");
+    }
 }
 
 /// A panel's calls after each record of a batch, all together: the states that they enter, how many of them differ, how many calls list

@@ -453,6 +453,12 @@ pub fn case(rng: &mut Rng) -> Case {
     around_the_count(rng, call)
 }
 
+/// What may come next after a beginning of a file's records, with its names or without.
+pub fn case_of(rng: &mut Rng, file: FlowFile, named: bool) -> Case {
+    let call = next_of(rng, file);
+    around_the_count(rng, if named { call } else { call.nameless() })
+}
+
 /// What may come next after a beginning of a file's records, with its names and its sets.
 fn next_of(rng: &mut Rng, file: FlowFile) -> Call {
     let (names, sets, records) = (file.names_section(), file.lent_sets(), beginning(rng, &file.records));

@@ -4,7 +4,7 @@
 //!   `reading`, `writing`, `lending`, `listing` and `meeting` begin with.
 //! - `judging`: flows and records for the judge; `undoing`: small flows that are all about compensations;
 //!   `wide`: families with many runs or many compensations; `repeating`: flows of equal parts.
-//! - `tandem`: flows with joint parallels, and their sets; `meeting`: cases of them.
+//! - `tandem`: flows with joint parallels, and their sets; `meeting`: cases of them. `nesting`: blocks in blocks, in fresh cases only.
 //! - `naming`: names, and flows whose leaves carry them; `filing`: flow files, whole, cut and damaged.
 //! - `spoiling`: one damage for each refusal number; `damaging`: damages to names, nodes, records and sets lent one by one.
 //! - `reading`: files for the reader itself; `writing`: calls of the writer; `lending`: calls of the judge with names and without;
@@ -21,6 +21,7 @@ pub mod listing;
 pub mod malformed;
 pub mod meeting;
 pub mod naming;
+pub mod nesting;
 pub mod reading;
 pub mod repeating;
 pub mod showing;
@@ -235,16 +236,40 @@ pub struct Stream {
     fixed: std::vec::IntoIter<(&'static str, Case)>,
     /// Random cases that are to follow one another.
     waiting: VecDeque<Made>,
+    /// Once in so many times a random case is one of `nesting`; never, if 0.
+    nested_once_in: usize,
 }
 
 impl Stream {
+    /// Of which the stored run is the beginning.
     pub fn new(seed: u64) -> Stream {
-        Stream { rng: Rng::new(seed), fixed: fixed::cases().into_iter(), waiting: VecDeque::new() }
+        Stream {
+            rng: Rng::new(seed),
+            fixed: fixed::cases().into_iter(),
+            waiting: VecDeque::new(),
+            nested_once_in: 0,
+        }
+    }
+
+    /// A part of the fresh cases of a seed. The first part begins with the fixed ones; all parts are different, and can be made side by side.
+    fn part(seed: u64, part: usize) -> Stream {
+        let mut seeds = Rng::new(seed);
+        let own = (0..=part).fold(0, |_, _| seeds.turn());
+        let fixed = if part == 0 { fixed::cases() } else { vec![] };
+        Stream {
+            rng: Rng::new(own),
+            fixed: fixed.into_iter(),
+            waiting: VecDeque::new(),
+            nested_once_in: NESTED_ONCE_IN,
+        }
     }
 
     /// A random case of a random family, or some that belong together; none if it asks for too many states.
     fn random(&mut self) -> VecDeque<Made> {
         let rng = &mut self.rng;
+        if self.nested_once_in > 0 && rng.once_in(self.nested_once_in) {
+            return Made::within(PATIENCE, "nested", nesting::case(rng)).into_iter().collect();
+        }
         let (family, case) = match rng.below(208) {
             0..=21 => ("judge", judging::case(rng)),
             22..=39 => ("judge, undoing", undoing::case(rng)),
@@ -298,6 +323,36 @@ impl Iterator for Stream {
     }
 }
 
+/// Of the fresh cases, this share is of `nesting`.
+const NESTED_ONCE_IN: usize = 4;
+
+/// How many fresh cases a part has, but the last.
+const PART: u64 = 20_000;
+
+/// So many fresh cases of a seed, in parts that can be made by themselves.
+pub fn fresh(count: u64, seed: u64) -> impl Iterator<Item = Part> {
+    let length = move |part| PART.min(count - PART * part) as usize;
+    (0..count.div_ceil(PART)).map(move |part| Part { seed, part: part as usize, length: length(part) })
+}
+
+#[derive(Clone, Copy, Debug)]
+pub struct Part {
+    pub seed: u64,
+    pub part: usize,
+    pub length: usize,
+}
+
+impl Part {
+    pub fn cases(&self) -> impl Iterator<Item = Made> {
+        Stream::part(self.seed, self.part).take(self.length)
+    }
+
+    /// The number of its first case among all.
+    pub fn first(&self) -> u64 {
+        self.part as u64 * PART
+    }
+}
+
 /// The gate's stored run, `crates/replay/stdin` and `stdout`: so many cases of this seed.
 pub const STORED_CASES: usize = 18_000;
 pub const STORED_SEED: u64 = 1;
@@ -342,6 +397,24 @@ struct OfAsked {
 }
 
 impl Totals {
+    /// What others have counted, too.
+    pub fn add(&mut self, others: Totals) {
+        self.cases += others.cases;
+        for (family, words) in others.families {
+            let own = self.families.entry(family).or_default();
+            words.into_iter().for_each(|(word, n)| *own.entry(word).or_default() += n);
+        }
+        for (asked, of_asked) in others.asked {
+            let own = self.asked.entry(asked).or_default();
+            own.states += of_asked.states;
+            of_asked.words.into_iter().for_each(|(word, n)| *own.words.entry(word).or_default() += n);
+            of_asked
+                .refusals
+                .into_iter()
+                .for_each(|(number, n)| *own.refusals.entry(number).or_default() += n);
+        }
+    }
+
     pub fn count(&mut self, made: &Made) {
         self.cases += 1;
         let of_asked = self.asked.entry(made.case.asked()).or_default();
