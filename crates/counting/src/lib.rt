@@ -112,7 +112,7 @@ fn both_view(cue: u64, operator: Operator, p: View, q: View) -> View
     }
 }
 
-pub fn basic_word(simple: Simple) -> Word
+fn basic_word(simple: Simple) -> Word
     ensures { λ r. ⌜ r ≡ simpleW simple ⌝ }
 {
     match simple {
@@ -122,7 +122,7 @@ pub fn basic_word(simple: Simple) -> Word
     }
 }
 
-pub fn both_word(cue: u64, operator: Operator, p: Word, q: Word) -> Word
+fn both_word(cue: u64, operator: Operator, p: Word, q: Word) -> Word
     ensures { λ r. ⌜ r ≡ operatorW cue operator p q ⌝ }
 {
     match operator {
