@@ -167,9 +167,6 @@ module _ {ns t : List ℕ} {i : ℕ} {two : Two} (spot : Spot ns t i) (e : cours
     pair-sets : Sets t₁ i m t′
     pair-sets = set-sets (omega (arith, spot .room, x .long)) f
 
-    pub pair-spot : Spot ns t′ (two .second)
-    pair-spot = spot-down ns pair-tree (pair-twins .other) pair-sets (same-room spot (x .long))
-
     pair-same : part ns (modes t′) (two .second) ≡ part ns (modes t) (two .second)
     pair-same = same-part ns pair-tree (pair-twins .other) pair-sets ∙ kept-part ns pair-tree (two .first) (pair-twins .free) (x .kept)
 

@@ -13,13 +13,12 @@ use Rattle.tallies.specs.Bare.{bareW}
 use Rattle.states.specs.declared.Sense.the-variants.{Undoing}
 use Rattle.states.specs.declared.Role.{Role}
 use Rattle.states.specs.declared.Role.the-variants.{Plain, Running}
-use Rattle.states.specs.State.{part, modes}
+use Rattle.states.specs.State.{part}
 use Rattle.states.specs.Stored.{Right, together, held-word, counted-std, own, noted, stored}
 use Rattle.states.specs.StateLaws.{held-stored}
-use Rattle.states.specs.Rows.{same-row, Entry, Notes, entries}
+use Rattle.states.specs.Rows.{same-row, Entry}
 use Rattle.states.specs.RowLaws.{row-same}
-use Rattle.states.specs.Roles.{get, many, Sight, look, Keeps, ok}
-use Rattle.states.specs.Contracts.{Scene, stored-at, Counted}
+use Rattle.states.specs.Roles.{get, many, look, Keeps, ok}
 
 together-in : (r : Role) (x y : Right) → T (ok r x) → T (ok r y) → T (ok r (together x y))
 together-in (Plain s) x y h k = and-in (x .std s) (y .std s) h k
@@ -85,7 +84,3 @@ module _ (ns : List ℕ) (a : ℕ) (m : ℕ → ℕ) (c : ℕ → Entry) (i : �
     held-in t e = and-in (own ns a m c i .held) (stored ns a m c i .held)
         (and-in (counted-std ns a m c Undoing i) held-own (and-left (counted-std ns a m c Undoing i) (stored ns a m c i .std Undoing) t) (row-same _ _ e))
         (subst T (sym (held-stored ns tree a m c i)) (and-right (counted-std ns a m c Undoing i) (stored ns a m c i .std Undoing) t))
-
--- what was counted is right for a step
-pub counted-right : {s : Scene} {r : Role} {i : ℕ} {c c′ : Notes} {v : Sight r} → Counted s r i c c′ v → T (ok r (stored-at s c′ i))
-counted-right {s} {r} {i} {c′ = c′} w = noted-stored (s .ns) (s .a) (modes (s .t)) (entries c′) i r (w .right)
