@@ -2,13 +2,13 @@
 use flow::Refusal;
 
 // How many numbers were listed, and how many states were entered.
-#[derive(Drop)]
+#[derive(Clone, Copy)]
 pub struct Found {
     pub length: u32,
     pub count: u32,
 }
 
-#[derive(Drop)]
+#[derive(Clone, Copy)]
 pub enum Next {
     Listed(Found),
     Undecided(Found),

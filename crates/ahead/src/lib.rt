@@ -1,5 +1,7 @@
 // What may come next: which events and closings can follow a beginning of a record list, found by the search of all its runs. `next` is lent
 // nodes, and a node takes its own event; `next_named` is lent a names section too, and a node without a machine takes a record of any.
+#![tactic(auto)]
+
 pub mod answer;
 
 ghost use Rattle.std.specs.Prelude.{◌≡◌, ◌≤◌, length};

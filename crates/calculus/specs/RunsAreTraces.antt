@@ -175,6 +175,7 @@ blocked_runs pp (tr s w) = (λ h. by h, λ r. blk_run r)
 
 skip_run : {s : List ℕ} {w : Closing} → Run skip s w → tr s w ≡ tr [] done
 skip_run (closes skip_ends) = refl
+skip_run (goes step _) = elim step [ ]
 
 skip_runs : SameSets (only (tr [] done)) (Runs skip)
 skip_runs (tr s w) = (λ e. subst (Runs skip) (sym e) (closes skip_ends), λ r. skip_run r)
@@ -337,6 +338,7 @@ throw_runs (tr s w) = (λ r. by r, λ e. subst (Runs throw) (sym e) (closes thro
   where
     by : {s : List ℕ} {w : Closing} → Run throw s w → tr s w ≡ tr [] failed
     by (closes throw_ends) = refl
+    by (goes step _) = elim step [ ]
 
 yield_runs : SameSets (Runs yield) (Tr yield)
 yield_runs (tr s w) = (λ r. by r, λ h. of h)
@@ -344,6 +346,7 @@ yield_runs (tr s w) = (λ r. by r, λ h. of h)
     by : {s : List ℕ} {w : Closing} → Run yield s w → Tr yield (tr s w)
     by (closes yield_ends) = inr refl
     by (closes yield_yields) = inl refl
+    by (goes step _) = elim step [ ]
 
     of : {z : Trace} → Tr yield z → Runs yield z
     of (inl e) = subst (Runs yield) (sym e) (closes yield_yields)
@@ -353,6 +356,7 @@ ev_runs : (l : Leaf) → SameSets (Runs (ev l)) (Tr (ev l))
 ev_runs l (tr s w) = (λ r. by r, λ h. subst (Runs (ev l)) (sym h.2) (goes (ev_step h.1) (closes skip_ends)))
   where
     by : {s : List ℕ} {w : Closing} → Run (ev l) s w → Tr (ev l) (tr s w)
+    by (closes ending) = elim ending [ ]
     by (goes (ev_step {a} h) r) = (a, h, ap (pre a) (skip_run r))
 
 -- in the words of sets

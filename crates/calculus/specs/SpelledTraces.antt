@@ -1,7 +1,7 @@
 -- A flow in which each leaf is spelled out by a part that has the leaf's traces: it has the traces of the flow (`spelled_part`,
 -- `cspelled_part`; over record lists `spelled_in_traces`), and its complete runs (`spelled_complete`). Assumes nothing.
 use Rattle.std.specs.Prelude.{◌↔◌, List}
-use Rattle.std.proofs.Math.Logic.{Iff·rfl, Iff·symm, Iff·trans}
+use Rattle.std.proofs.Math.Logic.Iff
 use Rattle.calculus.specs.Term.{Leaf, Std, Cmp, skip, throw, yield, ev, seq, alt, par, hnd, blk, pair, cseq, calt, cpar, held}
 use Rattle.calculus.specs.Traces.{Trace, SamePairs, Tr, CTr}
 use Rattle.calculus.specs.Records.{Record, State, over, std, cmp, Complete, InTraces}
@@ -31,9 +31,9 @@ module _ (f : Leaf → Std) where
     cspelled_part (held qq r) h = holding_cong (cspelled_part qq h.0) (λ y. spelled_part r h.1 y)
 
   pub spelled_in_traces : (s : State) → EachState (SameLeaf f) AnySet s → (batch : List Record) → InTraces s batch ↔ InTraces (spelled_state f s) batch
-  spelled_in_traces over h batch = Iff·rfl
+  spelled_in_traces over h batch = Iff.rfl
   spelled_in_traces (std p) h batch = std_traces p (spelled f p) (spelled_part p h) batch
   spelled_in_traces (cmp pp) h batch = cmp_traces pp (cspelled f pp) (cspelled_part pp h) batch
 
   pub spelled_complete : (s : State) → EachState (SameLeaf f) AnySet s → (batch : List Record) → Complete s batch ↔ Complete (spelled_state f s) batch
-  spelled_complete s h batch = Iff·trans (complete_traces s batch) (Iff·trans (spelled_in_traces s h batch) (Iff·symm (complete_traces (spelled_state f s) batch)))
+  spelled_complete s h batch = Iff.trans (complete_traces s batch) (Iff.trans (spelled_in_traces s h batch) (Iff.symm (complete_traces (spelled_state f s) batch)))

@@ -1,1 +1,2 @@
 // What a flow means stands in specs/: this crate has no code of its own.
+#![tactic(auto)]

@@ -2,6 +2,8 @@
 // left in two tables, for all successors of the state to be found by: each part's number of steps in `c`, and in `d`, nine numbers a node,
 // of a part that runs what weights look at, of one that is held whether it can end done. Only nodes that are live in the state are
 // visited. Standard and compensable nodes call each other, and child numbers fall.
+#![tactic(auto)]
+
 ghost use Rattle.std.specs.Prelude.{◌≡◌, ◌+◌, ◌<◌, length};
 ghost use Rattle.flow.specs.Cues.{takes_cue};
 ghost use Rattle.tallies.specs.Formulas.{skip_v, ev_v, pair_w};

@@ -2,6 +2,8 @@
 // a node. `check_table` answers the first of the refusals 1 to 9, 22 and 23, `check_records` of 10 to 13, by whether the records are lent
 // whole or as a beginning; the parts of both that the flow file's reader and writer want by themselves are public too. The definitions that
 // the contracts cite are in specs/. Nothing is written here but marks of the function's own, and no lent slice is changed.
+#![tactic(auto)]
+
 ghost use Rattle.std.specs.Prelude.{◌≡◌, true, false, cond, ◌&&◌, ◌+◌, ◌*◌, ◌-◌, ◌<◌, ◌≤◌, T, ltb, leb, length, get_or, set};
 ghost use Rattle.std.specs.Bool.{xor};
 ghost use Rattle.flow.specs.declared.Check.TheVariants.{Fine};
@@ -13,27 +15,27 @@ ghost use Rattle.flow.specs.Refusals.{no_record, closings_wanted, node_grounds, 
 ghost use Rattle.flow.specs.Checks.{refused, first, each, table_length_check, sets_check, table_check, nodes_check, values_check, closings_check, records_length_check, records_check};
 
 // A refusal of document 01: its number, and the node or record that it names.
-#[derive(Drop)]
+#[derive(Clone, Copy)]
 pub struct Refusal {
     pub number: u16,
     pub place: u32,
 }
 
-#[derive(Drop)]
+#[derive(Clone, Copy)]
 pub enum Check {
     Fine,
     Refused(Refusal),
 }
 
 // A record list as it is closed, or a beginning of one: not yet closed, and perhaps empty.
-#[derive(Drop)]
+#[derive(Clone, Copy)]
 pub enum Extent {
     Whole,
     Beginning,
 }
 
 // SKIP, THROW and YIELD, alone or paired with SKIP.
-#[derive(Drop)]
+#[derive(Clone, Copy)]
 pub enum Simple {
     Skip,
     Throw,
@@ -41,7 +43,7 @@ pub enum Simple {
 }
 
 // What joins two parts of either sort. A parallel has the number of its set of joint events, or `NO_SET`.
-#[derive(Drop)]
+#[derive(Clone, Copy)]
 pub enum Operator {
     Sequence,
     Choice,
@@ -49,7 +51,7 @@ pub enum Operator {
 }
 
 // The two children of a node.
-#[derive(Drop)]
+#[derive(Clone, Copy)]
 pub struct Two {
     pub first: usize,
     pub second: usize,
@@ -57,7 +59,7 @@ pub struct Two {
 
 // What a node is, in the calculus's words, with its event or its children. Only `node_of` goes by the number of a kind, with the table of
 // each sort, `standard_of` and `compensable_of`.
-#[derive(Drop)]
+#[derive(Clone, Copy)]
 pub enum Node {
     Event(u16),
     Basic(Simple),
@@ -72,7 +74,7 @@ pub enum Node {
 
 // What is asked of a node's fields and children: whether there is such a kind, its sort, whether its first field is an event,
 // how many children its fields name, and whether these are standard.
-#[derive(Drop)]
+#[derive(Clone, Copy)]
 pub struct Form {
     pub known: bool,
     pub standard: bool,
@@ -82,7 +84,7 @@ pub struct Form {
 }
 
 // The two fields of a node, and whether they name one child, the first, or two.
-#[derive(Drop)]
+#[derive(Clone, Copy)]
 struct Fields {
     first: u16,
     second: u16,

@@ -2,6 +2,8 @@
 // refusal; the names section, the sections of numbers and the sets; the checks on the numbers of a file, and on lists that are lent to be
 // written.
 // What each answers is defined in specs/, on the plan of the file. Not here: the file as a whole (crates `reader` and `writer`).
+#![tactic(auto)]
+
 ghost use Rattle.std.specs.Prelude.{◌≡◌, ◌+◌, ◌*◌, ◌<◌, ◌≤◌, length};
 ghost use Rattle.flow.specs.Legends.{set_count};
 ghost use Rattle.flow.specs.Checks.{first};
@@ -35,26 +37,26 @@ const MOST_NAMES: u16 = 256;
 const MOST_BYTES: u16 = 40;
 
 // A place in the file, in bytes.
-#[derive(Drop)]
+#[derive(Clone, Copy)]
 pub struct Cursor {
     pub at: usize,
 }
 
 // What an item holds, and the cursor behind it.
-#[derive(Drop)]
+#[derive(Clone, Copy)]
 pub struct Got {
     pub value: u16,
     pub next: Cursor,
 }
 
-#[derive(Drop)]
+#[derive(Clone, Copy)]
 pub enum Item {
     Has(Got),
     Bad(Refusal),
 }
 
 // What a count or a length may be, and the numbers that refuse it below `least` and above `most`.
-#[derive(Drop)]
+#[derive(Clone, Copy)]
 pub struct Range {
     pub least: u16,
     pub few: u16,

@@ -1,5 +1,7 @@
 // The judge: what is refused, or the counted search of the flow and the answer that comes of it. `judge` is lent nodes and records, and a
 // node takes its own event; `judge_named` is lent a names section too, and a node without a machine takes a record of any.
+#![tactic(auto)]
+
 ghost use Rattle.std.specs.Prelude.{◌≡◌, ◌≤◌, length};
 ghost use Rattle.search.specs.Visits.{out_of};
 ghost use Rattle.search.specs.Searches.{LeftWithin, SearchReady};
@@ -10,13 +12,13 @@ use flow::{Check, Extent, Refusal};
 use search::Out;
 
 // How far the records were followed, and how many states were entered.
-#[derive(Drop)]
+#[derive(Clone, Copy)]
 pub struct Reach {
     pub place: u32,
     pub count: u32,
 }
 
-#[derive(Drop)]
+#[derive(Clone, Copy)]
 pub enum Answer {
     Accepted(Reach),
     Rejected(Reach),

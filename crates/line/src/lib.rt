@@ -1,5 +1,7 @@
 // Text put into lent bytes: the line that the program prints, which is the verdict word, the refusal number or 0, the place and the
 // count, with single spaces, and one line feed (specs/Line.antt); bytes in hexadecimal, and names as they are shown (specs/Shown.antt).
+#![tactic(auto)]
+
 ghost use Rattle.std.specs.Prelude.{◌≡◌, ◌+◌, ◌*◌, ◌≤◌, ◌<◌, length};
 ghost use Rattle.io.specs.Counts.{IsPrefixLen};
 ghost use Rattle.io.specs.Digits.{hex_digit_ascii};
@@ -7,7 +9,7 @@ ghost use Rattle.line.specs.Line.{spelled, decimal, spaced, text_of, line_of, Pu
 ghost use Rattle.line.specs.Shown.{hex_byte, is_text, shown_byte, shown};
 
 // The verdict words.
-#[derive(Drop)]
+#[derive(Clone, Copy)]
 pub enum VerdictWord {
     Accepted,
     Rejected,
@@ -16,7 +18,7 @@ pub enum VerdictWord {
 }
 
 // What a line tells.
-#[derive(Drop)]
+#[derive(Clone, Copy)]
 pub struct Line {
     pub word: VerdictWord,
     pub number: u16,

@@ -3,6 +3,8 @@
 // cue is, is defined in crate `flow`, Cues; which other event it holds, in specs/Others.antt. Then the cues of all numbers that may follow
 // a beginning of a record list (02, Three), but for events that no leaf takes (specs/Asks.antt). Not here: whether the names section or the
 // sets are refused (crates `format` and `flow`): bytes that are missing at the end of the sets count as 0.
+#![tactic(auto)]
+
 ghost use Rattle.std.specs.Prelude.{◌≡◌, map, false, ◌||◌, cond, ◌+◌, ◌*◌, ◌<◌, ◌≤◌, ◌^◌, eqb, ltb, length, get_or};
 ghost use Rattle.flow.specs.Records.{most_events, all_numbers};
 ghost use Rattle.flow.specs.Refusals.{count};

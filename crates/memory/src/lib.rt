@@ -3,18 +3,20 @@
 // a slot, with two bits a mode. Slots come in pairs. A state has one pair, whose slot with the smaller mark it takes: to forget is always
 // allowed. What fits no slot, a mode above 3 or a reach of 65,536, is not remembered. No key is 0, so marks of zeros remember nothing,
 // and neither do empty slices.
+#![tactic(auto)]
+
 ghost use Rattle.std.specs.Prelude.{◌≡◌, true, ◌+◌, ◌*◌, ◌<◌, ◌≤◌, length, set};
 ghost use Rattle.memory.specs.Memory.{two_bits, padded, bytes, most_bytes, packed, mixed, pair_of, pairs, mark_of, has, sight_at, lesser, Fitting, recalled_in, recalled, Remembered};
 
 // What was seen of a state: how many states its search entered, and how far that came.
-#[derive(Drop)]
+#[derive(Clone, Copy)]
 pub struct Sight {
     pub entered: u32,
     pub reached: u32,
 }
 
 // What a memory has of a state, or else the pair of slots to put it into.
-#[derive(Drop)]
+#[derive(Clone, Copy)]
 pub enum Recalled {
     Known(Sight),
     Unknown(usize),

@@ -1,5 +1,7 @@
 // Judges the flow file on standard input and prints one line: verdict word, refusal number or 0, place, count. 22,409 bytes are
 // one more than the longest file that is not refused by 21.
+#![tactic(auto)]
+
 use libc::{STDIN_FILENO, STDOUT_FILENO};
 
 fn main() {

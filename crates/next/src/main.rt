@@ -1,6 +1,8 @@
 // Lists what may follow the first records of the flow file on standard input: a line for each number, then the count; or prints the
 // program's line, if the file is refused or undecided. Two bytes before the file say how many records, the low one first: 65535 is all
 // but the last. 22,409 bytes are one more than the longest file that is not refused by 21.
+#![tactic(auto)]
+
 use libc::{STDIN_FILENO, STDOUT_FILENO};
 
 fn main() {

@@ -1,6 +1,8 @@
 // A flow file judged by its own names as the program judges it, and the line that the program prints: specs/Answering.antt and
 // Program.antt define both. A flow file read and written again: what comes of it is defined in specs/Rewriting.antt. What may follow a
 // file's first records, as text: specs/Listing.antt.
+#![tactic(auto)]
+
 mod listing;
 
 ghost use Rattle.std.specs.Prelude.{◌≡◌};

@@ -4,7 +4,7 @@
 -- Earliest, Draws. Theorems only. Assumes nothing.
 use Rattle.std.specs.Prelude.{ℕ, ◌<◌, ◌≤◌, ◌≡◌, List, ◌↔◌, length}
 use Rattle.std.proofs.Common.{sym, ap, ◌∙◌}
-use Rattle.std.proofs.Math.Logic.{Iff·symm, Iff·trans}
+use Rattle.std.proofs.Math.Logic.Iff
 use Rattle.std.proofs.lemmas.List.{length-map}
 use Rattle.calculus.specs.Records.{Record, State, Complete, InTraces}
 use Rattle.calculus.specs.Search.{visit}
@@ -38,7 +38,7 @@ module _ (sets ns rs : List ℕ) where
   pub refused_when : (room allowance number place : ℕ)
       → (told (judged sets ns rs room allowance) ≡ refusal number place) ↔ Earliest (record { number = number; place = place }) (judge_order sets ns rs room)
   refused_when room allowance number place =
-      Iff·trans (refusal_told (judge_check sets ns rs room) (flow_of sets ns) rs allowance number place) (given_exactly sets ns rs room (record { number = number; place = place }))
+      Iff.trans (refusal_told (judge_check sets ns rs room) (flow_of sets ns) rs allowance number place) (given_exactly sets ns rs room (record { number = number; place = place }))
 
   -- and nothing is refused exactly when no condition of the table holds anywhere
   pub judged_when : (room allowance : ℕ) → ((told (judged sets ns rs room allowance)).word ≡ VerdictWord.refused → ⊥) ↔ Nowhere (judge_order sets ns rs room)
@@ -129,7 +129,7 @@ module _ {flow flow' : State} (redrawn : Redrawn flow flow') where
 
   pub redrawn_flow_traces : (batch : List Record) → InTraces flow batch ↔ InTraces flow' batch
   redrawn_flow_traces batch =
-      Iff·trans (Iff·symm (complete_traces flow batch)) (Iff·trans (redrawn_flow_runs batch) (complete_traces flow' batch))
+      Iff.trans (Iff.symm (complete_traces flow batch)) (Iff.trans (redrawn_flow_runs batch) (complete_traces flow' batch))
 
 module _ (sets ns ns' : List ℕ) (redrawn : Redrawn (flow_of sets ns) (flow_of sets ns')) (within : table_check sets ns ≡ Fine) (within' : table_check sets ns' ≡ Fine) where
   -- of tables
@@ -145,7 +145,7 @@ module _ (sets ns ns' : List ℕ) (redrawn : Redrawn (flow_of sets ns) (flow_of 
       → ((told (judged sets ns rs room allowance)).word ≡ VerdictWord.undecided → ⊥) → ((told (judged sets ns' rs room' allowance')).word ≡ VerdictWord.undecided → ⊥)
       → ((told (judged sets ns rs room allowance)).word ≡ VerdictWord.accepted) ↔ ((told (judged sets ns' rs room' allowance')).word ≡ VerdictWord.accepted)
   redrawn_accepted rs room room' allowance allowance' j j' d d' =
-      Iff·trans (accepted_exactly sets ns rs room allowance j d) (Iff·trans (redrawn_runs (records rs)) (Iff·symm (accepted_exactly sets ns' rs room' allowance' j' d')))
+      Iff.trans (accepted_exactly sets ns rs room allowance j d) (Iff.trans (redrawn_runs (records rs)) (Iff.symm (accepted_exactly sets ns' rs room' allowance' j' d')))
 
   -- and in all: the same refusal, or the same word and, where both are rejected, the same place
   pub redrawn_same : (rs : List ℕ) (room room' allowance allowance' : ℕ) → room_wanted ns rs ≤ room → room_wanted ns' rs ≤ room'

@@ -4,7 +4,7 @@
 -- The definitions it is stated with: FollowingStated; of ahead Told; of search Room; of the calculus Records and Ahead; of flow Refusals,
 -- Earliest, Draws; of format NameFaults and Matching. Theorems only. Assumes nothing.
 use Rattle.std.specs.Prelude.{ℕ, ◌≤◌, List, [], ◌↔◌, ◌≡◌, length}
-use Rattle.std.proofs.Math.Logic.{Iff·trans}
+use Rattle.std.proofs.Math.Logic.Iff
 use Rattle.std.proofs.Common.{subst}
 use Rattle.calculus.specs.Records.{State}
 use Rattle.calculus.specs.Search.{visit}
@@ -40,12 +40,12 @@ module _ (sets : List ℕ) {ns rs : List ℕ} {allowance : ℕ} {list work : Lis
   pub next_refused_when : (number place : ℕ)
       → (told r ≡ refusal number place) ↔ Earliest (record { number = number; place = place }) (next_order sets ns rs (length list) (length work))
   unfolding next_check
-  next_refused_when number place = Iff·trans (call_refusal call number place) (earliest_exactly (next_order sets ns rs (length list) (length work)) (record { number = number; place = place }))
+  next_refused_when number place = Iff.trans (call_refusal call number place) (earliest_exactly (next_order sets ns rs (length list) (length work)) (record { number = number; place = place }))
 
   -- and nothing is refused exactly when no condition of the order holds anywhere
   pub next_listed_when : ((told r).word ≡ NextWord.refused → ⊥) ↔ Nowhere (next_order sets ns rs (length list) (length work))
   unfolding next_check
-  next_listed_when = Iff·trans (call_not_refused call) (nowhere_exactly (next_order sets ns rs (length list) (length work)))
+  next_listed_when = Iff.trans (call_not_refused call) (nowhere_exactly (next_order sets ns rs (length list) (length work)))
 
   -- "a refusal changes no lent byte": neither the table's nor the work bytes
   pub next_refusal_keeps : (told r).word ≡ NextWord.refused → (list' ≡ list) × (after ≡ work)
@@ -92,13 +92,13 @@ module _ (s sets : List ℕ) {ns rs : List ℕ} {allowance : ℕ} {list work : L
     -- a refusal is given exactly when one of its ways holds: of the names section, or the earliest of the order behind it
     pub named_next_refused_when : (number place : ℕ) → (told r ≡ refusal number place) ↔ NamedRefuses s (named_next_order sets ns rs (length list) (length work)) number place
     unfolding named_next_check
-    named_next_refused_when number place = Iff·trans (call_refusal call number place) (named_exactly s (named_next_order sets ns rs (length list) (length work)) bytes number place)
+    named_next_refused_when number place = Iff.trans (call_refusal call number place) (named_exactly s (named_next_order sets ns rs (length list) (length work)) bytes number place)
 
     -- and nothing is refused exactly of a good names section, with nothing behind it, where no ground of the order holds anywhere
     pub named_next_listed_when : ((told r).word ≡ NextWord.refused → ⊥)
         ↔ ((es : List Entry) × GoodNames es × (s ≡ names_section es) × Nowhere (named_next_order sets ns rs (length list) (length work) es))
     unfolding named_next_check
-    named_next_listed_when = Iff·trans (call_not_refused call) (named_fine s (named_next_order sets ns rs (length list) (length work)) bytes)
+    named_next_listed_when = Iff.trans (call_not_refused call) (named_fine s (named_next_order sets ns rs (length list) (length work)) bytes)
 
     -- "into a lent table"
     pub named_next_table_length : length list' ≡ length list

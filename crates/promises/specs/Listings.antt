@@ -8,7 +8,7 @@ use Rattle.std.proofs.Math.Bool.{true, false}
 use mathlib.Core.List.Memᴰ
 use mathlib.Core.List.{List, [], ◌∷◌, ◌++◌, Memᴰ}
 use Rattle.std.proofs.Common.{inl, inr, ⊎_elim, sym, ◌∙◌, subst, subst₂, arith, eq-or-lt_of_le, length-append, length-drop, leb-true, leb-false}
-use Rattle.std.proofs.Math.Logic.{Iff·symm, Iff·trans}
+use Rattle.std.proofs.Math.Logic.Iff
 use Rattle.std.proofs.Math.Path.{refl, ap}
 use Rattle.std.proofs.Math.Decide.{dec_le}
 use Rattle.std.proofs.Math.Dec.{T}
@@ -197,27 +197,27 @@ module _ (flow : State) (rs : List ℕ) where
   unfolding following
   following_all = record {
     rises = those_rise test all_rises;
-    exactly = λ r. Iff·trans (following_exactly r) (same_second (may_follow_follows (records rs) flow (record_of r) [] refl));
+    exactly = λ r. Iff.trans (following_exactly r) (same_second (may_follow_follows (records rs) flow (record_of r) [] refl));
     runs_listed = λ r value rest c. (following_exactly r).1 (value, complete_passes (on r) rest flow (subst (Complete flow) (sym (append_snoc (records rs) (record_of r) rest)) c));
-    exactly_runs = λ free r. Iff·trans (following_exactly r) (same_second (Iff·trans (passes_complete (on r) flow free) (more_after (records rs) (record_of r) (Complete flow))));
-    exactly_traces = λ free r. Iff·trans (following_exactly r) (same_second (Iff·trans (passes_traces (on r) flow free) (more_after (records rs) (record_of r) (InTraces flow))));
+    exactly_runs = λ free r. Iff.trans (following_exactly r) (same_second (Iff.trans (passes_complete (on r) flow free) (more_after (records rs) (record_of r) (Complete flow))));
+    exactly_traces = λ free r. Iff.trans (following_exactly r) (same_second (Iff.trans (passes_traces (on r) flow free) (more_after (records rs) (record_of r) (InTraces flow))));
   }
 
 -- a number is in such a list exactly if the test of the search passes
 pub listing_tests : {flow : State} {beginning : List Record} {listed : List ℕ} → Listing flow beginning listed
     → (r : ℕ) → Memᴰ r listed ↔ (EventOrClosing r × T (may_follow beginning flow (record_of r)))
-listing_tests {flow} {beginning} f r = Iff·trans (f.exactly r) (same_second (Iff·symm (may_follow_follows beginning flow (record_of r) [] refl)))
+listing_tests {flow} {beginning} f r = Iff.trans (f.exactly r) (same_second (Iff.symm (may_follow_follows beginning flow (record_of r) [] refl)))
 
 -- there is one such list
 pub listing_once : {flow : State} {beginning : List Record} {listed other : List ℕ} → Listing flow beginning listed → Listing flow beginning other → listed ≡ other
-listing_once {listed} {other} f g = rising_once listed other f.rises g.rises (λ r. Iff·trans (f.exactly r) (Iff·symm (g.exactly r)))
+listing_once {listed} {other} f g = rising_once listed other f.rises g.rises (λ r. Iff.trans (f.exactly r) (Iff.symm (g.exactly r)))
 
 -- flows whose runs follow the same records have the same one
 module _ (flow flow' : State) (same : (batch : List Record) (n : ℕ) → Follows flow batch n ↔ Follows flow' batch n) where
   pub same_runs_listing : {beginning : List Record} {listed other : List ℕ} → Listing flow beginning listed → Listing flow' beginning other → listed ≡ other
   same_runs_listing {beginning} {listed} {other} f g =
       rising_once listed other f.rises g.rises
-      (λ r. Iff·trans (f.exactly r) (Iff·trans (same_second (same (beginning ++ (record_of r ∷ [])) (suc (length beginning)))) (Iff·symm (g.exactly r))))
+      (λ r. Iff.trans (f.exactly r) (Iff.trans (same_second (same (beginning ++ (record_of r ∷ [])) (suc (length beginning)))) (Iff.symm (g.exactly r))))
 
 ---- Words are different ----
 

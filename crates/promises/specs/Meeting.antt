@@ -7,7 +7,7 @@ use Rattle.std.specs.Prelude.{ℕ, ◌*◌, ◌-◌, ◌<◌, ◌≡◌, Bool, f
 use Rattle.std.proofs.Math.Path.{refl, ap, subst}
 use Rattle.std.proofs.Common.{sym, inl, inr, ⊎_elim, arith, le-leb}
 use Rattle.std.proofs.Math.Bool.{true, xor}
-use Rattle.std.proofs.Math.Logic.{Iff·symm, Iff·trans}
+use Rattle.std.proofs.Math.Logic.Iff
 use Rattle.std.proofs.Math.Dec.{T, ltb, leb}
 use Rattle.calculus.specs.Term.{Joint, none, Std, Cmp}
 use Rattle.calculus.specs.Records.{State}
@@ -64,7 +64,7 @@ module _ (c : Check) (flow : State) (rs : List ℕ) (allowance : ℕ) where
   printed_by : ((told (judged_by c flow rs allowance)).word ≡ VerdictWord.refused → ⊥) → ((told (judged_by c flow rs allowance)).word ≡ VerdictWord.undecided → ⊥)
       → FreeState flow → ((told (judged_by c flow rs allowance)).word ≡ VerdictWord.accepted) ↔ InPrinted flow (records rs)
   printed_by judged_so decided_so free =
-      Iff·trans ((decided_told c flow rs allowance judged_so).accepted_traces decided_so) (Iff·symm (printed_in_traces flow free (records rs)))
+      Iff.trans ((decided_told c flow rs allowance judged_so).accepted_traces decided_so) (Iff.symm (printed_in_traces flow free (records rs)))
 
 module _ (sets ns rs : List ℕ) (room allowance : ℕ) where
   pub accepted_printed : ((told (judged sets ns rs room allowance)).word ≡ VerdictWord.refused → ⊥) → ((told (judged sets ns rs room allowance)).word ≡ VerdictWord.undecided → ⊥)
@@ -310,14 +310,14 @@ module _ (sets ns rs : List ℕ) (room allowance : ℕ) where
   pub sets_wrong_exactly : (place : ℕ) → (told (judged sets ns rs room allowance) ≡ refusal 23 place) ↔ SetsWrong (table_length_order ns) sets place
   unfolding node_grounds child_grounds value_grounds
   sets_wrong_exactly place =
-      Iff·trans (refused_when sets ns rs room allowance 23 place)
+      Iff.trans (refused_when sets ns rs room allowance 23 place)
       (sets_exactly sets ns (table_length_order ns) (sweep (count ns) (node_grounds (set_count sets) ns) ∷ behind_nodes) (omega arith) (omega arith) place)
 
   -- and for 22 also 23
   pub set_absent_exactly : (place : ℕ) → (told (judged sets ns rs room allowance) ≡ refusal 22 place) ↔ SetAbsent (table_length_order ns ++ sets_order sets) sets ns place
   unfolding node_grounds child_grounds value_grounds
   set_absent_exactly place =
-      Iff·trans (refused_when sets ns rs room allowance 22 place)
+      Iff.trans (refused_when sets ns rs room allowance 22 place)
       (absent_exactly sets ns (table_length_order ns ++ sets_order sets) behind_nodes (omega arith) (omega arith) place)
 
 -- of `judge_named`, where the names section is good: 10 and 11 stand before as well
@@ -332,7 +332,7 @@ module _ (es : List Entry) (good : GoodNames es) (sets ns rs : List ℕ) (room a
       let check = named_judge_check (names_section es) sets ns rs room in
       let order = named_judge_order sets ns rs room es in
       let e : check ≡ first (grounds order) = ap (by_entries (named_judge_order sets ns rs room)) (alone_is es good) in
-      Iff·trans (refusal_told check (named_flow (names_section es) sets ns) rs allowance number place)
+      Iff.trans (refusal_told check (named_flow (names_section es) sets ns) rs allowance number place)
       (subst (λ (c : Check). (c ≡ refused number place) ↔ Earliest (record { number = number; place = place }) order) (sym e)
       (earliest_exactly order (record { number = number; place = place })))
 
@@ -340,7 +340,7 @@ module _ (es : List Entry) (good : GoodNames es) (sets ns rs : List ℕ) (room a
       → (told (judged_named (names_section es) sets ns rs room allowance) ≡ refusal 23 place) ↔ SetsWrong (table_length_order ns ++ records_length_order Whole rs) sets place
   unfolding node_grounds child_grounds value_grounds
   named_sets_wrong_exactly place =
-      Iff·trans (by_order 23 place)
+      Iff.trans (by_order 23 place)
       (sets_exactly sets ns (table_length_order ns ++ records_length_order Whole rs) (sweep (count ns) (node_grounds (set_count sets) ns) ∷ named_behind) (omega arith) (omega arith) place)
 
   pub named_set_absent_exactly : (place : ℕ)
@@ -348,5 +348,5 @@ module _ (es : List Entry) (good : GoodNames es) (sets ns rs : List ℕ) (room a
       ↔ SetAbsent (table_length_order ns ++ (records_length_order Whole rs ++ sets_order sets)) sets ns place
   unfolding node_grounds child_grounds value_grounds
   named_set_absent_exactly place =
-      Iff·trans (by_order 22 place)
+      Iff.trans (by_order 22 place)
       (absent_exactly sets ns (table_length_order ns ++ (records_length_order Whole rs ++ sets_order sets)) named_behind (omega arith) (omega arith) place)

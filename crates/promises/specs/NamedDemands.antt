@@ -5,7 +5,7 @@
 -- means is in Machines. What does not depend on the matching is said once for both entry points (Verdicts). Theorems only. Assumes nothing.
 use Rattle.std.specs.Prelude.{ℕ, ◌≤◌, ◌≡◌, refl, List, [], ◌∷◌, ◌↔◌, length}
 use Rattle.std.proofs.Common.{sym, ap, ◌∙◌, subst}
-use Rattle.std.proofs.Math.Logic.{Iff·trans}
+use Rattle.std.proofs.Math.Logic.Iff
 use Rattle.calculus.specs.Records.{Record, State, Complete, InTraces}
 use Rattle.calculus.specs.Laws.{Redrawn}
 use Rattle.flow.specs.declared.Check.{Check}
@@ -52,7 +52,7 @@ module _ (s sets ns rs : List ℕ) where
         → (told (judged_named s sets ns rs room allowance) ≡ refusal number place) ↔ NamedRefuses s (named_judge_order sets ns rs room) number place
     unfolding named_judge_check
     named_refused_when number place =
-        Iff·trans (refusal_told (named_judge_check s sets ns rs room) (named_flow s sets ns) rs allowance number place)
+        Iff.trans (refusal_told (named_judge_check s sets ns rs room) (named_flow s sets ns) rs allowance number place)
         (named_exactly s (named_judge_order sets ns rs room) bytes number place)
 
     -- and nothing is refused exactly of a good names section, with nothing behind it, where no ground of the order holds anywhere

@@ -4,7 +4,7 @@
 -- choices (`spelled_accepted`, `spelled_accepted_traces`). Of a single leaf Machines has this. Assumes nothing.
 use Rattle.std.specs.Prelude.{ℕ, ◌<◌, ◌≡◌, Bool, not, List, ◌↔◌, T, length}
 use Rattle.std.proofs.Common.{sym, ap, ◌∙◌, subst}
-use Rattle.std.proofs.Math.Logic.{Iff·trans}
+use Rattle.std.proofs.Math.Logic.Iff
 use Rattle.calculus.specs.Records.{Record, Complete, InTraces}
 use Rattle.calculus.specs.Leaves.{EachState, AnySet, SameLeaf}
 use Rattle.calculus.specs.SpelledTraces.{spelled_in_traces, spelled_complete}
@@ -63,7 +63,7 @@ module _ (es : List Entry) (good : GoodNames es) (sets ns rs : List ℕ) (room a
       subst (λ (b : Bool). T (not b)) (sym (e ∙ lists.contents.leaves i w)) tt
 
   pub spelled_accepted : ((told (judged_named (names_section es) sets ns rs room allowance)).word ≡ VerdictWord.accepted) ↔ Complete (spelled_out es (flow_by (with_names es sets) ns)) (records rs)
-  spelled_accepted = Iff·trans ((named_decides es good sets ns rs room allowance judged_so).accepted_exactly decided) (spelled_runs es good sets ns lists.table events (records rs))
+  spelled_accepted = Iff.trans ((named_decides es good sets ns rs room allowance judged_so).accepted_exactly decided) (spelled_runs es good sets ns lists.table events (records rs))
 
   pub spelled_accepted_traces : ((told (judged_named (names_section es) sets ns rs room allowance)).word ≡ VerdictWord.accepted) ↔ InTraces (spelled_out es (flow_by (with_names es sets) ns)) (records rs)
-  spelled_accepted_traces = Iff·trans ((named_decides es good sets ns rs room allowance judged_so).accepted_traces decided) (spelled_traces es good sets ns lists.table events (records rs))
+  spelled_accepted_traces = Iff.trans ((named_decides es good sets ns rs room allowance judged_so).accepted_traces decided) (spelled_traces es good sets ns lists.table events (records rs))

@@ -1,5 +1,7 @@
 // The flow file's reader: a file's bytes to the counts of names, nodes and records, the place of the sets and the two tables, or a
 // refusal with its number and place. What it answers is defined in specs/Reading.antt; the items and checks are those of crate `format`.
+#![tactic(auto)]
+
 ghost use Rattle.std.specs.Prelude.{◌≡◌, ◌*◌};
 ghost use Rattle.flow.specs.declared.Extent.TheVariants.{Whole};
 ghost use Rattle.flow.specs.Checks.{first};
@@ -33,7 +35,7 @@ const RECORD_ROOM: usize = flow::MOST_RECORDS;
 
 // How many names, nodes and records a file has; the offset of its first set, or the file's length where it has none, and how many sets
 // there are.
-#[derive(Drop)]
+#[derive(Clone, Copy)]
 pub struct Counts {
     pub names: u16,
     pub nodes: u16,
@@ -42,14 +44,14 @@ pub struct Counts {
     pub sets: u16,
 }
 
-#[derive(Drop)]
+#[derive(Clone, Copy)]
 pub enum Reading {
     Read(Counts),
     Refused(Refusal),
 }
 
 // Where the numbers of a file stand: of its nodes, of its records, and where they end.
-#[derive(Drop)]
+#[derive(Clone, Copy)]
 struct Offsets {
     counts: Counts,
     nodes: usize,
@@ -57,7 +59,7 @@ struct Offsets {
     end: usize,
 }
 
-#[derive(Drop)]
+#[derive(Clone, Copy)]
 enum Layout {
     At(Offsets),
     Bad(Refusal),

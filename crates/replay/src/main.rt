@@ -2,6 +2,8 @@
 // reads a case and prints its line, a function for each kind; two kinds are calls, whose lists are fetched in one place. What these
 // functions answer depends on standard input, so they promise nothing of it and nothing outside this file calls them. The line itself
 // comes from a function on the bytes that were read, with its whole contract. Anything else prints `bad case` and ends.
+#![tactic(auto)]
+
 mod filler;
 mod input;
 mod judge_line;
@@ -47,7 +49,7 @@ const MOST_ROOM: usize = 70000;
 
 // A call as its case tells it: the function and whether names are lent; the allowance; and how many work bytes, how much room, how many
 // node numbers, records and bytes of sets are lent. What the function does not use may be anything.
-#[derive(Drop)]
+#[derive(Clone, Copy)]
 struct Call {
     function: u8,
     named: bool,

@@ -1,5 +1,7 @@
 // Reads the flow file on standard input and writes it again, through reader and writer, to standard output; or prints the line of its
 // refusal on standard error. 22,409 bytes are one more than the longest file that is not refused by 21, so a copy always has room.
+#![tactic(auto)]
+
 use judge::Answer;
 use libc::{STDERR_FILENO, STDIN_FILENO, STDOUT_FILENO};
 use writer::Writing;

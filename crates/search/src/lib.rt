@@ -1,6 +1,8 @@
 // The counted search of a flow, by the cues of the records: from the drawn flow, in lent work bytes. Where the records are a beginning, it
 // goes through all their runs, and finds out which of the cues that are asked for can follow. What is refused, and what an answer tells,
 // is for those that call it.
+#![tactic(auto)]
+
 ghost use Rattle.std.specs.Prelude.{◌≡◌, [], ◌∷◌, map, ◌+◌, ◌*◌, ◌-◌, ◌<◌, ◌≤◌, max, length, get_or, replicate, true, false};
 ghost use Rattle.std.proofs.Math.Seq.{paste};
 ghost use Rattle.calculus.specs.Records.{Fits, over};
@@ -24,14 +26,14 @@ use states::{Role, Sense};
 use tallies::{View, Weight};
 
 // What a search brings back: whether it found the end, how many records at most it followed, and what is left of the allowance.
-#[derive(Drop)]
+#[derive(Clone, Copy)]
 pub struct Trip {
     pub found: bool,
     pub far: u32,
     pub left: u32,
 }
 
-#[derive(Drop)]
+#[derive(Clone, Copy)]
 pub enum Out {
     Spent,
     Back(Trip),

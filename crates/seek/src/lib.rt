@@ -3,6 +3,8 @@
 // the compensation the number falls, how many steps it has by the cue and whether it can end done. A compensation without
 // weight is passed over without being looked at, however many there are. What is known of the parts that run is counted once, into
 // a table, and read from there: a choice looks at each part a few times.
+#![tactic(auto)]
+
 ghost use Rattle.std.specs.Prelude.{◌≡◌, not, cond, ◌+◌, ◌*◌, ◌<◌, T, eqb, length, set};
 ghost use Rattle.calculus.specs.Term.{done, withdrawn};
 ghost use Rattle.flow.specs.declared.Operator.TheVariants.{Sequence, Choice, Parallel};
@@ -50,7 +52,7 @@ fn word_at(d: &[u32], i: usize) -> Word
 // Weights -----------------------------------------------------------------------------------------------------------
 
 // On which of three endings a number falls, and how far into its weight.
-#[derive(Drop)]
+#[derive(Clone, Copy)]
 struct Fall {
     ending: u8,
     rest: u32,
@@ -229,7 +231,7 @@ fn second_ending(d: &[u32], i: usize, w: u8, x: u8, g: Weight, j: u32) -> Fall
 // The search --------------------------------------------------------------------------------------------------------
 
 // What is asked of a choice among compensations: by which closing, what each weighs, and the number that falls on one.
-#[derive(Drop)]
+#[derive(Clone, Copy)]
 struct Query {
     closing: u8,
     weight: Weight,

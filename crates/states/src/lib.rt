@@ -1,5 +1,7 @@
 // A state: the modes of the nodes, one byte each, beside the table that never changes. `stand_at` and `course_at` say what is left of
 // a part in a state, in the calculus's words, with the parts that are live; everything that counts, chooses or steps goes by them.
+#![tactic(auto)]
+
 ghost use Rattle.std.specs.Prelude.{◌≡◌, ◌≢◌, ◌+◌, ◌*◌, ◌<◌, length, set};
 ghost use Rattle.flow.specs.Kinds.{node};
 ghost use Rattle.flow.specs.Cues.{joint_at, joint_by};
@@ -10,28 +12,28 @@ ghost use Rattle.states.specs.Clauses.{Spot, Redrawn};
 use flow::{Node, Operator, Simple, Two};
 
 // A standard part is one that is drawn, or the compensation that a compensable part has become.
-#[derive(Drop)]
+#[derive(Clone, Copy)]
 pub enum Sense {
     Drawn,
     Undoing,
 }
 
 // What a part is live as: a standard part, or a compensable one that runs.
-#[derive(Drop)]
+#[derive(Clone, Copy)]
 pub enum Role {
     Plain(Sense),
     Running,
 }
 
 // A part that is live in place of another.
-#[derive(Drop)]
+#[derive(Clone, Copy)]
 pub struct Sub {
     pub node: usize,
     pub sense: Sense,
 }
 
 // What a standard part is in a state. The parts of `Both` and `Handler` are live in the part's own sense; that of `Block` runs.
-#[derive(Drop)]
+#[derive(Clone, Copy)]
 pub enum Standing {
     Event(u16),
     Basic(Simple),
@@ -43,7 +45,7 @@ pub enum Standing {
 
 // What a compensable part that runs is in a state. Both parts of a pair are drawn, the parts of `Both` run; of `Held` the second
 // runs, and the first has become the compensation that is held for it.
-#[derive(Drop)]
+#[derive(Clone, Copy)]
 pub enum Course {
     Basic(Simple),
     Pair(Two),
@@ -54,7 +56,7 @@ pub enum Course {
 
 // What is known of a compensation that was picked by a number: how far into its weight the number falls, how many steps it has by
 // the event, and whether it can end done.
-#[derive(Drop)]
+#[derive(Clone, Copy)]
 pub struct Picked {
     pub rest: u32,
     pub moves: u32,

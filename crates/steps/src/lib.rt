@@ -1,6 +1,8 @@
 // The k-th step of a part by the cue: the modes in t are those of the state before, and become those of its k-th successor. A
 // step is found by the counts that the counting pass left. A node hands its step down to a live part, at a place among that part's
 // steps, or to both sides of a parallel that meet; standard and compensable nodes call each other, and child numbers fall.
+#![tactic(auto)]
+
 ghost use Rattle.std.specs.Prelude.{◌≡◌, ◌<◌, ◌≤◌, length, false};
 ghost use Rattle.calculus.specs.Term.{done};
 ghost use Rattle.flow.specs.Cues.{joint_by};
@@ -20,7 +22,7 @@ use states::{Course, Picked, Sense, Standing};
 use tallies::Weight;
 
 // Where a step goes on: a live part, the place among its steps, and whether it is the second of two.
-#[derive(Drop)]
+#[derive(Clone, Copy)]
 struct Turn {
     node: usize,
     at: u32,

@@ -2,6 +2,8 @@
 // their steps and compensations one by one. Counts stop at MOST, one more than any index a search can use: an
 // allowance is a 32-bit number, and the root is counted too. What is put together of two parallel sides takes first whether the record's
 // event is joint there.
+#![tactic(auto)]
+
 ghost use Rattle.std.specs.Prelude.{◌≡◌, ◌+◌, ◌*◌, ◌<◌, ◌&&◌, cond, eqb};
 ghost use Rattle.tallies.specs.Capped.{cap};
 ghost use Rattle.tallies.specs.Formulas.{closing, rank, viewed, skip_v, throw_v, yield_v, ev_v, alt_v, seq_v, hnd_v, both_v, sides, par_v, tallied, none_t, one_t, when_t, plus_t, seq_t, any_v, sides_t, par_t, over_t, worded, by_w, blk_v, pair_w, cseq_w, held_w, calt_w, fitting_t, partners_t, both_t, cpar_w, skipp_w, throww_w, yieldd_w, weighs, is_own, total, after_g, inside_g, beside_g, within_g};
@@ -21,7 +23,7 @@ pub const RANK_FAILED: u8 = 2;
 const JOIN: [u8; 9] = [0, 1, 2, 1, 1, 2, 2, 2, 2];
 
 // One term, and a record: how many steps by it, and by what the term can end.
-#[derive(Drop)]
+#[derive(Clone, Copy)]
 pub struct View {
     pub moves: u32,
     pub done: bool,
@@ -30,7 +32,7 @@ pub struct View {
 }
 
 // Several terms: how many, how many of them can end done, how many steps in all, and by what else some can end.
-#[derive(Drop)]
+#[derive(Clone, Copy)]
 pub struct Tally {
     pub many: u32,
     pub able: u32,
@@ -40,7 +42,7 @@ pub struct Tally {
 }
 
 // A running part: how many steps, and its compensations by each closing.
-#[derive(Drop)]
+#[derive(Clone, Copy)]
 pub struct Word {
     pub moves: u32,
     pub done: Tally,
@@ -49,7 +51,7 @@ pub struct Word {
 }
 
 // What a compensation weighs: so much for itself, for each of its steps, and for being able to end done.
-#[derive(Drop)]
+#[derive(Clone, Copy)]
 pub struct Weight {
     pub own: u32,
     pub moves: u32,

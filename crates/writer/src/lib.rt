@@ -1,6 +1,8 @@
 // The flow file's writer: a names section, the numbers of nodes and records and the bytes of the sets into lent bytes, or a refusal with
 // its number and place. What it answers is defined in specs/Writing.antt; the scan of the names and the checks on the lists are those of
 // crate `format`, as the reader makes them.
+#![tactic(auto)]
+
 ghost use Rattle.std.specs.Prelude.{◌≡◌, ◌+◌, ◌*◌, ◌≤◌, length};
 ghost use Rattle.format.specs.Format.{number_bytes, numbers_bytes, numbers_section, sets_section};
 ghost use Rattle.format.specs.Told.{at_front};
@@ -9,12 +11,12 @@ ghost use Rattle.writer.specs.Writing.{lists_bytes, WrittenAs};
 use flow::{Check, Extent, Refusal};
 
 // How long the file is that was written.
-#[derive(Drop)]
+#[derive(Clone, Copy)]
 pub struct Size {
     pub length: u32,
 }
 
-#[derive(Drop)]
+#[derive(Clone, Copy)]
 pub enum Writing {
     Written(Size),
     Refused(Refusal),
