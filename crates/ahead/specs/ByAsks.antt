@@ -16,9 +16,9 @@ use Rattle.std.proofs.lemmas.Bool.{lt-leb}
 use Rattle.calculus.specs.Records.{Record, State}
 use Rattle.calculus.specs.Search.{visit}
 use Rattle.calculus.specs.Spending.{Out as Found, spent, back, visit_b, left_of}
-use Rattle.calculus.specs.Budget.{visit_left}
+use Rattle.calculus.proofs.Budget.{visit_left}
 use Rattle.calculus.specs.Ahead.{Begins, passes, may_follow, entered}
-use Rattle.calculus.specs.AheadLaws.{begins_found, begins_entered}
+use Rattle.calculus.proofs.AheadLaws.{begins_found, begins_entered}
 use Rattle.flow.specs.declared.Extent.TheVariants.{Beginning}
 use Rattle.flow.specs.declared.Check.{Check}
 use Rattle.flow.specs.declared.Refusal.{Refusal}

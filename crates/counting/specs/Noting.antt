@@ -4,7 +4,7 @@ use Rattle.std.proofs.Math.Path.{sym, ap, subst}
 use Rattle.std.proofs.Common.{◌∙◌}
 use Rattle.std.proofs.Math.Dec.{T}
 use Rattle.calculus.specs.Term.{skip}
-use Rattle.calculus.specs.Members.{and_in, and_left, and_right}
+use Rattle.calculus.proofs.Members.{and_in, and_left, and_right}
 use Rattle.flow.specs.declared.Two.{Two}
 use Rattle.flow.specs.Kinds.{shape}
 use Rattle.flow.specs.Shapes.{Kid}

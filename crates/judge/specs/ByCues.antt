@@ -7,7 +7,7 @@ use Rattle.std.proofs.Common.{sym, ap, ◌∙◌, subst, arith, take_at}
 use Rattle.std.proofs.lemmas.List.{length-map}
 use Rattle.calculus.specs.Search as search
 use Rattle.calculus.specs.Spending.{Out as Found, spent, back, visit_b}
-use Rattle.calculus.specs.Budget.{answer, budgeted}
+use Rattle.calculus.proofs.Budget.{answer, budgeted}
 use Rattle.calculus.specs.Records.{Record}
 use Rattle.flow.specs.declared.Check.TheVariants.{Fine}
 use Rattle.flow.specs.declared.Extent.{Extent}

@@ -13,7 +13,7 @@ use Rattle.std.proofs.Math.ListN.{length, get_or, length-map}
 use Rattle.calculus.specs.Term.{Joint}
 use Rattle.calculus.specs.Records.{Record, event}
 use Rattle.calculus.specs.Ahead.{may_follow}
-use Rattle.calculus.specs.DeafLaws.{deaf_passes}
+use Rattle.calculus.proofs.DeafLaws.{deaf_passes}
 use Rattle.flow.specs.declared.Node.TheVariants.{Event}
 use Rattle.flow.specs.Kinds.{form, node, one_of}
 use Rattle.flow.specs.Records.{done_number, failed_number, most_events, all_numbers}

@@ -13,7 +13,7 @@ use Rattle.calculus.specs.Records.{State, event}
 use Rattle.calculus.specs.Ahead.{may_follow, entered}
 use Rattle.calculus.specs.Leaves.{AnySet}
 use Rattle.calculus.specs.Deaf.{DeafLeaf}
-use Rattle.calculus.specs.DeafLaws.{deaf_passes}
+use Rattle.calculus.proofs.DeafLaws.{deaf_passes}
 use Rattle.flow.specs.declared.Refusal.{Refusal}
 use Rattle.flow.specs.declared.Check.{Check}
 use Rattle.flow.specs.declared.Check.TheVariants.{Fine}

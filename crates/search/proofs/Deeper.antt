@@ -12,11 +12,11 @@ use lib.Seq.{paste, get_or-drop, drop_at, take_all}
 use borrow.Rule.Slice.PartMut.{put_mid, mid_of, same_len_mid}
 use Rattle.calculus.specs.Records.{Record, State}
 use Rattle.calculus.specs.Within.{Within}
-use Rattle.calculus.specs.WithinLaws.{within_moves}
+use Rattle.calculus.proofs.WithinLaws.{within_moves}
 use Rattle.calculus.specs.Search.{next}
-use Rattle.calculus.specs.Found.{next_moves}
+use Rattle.calculus.proofs.Found.{next_moves}
 use Rattle.calculus.specs.Spending.{Out as Found, spent, back, visit_b, left_of}
-use Rattle.calculus.specs.Budget.{more_left}
+use Rattle.calculus.proofs.Budget.{more_left}
 use Rattle.flow.specs.Cues.{failed_cue, cue_record, cue_records}
 use Rattle.flow.specs.Refusals.{count, root}
 use Rattle.tallies.specs.Capped.{cap}

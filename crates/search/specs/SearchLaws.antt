@@ -14,7 +14,7 @@ use Rattle.std.proofs.Math.Seq.{drop-drop, drop-length, ext_get_or}
 use Rattle.std.proofs.lemmas.List.Edits.{fill_more}
 use Rattle.std.proofs.lemmas.Bool.{lt-leb}
 use Rattle.calculus.specs.Records.{Record, State, std, cmp}
-use Rattle.calculus.specs.Members.{is_true}
+use Rattle.calculus.proofs.Members.{is_true}
 use Rattle.calculus.specs.Within.{Within}
 use Rattle.calculus.specs.Ahead.{may_follow}
 use Rattle.calculus.specs.Search.{next}

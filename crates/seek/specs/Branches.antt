@@ -7,7 +7,7 @@ use Rattle.std.proofs.Math.Dec.{T}
 use Rattle.std.proofs.Math.ListN.{set}
 use Rattle.calculus.specs.Term.{Closing, done, withdrawn, failed, Std, skip, seq, par, pair, cseq, held}
 use Rattle.calculus.specs.Successors.{only, ends, comps}
-use Rattle.calculus.specs.Equations.{ends_skip, comps_pair}
+use Rattle.calculus.proofs.Equations.{ends_skip, comps_pair}
 use Rattle.flow.specs.declared.Simple.{Simple}
 use Rattle.flow.specs.declared.Simple.TheVariants.{Skip, Throw, Yield}
 use Rattle.flow.specs.declared.Operator.{Operator}

@@ -6,7 +6,7 @@ use Rattle.std.proofs.Math.Path.{subst}
 use Rattle.std.proofs.Math.Dec.{T}
 use Rattle.calculus.specs.Term.{done}
 use Rattle.calculus.specs.Successors.{ends}
-use Rattle.calculus.specs.Members.{and_left, and_right}
+use Rattle.calculus.proofs.Members.{and_left, and_right}
 use Rattle.flow.specs.declared.Operator.{Operator}
 use Rattle.flow.specs.declared.Two.{Two}
 use Rattle.flow.specs.Kinds.{shape}

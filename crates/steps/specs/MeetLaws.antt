@@ -5,7 +5,7 @@ use Rattle.std.specs.Prelude.{ℕ, ◌<◌, ◌/◌, ◌%◌, ◌≡◌, true, �
 use Rattle.std.proofs.Math.Path.{refl}
 use Rattle.std.proofs.Common.{sym, ◌∙◌, ap, subst, subst₂, true≢false, arith}
 use Rattle.calculus.specs.Term.{Joint, par, cpar}
-use Rattle.calculus.specs.Members.{and_left, and_right}
+use Rattle.calculus.proofs.Members.{and_left, and_right}
 use Rattle.flow.specs.declared.Operator.{Operator}
 use Rattle.flow.specs.declared.Operator.TheVariants.{Sequence, Choice, Parallel}
 use Rattle.flow.specs.declared.Two.{Two}

@@ -7,7 +7,7 @@ use Rattle.std.proofs.Math.Bool.{true, cond}
 use mathlib.Core.List.{List}
 use Rattle.calculus.specs.Term.{Joint, Std, Cmp, done, failed, skip, throw, yield, seq, par, hnd, blk, pair, cseq, cpar, held}
 use Rattle.calculus.specs.Successors.{steps, csteps, comps}
-use Rattle.calculus.specs.Members.{and_left, and_right}
+use Rattle.calculus.proofs.Members.{and_left, and_right}
 use Rattle.flow.specs.declared.Simple.{Simple}
 use Rattle.flow.specs.declared.Simple.TheVariants.{Skip, Throw, Yield}
 use Rattle.flow.specs.declared.Operator.{Operator}

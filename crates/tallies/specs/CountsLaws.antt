@@ -11,7 +11,7 @@ use Rattle.std.proofs.Math.Dec.{eqb-suc-zero}
 use Rattle.std.proofs.Math.ListN.{length, length-append, length-map}
 use Rattle.calculus.specs.Term.{Closing, done, withdrawn, failed, Leaf, Joint, Std, Cmp, skip, throw, yield, ev, seq, alt, par, hnd, blk, pair, cseq, calt, cpar, held, skipp, throww, yieldd, join}
 use Rattle.calculus.specs.Successors.{eqc, closings, only, some_of, each, any_at_all, beside, ends, steps, comps, csteps}
-use Rattle.calculus.specs.Equations.{ends_seq, ends_hnd, ends_alt, ends_par, ends_blk, comps_pair, comps_cseq, comps_calt, comps_cpar, comps_held, steps_seq, steps_hnd, steps_alt, steps_par, steps_blk, csteps_pair, csteps_cseq, csteps_calt, csteps_cpar, csteps_held}
+use Rattle.calculus.proofs.Equations.{ends_seq, ends_hnd, ends_alt, ends_par, ends_blk, comps_pair, comps_cseq, comps_calt, comps_cpar, comps_held, steps_seq, steps_hnd, steps_alt, steps_par, steps_blk, csteps_pair, csteps_cseq, csteps_calt, csteps_cpar, csteps_held}
 use Rattle.tallies.specs.Capped.{cap}
 use Rattle.tallies.specs.CappedLaws.{cap_add, cap_mul, cap_mul_right, capped_sum, capped_product, capped_products}
 use Rattle.tallies.specs.Formulas.{viewed, skip_v, throw_v, yield_v, ev_v, alt_v, seq_v, hnd_v, ends_v, meet_v, both_v, sides, par_v, tallied, nonzero, none_t, one_t, when_t, plus_t, seq_t, any_v, sides_t, par_t, over_t, worded, by_w, blk_v, pair_w, cseq_w, held_w, calt_w, cpar_w, skipp_w, throww_w, yieldd_w, fitting_t, partners_t, both_t, total}

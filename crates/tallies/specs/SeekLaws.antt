@@ -13,7 +13,7 @@ use Rattle.std.proofs.Math.Dec.{not_T}
 use Rattle.std.proofs.Math.ListN.{length}
 use Rattle.calculus.specs.Term.{Closing, done, withdrawn, failed, Joint, Std, Cmp, skip, seq, par, pair, cseq, calt, cpar, held, join}
 use Rattle.calculus.specs.Successors.{eqc, closings, only, ends, comps, csteps}
-use Rattle.calculus.specs.Equations.{ends_skip, ends_seq, steps_skip, comps_pair, comps_cseq, comps_calt, comps_held}
+use Rattle.calculus.proofs.Equations.{ends_skip, ends_seq, steps_skip, comps_pair, comps_cseq, comps_calt, comps_held}
 use Rattle.tallies.specs.Capped.{cap}
 use Rattle.tallies.specs.CappedLaws.{cap_cap, cap_add, cap_add_left, cap_add_right, cap_mul_left, cap_mul_right, cap_sum, cap_product}
 use Rattle.tallies.specs.Formulas.{when_t, by_w, weighs, total, one_g, after_g, inside_g, sides, beside_g, within_g, fitting_t, partners_t, closing}

@@ -9,7 +9,7 @@ use Rattle.std.proofs.Math.Bool.{true}
 use Rattle.std.proofs.Math.ListN.{length, length-map}
 use Rattle.calculus.specs.Term.{Closing, done, failed, Leaf, Joint, Std, Cmp, skip, throw, yield, ev, seq, alt, par, hnd, blk, pair, cseq, calt, cpar, held}
 use Rattle.calculus.specs.Successors.{only, each, beside, ends, steps, comps, csteps}
-use Rattle.calculus.specs.Equations.{steps_skip, steps_throw, steps_yield, steps_ev, steps_seq, steps_hnd, steps_alt, steps_par, steps_blk, csteps_pair, csteps_cseq, csteps_calt, csteps_cpar, csteps_held}
+use Rattle.calculus.proofs.Equations.{steps_skip, steps_throw, steps_yield, steps_ev, steps_seq, steps_hnd, steps_alt, steps_par, steps_blk, csteps_pair, csteps_cseq, csteps_calt, csteps_cpar, csteps_held}
 use Rattle.tallies.specs.Capped.{cap}
 use Rattle.tallies.specs.CappedLaws.{factor_some, factor_first, factor_second, cap_divided}
 use Rattle.tallies.specs.Formulas.{sides, moves_g, hold_g}

@@ -12,8 +12,8 @@ use Rattle.calculus.specs.Successors.{ends, steps, comps, csteps}
 use Rattle.calculus.specs.Records.{Record, event, close, State, over, std, cmp, standard, compensable, Complete, Moves, by_step, by_end, by_cstep, by_cend, Follows, stays, Closed, last, ClosedTwice, turn, Fits}
 use Rattle.calculus.specs.Records
 use Rattle.calculus.specs.Search.{next, Seen, or_else, tries, visit}
-use Rattle.calculus.specs.Members.{in_only, of_only}
-use Rattle.calculus.specs.Exact.{ends_exact, steps_exact, csteps_exact, comps_exact}
+use Rattle.calculus.proofs.Members.{in_only, of_only}
+use Rattle.calculus.proofs.Exact.{ends_exact, steps_exact, csteps_exact, comps_exact}
 
 -- One record: the list of successors holds exactly the moves ---------------------------------------------------------------
 

@@ -18,10 +18,10 @@ use Rattle.calculus.specs.Records.{Record, event, close, State, over, std, cmp, 
 use Rattle.calculus.specs.Records
 use Rattle.calculus.specs.Search.{next, Seen, or_else, tries, visit}
 use Rattle.calculus.specs.Ahead.{passes, may_follow, total, entered, Open, OpenTwice, Begins}
-use Rattle.calculus.specs.Members.{is_true, is_false, not_so, in_some, of_some}
-use Rattle.calculus.specs.Found.{next_moves, moves_next, Ends, at_end, found_only, found_all, ends_complete, complete_ends, place_follows, place_longest, fits_over, fits_moves, closed_event, closed_close, twice_event, twice_close}
-use Rattle.calculus.specs.Found
-use Rattle.calculus.specs.WithinLaws.{begins_moves}
+use Rattle.calculus.proofs.Members.{is_true, is_false, not_so, in_some, of_some}
+use Rattle.calculus.proofs.Found.{next_moves, moves_next, Ends, at_end, found_only, found_all, ends_complete, complete_ends, place_follows, place_longest, fits_over, fits_moves, closed_event, closed_close, twice_event, twice_close}
+use Rattle.calculus.proofs.Found
+use Rattle.calculus.proofs.WithinLaws.{begins_moves}
 
 -- Some run follows --------------------------------------------------------------------------------------------------------------
 

@@ -9,8 +9,8 @@ use Rattle.calculus.specs.Traces.{Trace, tr, Traces, Pairs, onto, only, Then, st
 use Rattle.calculus.specs.Records.{Record, State, over, std, cmp, InTraces}
 use Rattle.calculus.specs.Printed.{CTrace, ct, on_t, pair_t, cthen_t, held_t, CParT, both, BlkT, undoes, forgets, lift, by, Prints, CPrints, InPrinted}
 use Rattle.calculus.specs.Leaves.{Empty, Free, CFree, FreeState}
-use Rattle.calculus.specs.Members.{other, Compared, alike, differ, compared, cond_other}
-use Rattle.calculus.specs.SetLaws.{sets_self}
+use Rattle.calculus.proofs.Members.{other, Compared, alike, differ, compared, cond_other}
+use Rattle.calculus.proofs.SetLaws.{sets_self}
 
 -- A trace that ends done or failed -------------------------------------------------------------------------------------------
 

@@ -15,7 +15,7 @@ use Rattle.calculus.specs.Records.{Record, event, close, State, std, cmp, Closed
 use Rattle.calculus.specs.Search.{next, Seen, is_over, or_else, tries, visit, settle, judge}
 use Rattle.calculus.specs.Ahead.{passes, total, entered, Open, OpenTwice, Begins}
 use Rattle.calculus.specs.Within.{WithinOne, WithinTwo, Within}
-use Rattle.calculus.specs.Equations.{beh}
+use Rattle.calculus.proofs.Equations.{beh}
 use Rattle.calculus.specs.Renames.{renamed, HeardIn, none, and_event, and_close, Renames, CRenames, RenamesState, of_skip, of_throw, of_yield, of_leaf, of_seq, of_alt, of_par, of_hnd, of_blk, of_pair, of_cseq, of_calt, of_cpar, of_held, of_over, of_std, of_cmp}
 
 -- Lists that are alike element for element ----------------------------------------------------------------------------------

@@ -13,12 +13,12 @@ use Rattle.calculus.specs.Leaves.{EachState}
 use Rattle.calculus.specs.Remade.{loose, Passable, Apart}
 use Rattle.calculus.specs.Alike.{Alike, both_accepted, both_rejected, first_undecided, second_undecided}
 use Rattle.calculus.specs.Laws.{Same, CSame, Redrawn}
-use Rattle.calculus.specs.LawsHold.{same_traces, csame_pairs}
-use Rattle.calculus.specs.Completes.{complete_traces, std_traces, cmp_traces}
-use Rattle.calculus.specs.Found.{Ends, ends_complete, complete_ends, found_complete, place_follows, place_longest}
-use Rattle.calculus.specs.DeafLaws.{each_moves}
-use Rattle.calculus.specs.AheadLaws.{first_follows, follows_first, follows_length, passes_follows}
-use Rattle.calculus.specs.RemadeLaws.{loosely, loose_passes, loose_passable, redrawn_loose, passed_over}
+use Rattle.calculus.proofs.LawsHold.{same_traces, csame_pairs}
+use Rattle.calculus.proofs.Completes.{complete_traces, std_traces, cmp_traces}
+use Rattle.calculus.proofs.Found.{Ends, ends_complete, complete_ends, found_complete, place_follows, place_longest}
+use Rattle.calculus.proofs.DeafLaws.{each_moves}
+use Rattle.calculus.proofs.AheadLaws.{first_follows, follows_first, follows_length, passes_follows}
+use Rattle.calculus.proofs.RemadeLaws.{loosely, loose_passes, loose_passable, redrawn_loose, passed_over}
 
 -- Redrawing keeps the complete runs ------------------------------------------------------------------------------------------
 

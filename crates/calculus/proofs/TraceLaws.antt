@@ -5,8 +5,8 @@ use Rattle.std.specs.Prelude.{ℕ, ◌≡◌, refl, ◌≢◌, Bool, List, [], �
 use Rattle.std.proofs.Common.{sym, ◌∙◌, ap, subst, subst₂, true≢false, append_assoc, append-nil}
 use Rattle.calculus.specs.Term.{Closing, done, withdrawn, failed, Joint, none, join}
 use Rattle.calculus.specs.Traces.{Trace, tr, Traces, onto, only, Then, stays, enters, Mix, mix_none, mix_left, mix_right, mix_both, ParT, mixed, Beside, beside}
-use Rattle.calculus.specs.Members.{Compared, alike, differ, compared}
-use Rattle.calculus.specs.SetLaws.{SameSets}
+use Rattle.calculus.proofs.Members.{Compared, alike, differ, compared}
+use Rattle.calculus.proofs.SetLaws.{SameSets}
 
 -- Events before a trace -------------------------------------------------------------------------------------------------------
 

@@ -6,10 +6,10 @@ use Rattle.calculus.specs.Records.{Record, State, Complete, InTraces}
 use Rattle.calculus.specs.Search.{next}
 use Rattle.calculus.specs.Ahead.{passes}
 use Rattle.calculus.specs.Leaves.{AnyLeaf, Empty, FreeState}
-use Rattle.calculus.specs.Members.{in_some, of_some}
-use Rattle.calculus.specs.Found.{next_moves, moves_next, Ends, ends_complete, complete_ends}
-use Rattle.calculus.specs.Completes.{complete_traces, closes_somehow}
-use Rattle.calculus.specs.DeafLaws.{each_moves}
+use Rattle.calculus.proofs.Members.{in_some, of_some}
+use Rattle.calculus.proofs.Found.{next_moves, moves_next, Ends, ends_complete, complete_ends}
+use Rattle.calculus.proofs.Completes.{complete_traces, closes_somehow}
+use Rattle.calculus.proofs.DeafLaws.{each_moves}
 
 passes_ends : (rs : List Record) (s : State) → FreeState s → T (passes rs s) → (rest : List Record) × Ends s (rs ++ rest)
 unfolding passes

@@ -6,8 +6,8 @@ use Rattle.calculus.specs.Term.{Closing, done, withdrawn, failed, Std, Cmp}
 use Rattle.calculus.specs.Traces.{Trace, tr, Tr, CTr, Within, SamePairs}
 use Rattle.calculus.specs.Records.{Record, State, over, std, cmp, standard, compensable, Complete, InTraces, ClosesFirm, by_done, by_failed, later}
 use Rattle.calculus.specs.Leaves.{Free, CFree, FreeState}
-use Rattle.calculus.specs.RunsAreTraces.{runs_are_traces, cruns_are_traces}
-use Rattle.calculus.specs.PrintedTraces.{Firm, some, csome}
+use Rattle.calculus.proofs.RunsAreTraces.{runs_are_traces, cruns_are_traces}
+use Rattle.calculus.proofs.PrintedTraces.{Firm, some, csome}
 
 -- Complete runs are traces -----------------------------------------------------------------------------------------------------
 

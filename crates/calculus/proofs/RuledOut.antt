@@ -10,10 +10,10 @@ use Rattle.calculus.specs.Traces.{tr, Tr}
 use Rattle.calculus.specs.Records.{Record, event, close, State, std, Complete}
 use Rattle.calculus.specs.Search.{visit}
 use Rattle.calculus.specs.Laws.{Same}
-use Rattle.calculus.specs.Members.{other}
-use Rattle.calculus.specs.RunsAreTraces.{runs_are_traces}
-use Rattle.calculus.specs.LawsHold.{same_traces}
-use Rattle.calculus.specs.Found.{found_complete}
+use Rattle.calculus.proofs.Members.{other}
+use Rattle.calculus.proofs.RunsAreTraces.{runs_are_traces}
+use Rattle.calculus.proofs.LawsHold.{same_traces}
+use Rattle.calculus.proofs.Found.{found_complete}
 
 -- "THROW parallel P equals P;THROW." False where P can yield: the one cannot end ?, the other can
 pub throw_beside : {j : Joint} {p : Std} → End (par j throw p) withdrawn → ⊥

@@ -11,7 +11,7 @@ use Rattle.calculus.specs.Rules.{Run}
 use Rattle.calculus.specs.Traces.{Trace, tr, Tr}
 use Rattle.calculus.specs.Successors.{only, steps}
 use Rattle.calculus.specs.Choices.{choice_of}
-use Rattle.calculus.specs.RunsAreTraces.{runs_are_traces}
+use Rattle.calculus.proofs.RunsAreTraces.{runs_are_traces}
 
 -- the trace of one event of the list
 abbrev OneOf : List ℕ → Trace → Type 0

@@ -10,8 +10,8 @@ use Rattle.calculus.specs.Search.{next}
 use Rattle.calculus.specs.Ahead.{passes, may_follow}
 use Rattle.calculus.specs.Leaves.{Each, CEach, EachState, AnySet}
 use Rattle.calculus.specs.Deaf.{DeafLeaf, Deaf}
-use Rattle.calculus.specs.Members.{is_false, not_so, of_some}
-use Rattle.calculus.specs.Found.{next_moves}
+use Rattle.calculus.proofs.Members.{is_false, not_so, of_some}
+use Rattle.calculus.proofs.Found.{next_moves}
 
 -- A move adds no leaves and no sets -----------------------------------------------------------------------------------------------------------
 

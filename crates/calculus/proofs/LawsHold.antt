@@ -4,10 +4,10 @@ use Rattle.std.specs.Prelude.{◌≡◌, refl, ◌⊎◌, ◌↔◌, []}
 use Rattle.std.proofs.Common.{sym, ◌∙◌, ap, subst, inl, inr}
 use Rattle.calculus.specs.Term.{done, withdrawn, failed, Joint, Std, Cmp, skip, throw, ev, seq, alt, par, cseq, calt, cpar, skipp, throww, yieldd}
 use Rattle.calculus.specs.Traces.{Trace, tr, Traces, Pairs, onto, only, Then, stays, enters, Paired, CThen, CEither, CBeside, Blocked, closed, undone, SamePairs, Tr, CTr}
-use Rattle.calculus.specs.Members.{other}
-use Rattle.calculus.specs.SetLaws.{SameSets, sets_self, sets_flip, sets_then, pairs_self, pairs_flip, pairs_then, then_cong, beside_cong, either_cong, blocked_cong, paired_cong, cthen_cong, ceither_cong, cbeside_cong}
-use Rattle.calculus.specs.TraceLaws.{events_of, closing_of, onto_nothing, then_assoc, then_unit_left, then_unit_right, then_stop}
-use Rattle.calculus.specs.PairLaws.{Alone, nothing, stopping, kept_none, alone_same, alone_then, alone_either, alone_beside, cthen_assoc, cthen_unit_left, cthen_unit_right, cthen_stop, ceither_comm, ceither_assoc, ceither_self, cbeside_comm, cbeside_assoc, cbeside_unit, cthen_either_left, cthen_either_right, cbeside_either_left, cbeside_either_right}
+use Rattle.calculus.proofs.Members.{other}
+use Rattle.calculus.proofs.SetLaws.{SameSets, sets_self, sets_flip, sets_then, pairs_self, pairs_flip, pairs_then, then_cong, beside_cong, either_cong, blocked_cong, paired_cong, cthen_cong, ceither_cong, cbeside_cong}
+use Rattle.calculus.proofs.TraceLaws.{events_of, closing_of, onto_nothing, then_assoc, then_unit_left, then_unit_right, then_stop}
+use Rattle.calculus.proofs.PairLaws.{Alone, nothing, stopping, kept_none, alone_same, alone_then, alone_either, alone_beside, cthen_assoc, cthen_unit_left, cthen_unit_right, cthen_stop, ceither_comm, ceither_assoc, ceither_self, cbeside_comm, cbeside_assoc, cbeside_unit, cthen_either_left, cthen_either_right, cbeside_either_left, cbeside_either_right}
 use Rattle.calculus.specs.Laws.{Law, Same, CSame, seq_assoc, seq_unit_left, seq_unit_right, seq_throw, alt_comm, alt_assoc, alt_self, par_comm, par_assoc, par_unit, seq_alt_left, seq_alt_right, par_alt_left, par_alt_right, same, flip, then, in_seq, in_alt, in_par, in_hnd, in_blk, law, hnd_assoc, hnd_throw_right, hnd_throw_left, hnd_skip, blk_skipp, blk_throww, blk_yieldd, blk_calt, blk_throws, csame, cflip, cthen, in_pair, in_cseq, in_calt, in_cpar, claw}
 
 -- The laws that both sorts have ---------------------------------------------------------------------------------------------------

@@ -5,10 +5,10 @@ use Rattle.std.specs.Prelude.{ℕ, ◌≡◌, refl, ◌≢◌, ◌⊎◌, ◌↔
 use Rattle.std.proofs.Common.{sym, ◌∙◌, ap, subst, inl, inr}
 use Rattle.calculus.specs.Term.{Closing, done, withdrawn, failed, Leaf, Joint, Std, Cmp, skip, throw, yield, ev, seq, alt, par, hnd, blk, pair, cseq, calt, cpar, held, join}
 use Rattle.calculus.specs.Rules.{End, Step, CStep, Run, closes, goes, Fwd, ccloses, cgoes, CRun, skip_ends, throw_ends, yield_ends, yield_yields, alt_left, alt_right, par_joins, blk_ends, blk_undoes, pair_ends, pair_stops, cseq_stops, cseq_on, held_ends, calt_left, calt_right, cpar_joins, ev_step, alt_first, alt_second, par_first, par_second, par_both, blk_first, blk_second, pair_step, cseq_first, cseq_second, held_step, calt_first, calt_second, cpar_first, cpar_second, cpar_both}
-use Rattle.calculus.specs.Members.{other}
-use Rattle.calculus.specs.Onward.{Onward, seq_onward, hnd_onward}
+use Rattle.calculus.proofs.Members.{other}
+use Rattle.calculus.proofs.Onward.{Onward, seq_onward, hnd_onward}
 use Rattle.calculus.specs.Traces.{Trace, tr, Traces, Pairs, onto, only, Then, stays, enters, Mix, mix_none, mix_left, mix_right, mix_both, ParT, mixed, Beside, beside, kept_by, Paired, then_undo, CThen, CEither, CBeside, Holding, Blocked, closed, undone, Tr, CTr, Within, SamePairs}
-use Rattle.calculus.specs.SetLaws.{SameSets, sets_self, sets_flip, sets_then, pairs_flip, pairs_then, then_cong, beside_cong, either_cong, blocked_cong, paired_cong, cthen_cong, ceither_cong, cbeside_cong, holding_cong}
+use Rattle.calculus.proofs.SetLaws.{SameSets, sets_self, sets_flip, sets_then, pairs_flip, pairs_then, then_cong, beside_cong, either_cong, blocked_cong, paired_cong, cthen_cong, ceither_cong, cbeside_cong, holding_cong}
 
 -- Runs as sets ------------------------------------------------------------------------------------------------------------
 

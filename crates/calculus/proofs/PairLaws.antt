@@ -5,9 +5,9 @@ use Rattle.std.specs.Prelude.{◌≡◌, refl, Bool, ◌⊎◌, []}
 use Rattle.std.proofs.Common.{sym, ◌∙◌, ap, subst, inl, inr}
 use Rattle.calculus.specs.Term.{Closing, done, withdrawn, failed, Joint, none}
 use Rattle.calculus.specs.Traces.{Trace, tr, Traces, Pairs, onto, only, Then, stays, enters, ParT, Beside, beside, kept_by, Paired, CThen, CEither, CBeside, Within, SamePairs}
-use Rattle.calculus.specs.Members.{Compared, alike, differ, compared, other}
-use Rattle.calculus.specs.SetLaws.{SameSets, sets_self, sets_flip, sets_then, then_cong, beside_cong, paired_cong, ceither_cong, pairs_then}
-use Rattle.calculus.specs.TraceLaws.{events_of, closing_of, onto_none, onto_nothing, onto_onto, after_both, par_comm_traces, par_assoc_right, par_assoc_left, par_unit_traces, par_unit_in, then_assoc, then_unit_left, then_unit_right, beside_comm, beside_assoc, beside_unit, beside_nothing}
+use Rattle.calculus.proofs.Members.{Compared, alike, differ, compared, other}
+use Rattle.calculus.proofs.SetLaws.{SameSets, sets_self, sets_flip, sets_then, then_cong, beside_cong, paired_cong, ceither_cong, pairs_then}
+use Rattle.calculus.proofs.TraceLaws.{events_of, closing_of, onto_none, onto_nothing, onto_onto, after_both, par_comm_traces, par_assoc_right, par_assoc_left, par_unit_traces, par_unit_in, then_assoc, then_unit_left, then_unit_right, beside_comm, beside_assoc, beside_unit, beside_nothing}
 
 -- a way of the same trace, written otherwise, keeps the same
 moved : (P : Pairs) {x x' : Trace} → x ≡ x' → (h : P.way x) → (k : P.way x') × SameSets (P.undo x h) (P.undo x' k)

@@ -11,9 +11,9 @@ use Rattle.std.proofs.Math.Dec.{T}
 use Rattle.calculus.specs.Term.{Closing, done, withdrawn, failed, eqc, Leaf, Joint, Std, Cmp, skip, throw, yield, ev, seq, alt, par, hnd, blk, pair, cseq, calt, cpar, held, join}
 use Rattle.calculus.specs.Rules.{End, CEnd, Step, CStep, skip_ends, throw_ends, yield_ends, yield_yields, alt_left, alt_right, par_joins, blk_ends, blk_undoes, pair_ends, pair_stops, cseq_stops, cseq_on, held_ends, calt_left, calt_right, cpar_joins, ev_step, alt_first, alt_second, par_first, par_second, par_both, blk_first, blk_second, pair_step, cseq_first, cseq_second, held_step, calt_first, calt_second, cpar_first, cpar_second, cpar_both}
 use Rattle.calculus.specs.Successors.{Beh, closings, only, some_of, each, any_at_all, beside, ends_on, ends_both, does, skip_b, seq_b, par_b, ends, left_by, steps, csteps, comps}
-use Rattle.calculus.specs.Equations.{beh}
-use Rattle.calculus.specs.Members.{or_in_left, or_in_right, or_cases, and_in, and_left, and_right, same, same_in, other, other_in, in_closings, in_only, of_only, in_some, of_some, in_any, of_any, in_each, of_each, map_by, append_by, beside_by, in_beside_first, in_beside_second, in_beside_both}
-use Rattle.calculus.specs.Onward.{Onward, seq_onward, hnd_onward}
+use Rattle.calculus.proofs.Equations.{beh}
+use Rattle.calculus.proofs.Members.{or_in_left, or_in_right, or_cases, and_in, and_left, and_right, same, same_in, other, other_in, in_closings, in_only, of_only, in_some, of_some, in_any, of_any, in_each, of_each, map_by, append_by, beside_by, in_beside_first, in_beside_second, in_beside_both}
+use Rattle.calculus.proofs.Onward.{Onward, seq_onward, hnd_onward}
 
 -- k lists what the rules allow its term
 pub record Good (k : Beh) : Type 0 where

@@ -7,8 +7,8 @@ use Rattle.calculus.specs.Traces.{Trace, SamePairs, Tr, CTr}
 use Rattle.calculus.specs.Records.{Record, State, over, std, cmp, Complete, InTraces}
 use Rattle.calculus.specs.Spelled.{spelled, cspelled, spelled_state}
 use Rattle.calculus.specs.Leaves.{Each, CEach, EachState, AnySet, SameLeaf}
-use Rattle.calculus.specs.Completes.{complete_traces, std_traces, cmp_traces}
-use Rattle.calculus.specs.SetLaws.{sets_self, then_cong, beside_cong, either_cong, blocked_cong, paired_cong, cthen_cong, ceither_cong, cbeside_cong, holding_cong}
+use Rattle.calculus.proofs.Completes.{complete_traces, std_traces, cmp_traces}
+use Rattle.calculus.proofs.SetLaws.{sets_self, then_cong, beside_cong, either_cong, blocked_cong, paired_cong, cthen_cong, ceither_cong, cbeside_cong, holding_cong}
 
 module _ (f : Leaf → Std) where
   mutual

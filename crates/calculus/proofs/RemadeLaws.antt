@@ -12,11 +12,11 @@ use Rattle.calculus.specs.Laws.{Law, Same, CSame, Redrawn, seq_assoc, seq_unit_l
 use Rattle.calculus.specs.Renames.{renamed, HeardIn, and_event, and_close, Renames, CRenames, RenamesState, of_skip, of_throw, of_yield, of_leaf, of_seq, of_alt, of_par, of_hnd, of_blk, of_pair, of_cseq, of_calt, of_cpar, of_held, of_over, of_std, of_cmp}
 use Rattle.calculus.specs.Leaves.{Each, CEach, EachState, AnyLeaf, AnySet, Empty}
 use Rattle.calculus.specs.Deaf.{DeafLeaf, Deaf}
-use Rattle.calculus.specs.Members.{is_true, is_false}
-use Rattle.calculus.specs.Completes.{closes_somehow}
-use Rattle.calculus.specs.Found.{Ends, at_end, complete_ends, found_complete}
-use Rattle.calculus.specs.Renamed.{visit_renamed, passes_renamed}
-use Rattle.calculus.specs.DeafLaws.{deaf_moves, deaf_still}
+use Rattle.calculus.proofs.Members.{is_true, is_false}
+use Rattle.calculus.proofs.Completes.{closes_somehow}
+use Rattle.calculus.proofs.Found.{Ends, at_end, complete_ends, found_complete}
+use Rattle.calculus.proofs.Renamed.{visit_renamed, passes_renamed}
+use Rattle.calculus.proofs.DeafLaws.{deaf_moves, deaf_still}
 use Rattle.calculus.specs.Remade.{remade, cremade, remade_state, above, loose_leaf, loose_set, loose, idle, Passable, Apart}
 
 -- A map that goes through the operations of a sort carries its laws ------------------------------------------------------------------
