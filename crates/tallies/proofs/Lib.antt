@@ -1,4 +1,2 @@
 pub mod Beside
 pub mod ClosedForms
-pub mod Closings
-pub mod Products

@@ -29,10 +29,10 @@ pub both_done : (j : Joint) (p q : Std) → ends (par j p q) done ≡ (ends p do
 both_done j p q = ends_par j p q done ∙ ends_both_done (ends p) (ends q)
 
 -- two sides end together by the views of them
-both_by : {p q : View} (u : Closing) {f g : Closing → Bool} → ((x : Closing) → f x ≡ ends_v p x) → ((y : Closing) → g y ≡ ends_v q y) →
+both_by : (p q : View) (u : Closing) {f g : Closing → Bool} → ((x : Closing) → f x ≡ ends_v p x) → ((y : Closing) → g y ≡ ends_v q y) →
     some_of (λ x. some_of (λ y. eqc u (join x y) && (f x && g y)) closings) closings ≡ both_v p q u
 unfolding both_v meet_v
-both_by u d e = ap₂ (λ f g. some_of (λ x. some_of (λ y. eqc u (join x y) && (f x && g y)) closings) closings) (fun_ext d) (fun_ext e)
+both_by p q u d e = ap₂ (λ f g. some_of (λ x. some_of (λ y. eqc u (join x y) && (f x && g y)) closings) closings) (fun_ext d) (fun_ext e)
 
 -- a part that goes on where b: make makes a view of the steps, the ending it goes on from and the two others
 goes_on : (make : ℕ → Bool → Bool → Bool → View) (b : Bool) (m n : ℕ) (y x₁ y₁ x₂ y₂ : Bool) →
@@ -139,7 +139,7 @@ module _ (a : ℕ) where
   view_par j p q = λ i. viewed (par_counted j p q i) (both done i) (both withdrawn i) (both failed i)
     where
       both : (u : Closing) → ends (par j p q) u ≡ both_v (view a p) (view a q) u
-      both u = ends_par j p q u ∙ both_by u (view_ends p) (view_ends q)
+      both u = ends_par j p q u ∙ both_by _ _ u (view_ends p) (view_ends q)
 
   pub view_seq : (p q : Std) → view a (seq p q) ≡ seq_v (view a p) (view a q)
   unfolding view able seq_v
@@ -276,7 +276,7 @@ module _ (a : ℕ) where
   some_besides : (j : Joint) (u : Closing) (ks ls : List Std) → some_of (λ k. ends k u) (besides j ks ls) ≡ both_v (any_v (tally a ks)) (any_v (tally a ls)) u
   some_besides j u ks ls =
       sum_pairs truths (par j) (λ k. ends k u) ks ls closings closings (λ x y. eqc u (join x y)) (λ x k. ends k x) (λ y l. ends l y) (λ p q. ends_par j p q u)
-      ∙ both_by u (any_ends ks) (any_ends ls)
+      ∙ both_by _ _ u (any_ends ks) (any_ends ls)
 
   pub tally_par : (j : Joint) (ks ls : List Std) → tally a (besides j ks ls) ≡ par_t (j a) (tally a ks) (tally a ls)
   unfolding tally par_t each

@@ -201,6 +201,7 @@ module _ (a : ℕ) (g : Weight) (p : Std) {j : ℕ} where
   skip_sought f = record { found = f; counted = rw steps_skip refl; ended = sym (ends_skip done) }
 
   pub seek_pair_skip : (q : Std) (w : Closing) → T (not (eqc w done)) → j < cap (sum_of (weight a g) (comps (pair p q) w)) → Sought a g (comps (pair p q) w) j skip j 0 true
+  seek_pair_skip q done t h = elim t [ ]
   seek_pair_skip q withdrawn t h = skip_sought (rw comps_pair (one_found (ends p withdrawn) skip (rw comps_pair at h)))
   seek_pair_skip q failed t h = skip_sought (rw comps_pair (one_found (ends p failed) skip (rw comps_pair at h)))
 
