@@ -3,18 +3,10 @@ use Prim.Native.Nat.{ℕ}
 use mathlib.Core.Bool.{Bool, true, false, ◌&&◌}
 use mathlib.Core.List.{List}
 use mathlib.Core.Path.{◌≡◌, sym, ap, ◌∙◌}
-use borrow.Author.Rules.{rules}
 use Rattle.format.specs.Format.{Entry}
 use Rattle.format.specs.Matching.{same_step, no_machine}
 use Rattle.matching.specs.Others.{takes_step}
-use Rattle.matching.proofs.takes_step.Statement.{statement}
-use Rattle.matching.proofs.takes_step.Tie as tie
-
-without-machine-requires : tie.Need-without-machine-requires
-without-machine-requires c κs = search rules
-
-same-step-requires : tie.Need-same-step-requires
-same-step-requires c κs = search rules
+use Rattle.matching.proofs.takes_step.Goals as goal
 
 -- by whether the entry has a machine
 without : (step : List ℕ) (e : Entry) {r : Bool} → no_machine e ≡ true → r ≡ same_step e.step step → r ≡ takes_step step e
@@ -25,11 +17,8 @@ with-one : (step : List ℕ) (e : Entry) → no_machine e ≡ false → false �
 unfolding takes_step
 with-one step e m = sym (ap (λ (b : Bool). b && same_step e.step step) m)
 
-returns : tie.Need-returns
-returns c = without _ _ (sym c.before.before.without-machine.ensures ∙ c.before.if1.true) c.same_step.ensures
+pub returns-then-without_machine : goal.returns-then-without_machine
+returns-then-without_machine c = without _ _ (sym c.without_machine.ensures ∙ c.if-without_machine.true) c.same_step.ensures
 
-returns-2 : tie.Need-returns-2
-returns-2 c = with-one _ _ (sym c.before.without-machine.ensures ∙ c.if1.false)
-
-pub takes-step-spec : {M : Type 1} → statement M
-takes-step-spec = tie.close (tie.spec without-machine-requires same-step-requires returns returns-2)
+pub returns-else-without_machine : goal.returns-else-without_machine
+returns-else-without_machine c = with-one _ _ (sym c.without_machine.ensures ∙ c.if-without_machine.false)
