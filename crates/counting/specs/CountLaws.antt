@@ -17,7 +17,7 @@ use Rattle.tallies.specs.declared.View.{View}
 use Rattle.tallies.specs.declared.Word.{Word}
 use Rattle.tallies.specs.Formulas.{skip_v, ev_v, hnd_v, blk_v, pair_w, held_w}
 use Rattle.tallies.specs.Counts.{view, word}
-use Rattle.tallies.specs.CountsLaws.{view_ev, view_hnd, view_blk, word_pair, word_held}
+use Rattle.tallies.proofs.CountsLaws.{view_ev, view_hnd, view_blk, word_pair, word_held}
 use Rattle.states.specs.declared.Sense.{Sense}
 use Rattle.states.specs.declared.Sense.TheVariants.{Drawn, Undoing}
 use Rattle.states.specs.declared.Role.{Role}

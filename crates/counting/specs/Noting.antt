@@ -13,7 +13,7 @@ use Rattle.tallies.specs.declared.View.{View}
 use Rattle.tallies.specs.Formulas.{skip_v, pair_w}
 use Rattle.tallies.specs.Bare.{bare_w}
 use Rattle.tallies.specs.Counts.{view}
-use Rattle.tallies.specs.CountsLaws.{view_skip, word_pair}
+use Rattle.tallies.proofs.CountsLaws.{view_skip, word_pair}
 use Rattle.states.specs.declared.Sense.TheVariants.{Undoing}
 use Rattle.states.specs.declared.Role.{Role}
 use Rattle.states.specs.declared.Role.TheVariants.{Plain, Running}

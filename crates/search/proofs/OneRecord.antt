@@ -22,7 +22,7 @@ use Rattle.tallies.specs.Counts.{moves, view, tally, word}
 use Rattle.tallies.specs.Formulas.{by_w, closing, one_g}
 use Rattle.tallies.specs.PlacesLaws.{at_map}
 use Rattle.tallies.specs.Places.{At}
-use Rattle.tallies.specs.SeekLaws.{view_moves, word_moves, tally_by, seek_one, seek_one_room}
+use Rattle.tallies.proofs.SeekLaws.{view_moves, word_moves, tally_by, seek_one, seek_one_room}
 use Rattle.tallies.specs.declared.View.{View}
 use Rattle.tallies.specs.declared.Tally.{Tally}
 use Rattle.tallies.specs.declared.Word.{Word}

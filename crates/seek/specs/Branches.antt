@@ -21,11 +21,11 @@ use Rattle.flow.specs.Trees.{Under, Tree}
 use Rattle.flow.specs.NodeChildren.{two_kids, kids_disjoint}
 use Rattle.tallies.specs.Capped.{cap}
 use Rattle.tallies.specs.Counts.{sum_of, moves, view, tally, word, weight}
-use Rattle.tallies.specs.CountsLaws.{by_word, word_pair}
+use Rattle.tallies.proofs.CountsLaws.{by_word, word_pair}
 use Rattle.tallies.specs.Formulas.{closing, skip_v, one_t, worded, pair_w, when_t, by_w, total, after_g, inside_g, beside_g, within_g, fitting_t, partners_t}
 use Rattle.tallies.specs.Bare.{bare_w}
 use Rattle.tallies.specs.BareLaws.{total_by_bare, total_when_bare, after_by_bare, beside_partners_bare, side_bare, fitting_bare}
-use Rattle.tallies.specs.SeekLaws.{eqc_done, closing_other, fall_done, fall_withdrawn, fall_failed, total_by, total_when, seek_pair, seek_pair_skip, seek_skip, seek_calt_first, seek_calt_room, seek_calt_second, seek_second_room, seek_second, seek_held_room, seek_held, seek_own_room, seek_own, seek_both_room, seek_both_rest, seek_both, seek_par_first_room, seek_par_second_room, seek_par}
+use Rattle.tallies.proofs.SeekLaws.{eqc_done, closing_other, fall_done, fall_withdrawn, fall_failed, total_by, total_when, seek_pair, seek_pair_skip, seek_skip, seek_calt_first, seek_calt_room, seek_calt_second, seek_second_room, seek_second, seek_held_room, seek_held, seek_own_room, seek_own, seek_both_room, seek_both_rest, seek_both, seek_par_first_room, seek_par_second_room, seek_par}
 use Rattle.tallies.specs.Sought.{Falls}
 use Rattle.tallies.specs.declared.Word.{Word}
 use Rattle.tallies.specs.declared.Weight.{Weight}

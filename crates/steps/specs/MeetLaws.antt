@@ -13,7 +13,7 @@ use Rattle.flow.specs.Kinds.{node, shape, set_of}
 use Rattle.flow.specs.Cues.{cued, joint_at, joint_by}
 use Rattle.tallies.specs.Capped.{cap}
 use Rattle.tallies.specs.Places.{At}
-use Rattle.tallies.specs.StepLaws.{Together, par_together, cpar_together, joint_some, joint_first_room, joint_second_room, joint_goes}
+use Rattle.tallies.proofs.StepLaws.{Together, par_together, cpar_together, joint_some, joint_first_room, joint_second_room, joint_goes}
 use Rattle.states.specs.declared.Sense.{Sense}
 use Rattle.states.specs.declared.Standing.{Standing}
 use Rattle.states.specs.declared.Standing.TheVariants as standing

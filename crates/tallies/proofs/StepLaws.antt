@@ -15,7 +15,7 @@ use Rattle.tallies.specs.CappedLaws.{factor_some, factor_first, factor_second, c
 use Rattle.tallies.specs.Formulas.{sides, moves_g, hold_g}
 use Rattle.tallies.specs.Counts.{sum_of, moves, weight}
 use Rattle.tallies.specs.SumsLaws.{length_each}
-use Rattle.tallies.specs.CountsLaws.{sides_beside}
+use Rattle.tallies.proofs.CountsLaws.{sides_beside}
 use Rattle.tallies.specs.Places.{At, Finds}
 use Rattle.tallies.specs.PlacesLaws.{at_is, at_left, at_after, at_map, at_grid, at_only, at_each, finds_rest, finds_rest_le, finds_cap, sum_cap, only_holds, only_room}
 

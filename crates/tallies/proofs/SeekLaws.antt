@@ -20,7 +20,7 @@ use Rattle.tallies.specs.Formulas.{when_t, by_w, weighs, total, one_g, after_g, 
 use Rattle.tallies.specs.Counts.{sum_of, moves_both, moves, able, view, tally, word, weight}
 use Rattle.tallies.specs.Grids.{besides, partners}
 use Rattle.tallies.specs.SumsLaws.{numbers, number_nil, sum_append, sum_map, sum_each, sum_by, sum_same, length_is}
-use Rattle.tallies.specs.CountsLaws.{both_done, able_seq, able_par, moves_seq, moves_par, par_counted, tally_only, by_word, comps_partners, word_partners, weight_total}
+use Rattle.tallies.proofs.CountsLaws.{both_done, able_seq, able_par, moves_seq, moves_par, par_counted, tally_only, by_word, comps_partners, word_partners, weight_total}
 use Rattle.tallies.specs.Places.{At, Finds}
 use Rattle.tallies.specs.PlacesLaws.{at_is, finds_is, finds_left, finds_after, finds_one, finds_rest, finds_rest_le, finds_only, finds_map, finds_each, finds_cap, sum_cap, only_holds, only_room}
 use Rattle.tallies.specs.Sought.{Sought, Falls, by_closing}
