@@ -7,7 +7,7 @@ use lib.ListN.{length}
 use Rattle.format.specs.Items.{name_at, name_end, entry_at, entry_end, entries_at}
 use Rattle.format.specs.NameLaws.{end_step, end_inside}
 use Rattle.matching.specs.Others.{first_taking}
-use Rattle.matching.specs.CueLaws.{taking_hit, taking_miss, taking_none}
+use Rattle.matching.proofs.CueLaws.{taking_hit, taking_miss, taking_none}
 use Rattle.matching.proofs.first_taking.Goals as goal
 
 pub loop-i-init : goal.loop-i-init

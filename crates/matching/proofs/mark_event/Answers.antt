@@ -1,6 +1,6 @@
 -- `matching::mark_event` meets its contract: by whether the event is one of 256. Assumes nothing.
 use native.Mathlib.Omega.{arith}
-use Rattle.matching.specs.MarkLaws.{also_event, also_above}
+use Rattle.matching.proofs.MarkLaws.{also_event, also_above}
 use Rattle.matching.proofs.mark_event.Goals as goal
 
 pub returns-then-event-le-MOST_EVENTS : goal.returns-then-event-le-MOST_EVENTS

@@ -1,7 +1,7 @@
 -- `matching::mark_named_leaf` meets its contract: the marks of one node more. Assumes nothing.
 use Rattle.format.specs.ListChecks.{entries_in}
 use Rattle.matching.specs.Others.{other}
-use Rattle.matching.specs.MarkLaws.{heard_more, heard_same}
+use Rattle.matching.proofs.MarkLaws.{heard_more, heard_same}
 use Rattle.matching.proofs.mark_named_leaf.Goals as goal
 
 pub mark_taken-requires : goal.mark_taken-requires

@@ -1,6 +1,6 @@
 -- `matching::mark_plain_leaf` meets its contract: the marks of one node more. Assumes nothing.
 use Rattle.flow.specs.Cues.{itself}
-use Rattle.matching.specs.MarkLaws.{marked_plain, heard_more, heard_same}
+use Rattle.matching.proofs.MarkLaws.{marked_plain, heard_more, heard_same}
 use Rattle.matching.proofs.mark_plain_leaf.Goals as goal
 
 pub mark_event-requires : goal.mark_event-requires

@@ -8,8 +8,8 @@ use native.Mathlib.Omega.{arith}
 use lib.ListN.{length}
 use Rattle.format.specs.Items.{name_at, name_end, entry_end, entries_end}
 use Rattle.format.specs.SectionLaws.{entries_end_more}
-use Rattle.matching.specs.CueLaws.{nth_entry_ends}
-use Rattle.matching.specs.MarkLaws.{steps_none, steps_more}
+use Rattle.matching.proofs.CueLaws.{nth_entry_ends}
+use Rattle.matching.proofs.MarkLaws.{steps_none, steps_more}
 use Rattle.matching.proofs.mark_steps.Goals as goal
 
 -- the entry that is looked at is one of them

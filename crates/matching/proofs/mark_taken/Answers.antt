@@ -2,8 +2,8 @@
 use mathlib.Core.Path.{sym, ◌∙◌}
 use native.Mathlib.Omega.{arith}
 use Rattle.format.specs.EntryLaws.{whole_there}
-use Rattle.matching.specs.CueLaws.{whole_long, count_is, from_one, entries_inside, entry_inside}
-use Rattle.matching.specs.MarkLaws.{marked_unnamed, marked_machine, marked_steps}
+use Rattle.matching.proofs.CueLaws.{whole_long, count_is, from_one, entries_inside, entry_inside}
+use Rattle.matching.proofs.MarkLaws.{marked_unnamed, marked_machine, marked_steps}
 use Rattle.matching.proofs.mark_taken.Goals as goal
 
 pub count_of_names-count-requires : goal.count_of_names-count-requires

@@ -6,7 +6,7 @@ use Rattle.flow.specs.Cues.{masked}
 use Rattle.format.specs.ListChecks.{entries_in}
 use Rattle.matching.specs.Others.{other}
 use Rattle.matching.specs.Asks.{ask}
-use Rattle.matching.specs.MarkLaws.{heard_none, ask_is, asked_none, asked_more, asked_all}
+use Rattle.matching.proofs.MarkLaws.{heard_none, ask_is, asked_none, asked_more, asked_all}
 use Rattle.matching.proofs.named_asks.Goals as goal
 
 pub mark_named_leaves-requires : goal.mark_named_leaves-requires

@@ -11,7 +11,7 @@ use Rattle.flow.specs.Cues.{cue_of, masked}
 use Rattle.format.specs.ListChecks.{entries_in}
 use Rattle.format.specs.Told.{at_front}
 use Rattle.matching.specs.Others.{other}
-use Rattle.matching.specs.CueLaws.{front_next}
+use Rattle.matching.proofs.CueLaws.{front_next}
 use Rattle.matching.proofs.named_cues.Goals as goal
 
 pub loop-i-init : goal.loop-i-init

@@ -4,7 +4,7 @@ use mathlib.Core.Path.{ap, ◌∙◌}
 use native.Mathlib.Omega.{arith}
 use Rattle.format.specs.Items.{name_at, entries_at}
 use Rattle.matching.specs.Others.{first_taking}
-use Rattle.matching.specs.CueLaws.{whole_long, no_other, from_one, entries_inside, entry_inside, has_other}
+use Rattle.matching.proofs.CueLaws.{whole_long, no_other, from_one, entries_inside, entry_inside, has_other}
 use Rattle.matching.proofs.other_event.Goals as goal
 
 pub count_of_names-count-requires : goal.count_of_names-count-requires

@@ -4,7 +4,7 @@ use native.Mathlib.Omega.{arith}
 use Rattle.flow.specs.Legends.{in_set}
 use Rattle.flow.specs.Cues.{itself, masked}
 use Rattle.matching.specs.Asks.{ask}
-use Rattle.matching.specs.MarkLaws.{heard_none, ask_is, asked_none, asked_more, asked_all}
+use Rattle.matching.proofs.MarkLaws.{heard_none, ask_is, asked_none, asked_more, asked_all}
 use Rattle.matching.proofs.plain_asks.Goals as goal
 
 pub mark_plain_leaves-requires : goal.mark_plain_leaves-requires

@@ -9,7 +9,7 @@ use lib.Seq.{take_all}
 use Rattle.flow.specs.Legends.{in_set}
 use Rattle.flow.specs.Cues.{cue_of, masked, itself}
 use Rattle.format.specs.Told.{at_front}
-use Rattle.matching.specs.CueLaws.{front_next}
+use Rattle.matching.proofs.CueLaws.{front_next}
 use Rattle.matching.proofs.plain_cues.Goals as goal
 
 pub loop-i-init : goal.loop-i-init

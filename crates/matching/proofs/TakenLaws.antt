@@ -16,7 +16,7 @@ use Rattle.format.specs.Format.{Entry}
 use Rattle.format.specs.Matching.{same_step, nobody, entry_of, no_machine, matches}
 use Rattle.format.specs.EntryLaws.{Apart}
 use Rattle.matching.specs.Others.{other}
-use Rattle.matching.specs.OtherLaws.{other_some, other_small, other_takes}
+use Rattle.matching.proofs.OtherLaws.{other_some, other_small, other_takes}
 use Rattle.matching.specs.Asks.{takes_event, has_step}
 
 ---- The entries that have a step name ----

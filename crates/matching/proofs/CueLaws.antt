@@ -15,7 +15,7 @@ use Rattle.format.specs.Items.{number_at, name_at, entry_at, entry_end, entries_
 use Rattle.format.specs.SectionLaws.{entries_end_le, front_set}
 use Rattle.format.specs.EntryLaws.{whole_there}
 use Rattle.matching.specs.Others.{takes_step, first_taking, other}
-use Rattle.matching.specs.OtherLaws.{other_first}
+use Rattle.matching.proofs.OtherLaws.{other_first}
 
 ---- Entries in a names section ----
 

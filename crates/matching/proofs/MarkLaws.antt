@@ -23,9 +23,9 @@ use Rattle.format.specs.EntryLaws.{whole_there}
 use Rattle.matching.specs.Others.{other}
 use Rattle.matching.specs.Asks.{some_leaf, hears, ask, asks, takes_event, HeardMarks, AlsoMarked, has_step, ask_by, AskedTo}
 use Rattle.matching.specs.SetLaws.{mask_low}
-use Rattle.matching.specs.AskLaws.{asks_length, asks_at}
-use Rattle.matching.specs.CueLaws.{count_is, entries_are, entry_is}
-use Rattle.matching.specs.TakenLaws.{step_none, step_more, takes_cue_is, takes_own, taken_unnamed, taken_named}
+use Rattle.matching.proofs.AskLaws.{asks_length, asks_at}
+use Rattle.matching.proofs.CueLaws.{count_is, entries_are, entry_is}
+use Rattle.matching.proofs.TakenLaws.{step_none, step_more, takes_cue_is, takes_own, taken_unnamed, taken_named}
 
 ---- Marks by tests ----
 
