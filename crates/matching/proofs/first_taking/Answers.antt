@@ -1,7 +1,7 @@
 -- `matching::first_taking` meets its contract: the loop's invariant: the first of all the entries that takes the step name is the first of
 -- those from the offset on. Assumes nothing.
 use Prim.Native.Nat.{ℕ, ◌+◌, ◌-◌, ◌≤◌}
-use mathlib.Core.Path.{◌≡◌, ap, sym, ◌∙◌}
+use mathlib.Core.Path.{ap, sym, ◌∙◌}
 use native.Mathlib.Omega.{arith}
 use lib.ListN.{length}
 use Rattle.format.specs.Items.{name_at, name_end, entry_at, entry_end, entries_at}
@@ -10,21 +10,11 @@ use Rattle.matching.specs.Others.{first_taking}
 use Rattle.matching.proofs.CueLaws.{taking_hit, taking_miss, taking_none}
 use Rattle.matching.proofs.first_taking.Goals as goal
 
-pub loop-i-init : goal.loop-i-init
-loop-i-init c =
-    let a = c.args in
-    let s = a.names.now in
-    let z : a.count - 0 ≡ a.count = omega arith in
-    (omega arith, rw z c.requires.0, ap (λ (n : ℕ). first_taking (name_at s a.at) a.own (entries_at s n 2) 1) (sym z))
-
 pub takes_step-requires : goal.takes_step-requires
 takes_step-requires c =
     let s = c.args.names.now in
     let l = c.loop-i in
     (omega (arith, end_inside s (entry_at s 2) c.args.count l.i l.entry (omega arith), l.invariant.1), c.requires.1)
-
-pub overflow_add-result : goal.overflow_add-result
-overflow_add-result c = omega arith
 
 pub returns-then-takes_step : goal.returns-then-takes_step
 returns-then-takes_step c =
@@ -47,12 +37,6 @@ end_of_name-entry-requires c =
     let l = c.loop-i in
     let h : entry_end s l.entry ≤ length s = omega (arith, end_inside s (entry_at s 2) a.count l.i l.entry (omega arith), l.invariant.1) in
     rw c.end_of_name.ensures h
-
-pub overflow_add-i : goal.overflow_add-i
-overflow_add-i c = omega arith
-
-pub loop-i-smaller : goal.loop-i-smaller
-loop-i-smaller c = omega arith
 
 pub loop-i-preserved : goal.loop-i-preserved
 loop-i-preserved c =

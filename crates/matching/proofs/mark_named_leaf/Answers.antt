@@ -4,9 +4,6 @@ use Rattle.matching.specs.Others.{other}
 use Rattle.matching.proofs.MarkLaws.{heard_more, heard_same}
 use Rattle.matching.proofs.mark_named_leaf.Goals as goal
 
-pub mark_taken-requires : goal.mark_taken-requires
-mark_taken-requires c = (c.requires.whole.0, c.requires.heard_marks.size)
-
 pub returns-then-form : goal.returns-then-form
 returns-then-form c =
     heard_more (other (entries_in c.args.names.now)) c.args.nodes.now c.requires.heard_marks

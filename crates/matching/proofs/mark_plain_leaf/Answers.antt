@@ -3,9 +3,6 @@ use Rattle.flow.specs.Cues.{itself}
 use Rattle.matching.proofs.MarkLaws.{marked_plain, heard_more, heard_same}
 use Rattle.matching.proofs.mark_plain_leaf.Goals as goal
 
-pub mark_event-requires : goal.mark_event-requires
-mark_event-requires c = c.requires.heard_marks.size
-
 pub returns-then-form : goal.returns-then-form
 returns-then-form c =
     heard_more itself c.args.nodes.now c.requires.heard_marks

@@ -1,3 +1,4 @@
+-- `matching::mark_plain_leaves` meets its contract: the loop's invariant: the marks are those of the first i nodes. Assumes nothing.
 use Prim.Native.Nat.{◌-◌, ◌≤◌}
 use Rattle.flow.specs.Refusals.{count}
 use Rattle.flow.specs.Cues.{itself}

@@ -25,18 +25,6 @@ same_step-same-requires c =
     let l = c.loop-i in
     (omega (arith, c.requires.count_in_bounds.1), omega (arith, inside c.args.names.now c.args.count l.i l.entry (omega arith) l.invariant.1 c.requires.count_in_bounds.0))
 
-pub overflow_cast-event : goal.overflow_cast-event
-overflow_cast-event c = omega arith
-
-pub overflow_add-event : goal.overflow_add-event
-overflow_add-event c = omega arith
-
-pub bounds-marks-event : goal.bounds-marks-event
-bounds-marks-event c = omega arith
-
-pub bounds-marks-event-in-loop-i : goal.bounds-marks-event-in-loop-i
-bounds-marks-event-in-loop-i c = omega arith
-
 pub end_of_name-requires : goal.end_of_name-requires
 end_of_name-requires c =
     let l = c.loop-i in
@@ -47,12 +35,6 @@ end_of_name-entry-requires c =
     let l = c.loop-i in
     rw c.end_of_name.ensures (inside c.args.names.now c.args.count l.i l.entry (omega arith) l.invariant.1 c.requires.count_in_bounds.0)
 
-pub overflow_add-i : goal.overflow_add-i
-overflow_add-i c = omega arith
-
-pub loop-i-smaller : goal.loop-i-smaller
-loop-i-smaller c = omega arith
-
 pub loop-i-preserved : goal.loop-i-preserved
 loop-i-preserved c =
     let s = c.args.names.now in
@@ -62,9 +44,3 @@ loop-i-preserved c =
       e ∙ ap (entry_end s) l.invariant.1 ∙ sym (entries_end_more s l.i 2) ∙ ap (λ (n : ℕ). entries_end s n 2) (sym (add-one l.i)),
       steps_more s (name_at s c.args.at) l.i (omega (arith, l.invariant.2.size)) l.invariant.1 c.same_step-same.ensures refl l.invariant.2,
     )
-
-pub returns : goal.returns
-returns c =
-    let l = c.loop-i in
-    let d : l.i ≡ c.args.count = omega arith in
-    rw d at l.invariant.2

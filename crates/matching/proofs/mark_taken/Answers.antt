@@ -2,7 +2,7 @@
 use mathlib.Core.Path.{sym, ◌∙◌}
 use native.Mathlib.Omega.{arith}
 use Rattle.format.specs.EntryLaws.{whole_there}
-use Rattle.matching.proofs.CueLaws.{whole_long, count_is, from_one, entries_inside, entry_inside}
+use Rattle.matching.proofs.CueLaws.{whole_long, count_is, entries_inside, entry_inside}
 use Rattle.matching.proofs.MarkLaws.{marked_unnamed, marked_machine, marked_steps}
 use Rattle.matching.proofs.mark_taken.Goals as goal
 
@@ -11,9 +11,6 @@ count_of_names-count-requires c = whole_long _ c.requires.0
 
 pub returns-then-event-count : goal.returns-then-event-count
 returns-then-event-count c = marked_unnamed c.args.names.now c.requires.0 c.count_of_names-count.ensures c.args.event c.mark_event.ensures c.if-event-count.true
-
-pub overflow_sub-event : goal.overflow_sub-event
-overflow_sub-event c = omega (arith, from_one c.args.names.now c.requires.0 c.count_of_names-count.ensures c.args.event c.if-event-count.false)
 
 pub behind_entries-at-requires : goal.behind_entries-at-requires
 behind_entries-at-requires c = omega (arith, entry_inside c.args.names.now c.requires.0 c.count_of_names-count.ensures c.args.event c.if-event-count.false)

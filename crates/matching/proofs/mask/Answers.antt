@@ -10,12 +10,6 @@ use Rattle.matching.proofs.mask.Goals as goal
 pub loop-set-init : goal.loop-set-init
 loop-set-init c = (omega arith, sym (mask_none _))
 
-pub overflow_mul-set : goal.overflow_mul-set
-overflow_mul-set c = omega arith
-
-pub set_bit-bits-requires : goal.set_bit-bits-requires
-set_bit-bits-requires c = some_set c.args.sets.now c.loop-set.set c.loop-set-test.true
-
 pub overflow_add-bits : goal.overflow_add-bits
 overflow_add-bits c =
     let a = c.args in
@@ -23,14 +17,6 @@ overflow_add-bits c =
     let f : ℕ → Bool = λ k. in_set a.sets.now k a.event in
     let below = some_set a.sets.now l.set c.loop-set-test.true in
     omega (arith, mask_more f l.set l.invariant.1 c.set_bit-bits.ensures, mask_within f (l.set + 1) (omega arith))
-
-pub overflow_add-set : goal.overflow_add-set
-overflow_add-set c = omega (arith, c.loop-set.invariant.0)
-
-pub loop-set-smaller : goal.loop-set-smaller
-loop-set-smaller c =
-    let l = c.loop-set in
-    omega (arith, some_set c.args.sets.now l.set c.loop-set-test.true)
 
 pub loop-set-preserved : goal.loop-set-preserved
 loop-set-preserved c =

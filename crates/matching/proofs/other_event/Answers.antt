@@ -4,7 +4,7 @@ use mathlib.Core.Path.{ap, ◌∙◌}
 use native.Mathlib.Omega.{arith}
 use Rattle.format.specs.Items.{name_at, entries_at}
 use Rattle.matching.specs.Others.{first_taking}
-use Rattle.matching.proofs.CueLaws.{whole_long, no_other, from_one, entries_inside, entry_inside, has_other}
+use Rattle.matching.proofs.CueLaws.{whole_long, no_other, entries_inside, entry_inside, has_other}
 use Rattle.matching.proofs.other_event.Goals as goal
 
 pub count_of_names-count-requires : goal.count_of_names-count-requires
@@ -12,9 +12,6 @@ count_of_names-count-requires c = whole_long _ c.requires
 
 pub returns-then-event-count : goal.returns-then-event-count
 returns-then-event-count c = no_other _ c.requires c.count_of_names-count.ensures _ c.if-event-count.true
-
-pub overflow_sub-event : goal.overflow_sub-event
-overflow_sub-event c = omega (arith, from_one c.args.names.now c.requires c.count_of_names-count.ensures c.args.event c.if-event-count.false)
 
 pub behind_entries-at-requires : goal.behind_entries-at-requires
 behind_entries-at-requires c = omega (arith, entry_inside c.args.names.now c.requires c.count_of_names-count.ensures c.args.event c.if-event-count.false)

@@ -13,24 +13,6 @@ mark_plain_leaves-requires c = heard_none _ _
 pub loop-i-init : goal.loop-i-init
 loop-i-init c = asked_none _ _ _ _ c.requires
 
-pub nth_number-requires : goal.nth_number-requires
-nth_number-requires c = omega arith
-
-pub plain_ask-requires : goal.plain_ask-requires
-plain_ask-requires c = tt
-
-pub offset_bounds-table-i : goal.offset_bounds-table-i
-offset_bounds-table-i c = omega arith
-
-pub bounds-table-i : goal.bounds-table-i
-bounds-table-i c = let l = c.loop-i in omega (arith, l.invariant.long)
-
-pub overflow_add-i : goal.overflow_add-i
-overflow_add-i c = omega arith
-
-pub loop-i-smaller : goal.loop-i-smaller
-loop-i-smaller c = omega arith
-
 pub loop-i-preserved : goal.loop-i-preserved
 loop-i-preserved c =
     let ns = c.args.nodes.now in
@@ -39,9 +21,6 @@ loop-i-preserved c =
     asked_more (masked sets) itself ns c.plain_ask.result l.invariant (omega arith)
     (c.plain_ask.ensures ∙ ask_is sets itself ns c.mark_plain_leaves.ensures c.nth_number.result
     ∙ ap (ask (masked sets) itself ns) c.nth_number.ensures)
-
-pub shape_of-table : goal.shape_of-table
-shape_of-table c = omega (arith, c.loop-i.invariant.long)
 
 pub returns : goal.returns
 returns c = asked_all _ _ _ c.loop-i.invariant (omega arith)
