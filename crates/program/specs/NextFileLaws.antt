@@ -33,7 +33,7 @@ use Rattle.format.specs.ItemLaws.{le_or_lt}
 use Rattle.format.specs.ContentLaws.{leaf_named}
 use Rattle.format.specs.ListLaws.{ListsPassed}
 use Rattle.matching.specs.NumberLaws.{numbers_length, each_number}
-use Rattle.matching.specs.OtherLaws.{other_beyond, section_beyond}
+use Rattle.matching.proofs.OtherLaws.{other_beyond, section_beyond}
 use Rattle.judge.specs.Judged.{unless_refused, named_flow}
 use Rattle.ahead.specs.declared.answer.Found.{Found}
 use Rattle.ahead.specs.declared.answer.Next.{Next}
