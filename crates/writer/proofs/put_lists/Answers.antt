@@ -8,7 +8,7 @@ use Rattle.format.specs.Format.{numbers_section, sets_section}
 use Rattle.format.specs.Told.{at_front}
 use Rattle.format.specs.Lengths.{section_length}
 use Rattle.writer.specs.Writing.{lists_bytes}
-use Rattle.writer.specs.Fronts.{front_then}
+use Rattle.writer.proofs.Fronts.{front_then}
 use Rattle.writer.proofs.put_lists.Goals as goal
 
 pub returns : goal.returns

@@ -1,5 +1,5 @@
 -- `writer::put_number` meets its contract: two bytes are stored. Assumes nothing.
-use Rattle.writer.specs.Fronts.{number_front}
+use Rattle.writer.proofs.Fronts.{number_front}
 use Rattle.writer.proofs.put_number.Goals as goal
 
 pub returns : goal.returns

@@ -9,7 +9,7 @@ use lib.Seq.{length-take-le, take_all}
 use Rattle.format.specs.Format.{number_bytes, numbers_bytes}
 use Rattle.format.specs.Told.{at_front}
 use Rattle.format.specs.Lengths.{numbers_bytes_length}
-use Rattle.writer.specs.Fronts.{front_length, front_then, numbers_bytes_next}
+use Rattle.writer.proofs.Fronts.{front_length, front_then, numbers_bytes_next}
 use Rattle.writer.proofs.put_numbers.Goals as goal
 
 -- so many bytes stand in front

@@ -5,7 +5,7 @@ use native.Mathlib.Nat.{div-le_self}
 use native.Mathlib.Omega.{arith}
 use lib.ListN.{length}
 use Rattle.format.specs.Format.{number_bytes, numbers_bytes, numbers_section}
-use Rattle.writer.specs.Fronts.{front_then}
+use Rattle.writer.proofs.Fronts.{front_then}
 use Rattle.writer.proofs.put_section.Goals as goal
 
 pub overflow_cast-count : goal.overflow_cast-count

@@ -8,7 +8,7 @@ use Rattle.flow.specs.Legends.{set_count}
 use Rattle.format.specs.Format.{number_bytes}
 use Rattle.format.specs.Told.{at_front}
 use Rattle.format.specs.Lengths.{section_of_none, section_of_some, sets_length}
-use Rattle.writer.specs.Fronts.{front_then}
+use Rattle.writer.proofs.Fronts.{front_then}
 use Rattle.writer.proofs.put_sets.Goals as goal
 
 pub returns-then-sets-eq0 : goal.returns-then-sets-eq0

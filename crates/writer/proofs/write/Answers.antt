@@ -6,8 +6,8 @@ use lib.ListN.{length}
 use Rattle.flow.specs.declared.Check.TheVariants as check
 use Rattle.format.specs.Lengths.{sets_length_most}
 use Rattle.writer.specs.Writing.{lists_bytes}
-use Rattle.writer.specs.Fronts.{lists_length}
-use Rattle.writer.specs.WriterLaws.{fine_lists, lists_refused, room_refused, room_passes, refused_as, written_as}
+use Rattle.writer.proofs.Fronts.{lists_length}
+use Rattle.writer.proofs.WriterLaws.{fine_lists, lists_refused, room_refused, room_passes, refused_as, written_as}
 use Rattle.writer.proofs.write.Goals as goal
 
 pub returns-in-Refused : goal.returns-in-Refused
