@@ -27,7 +27,7 @@ use Rattle.writer.specs.declared.Writing.{Writing}
 use Rattle.writer.specs.declared.Writing.TheVariants.{Written, Refused}
 use Rattle.writer.specs.Told.{writing_told}
 use Rattle.writer.specs.Writing.{lists_bytes, write_check, wrote, put_first, writing, bytes_first, WrittenAs}
-use Rattle.writer.specs.Fronts.{lists_length}
+use Rattle.writer.proofs.Fronts.{lists_length}
 
 -- lists that are written: what stands first then, how long it is, and that there is room for it
 pub record WrittenLists (s ns rs sets : List ℕ) (room : ℕ) (e : Size) : Type 0 where
