@@ -10,7 +10,7 @@ use Rattle.flow.specs.Legends.{in_set}
 use Rattle.judge.specs.JudgedLaws.{records_few}
 use Rattle.judge.specs.ByCues.{cues_front}
 use Rattle.ahead.specs.CheckLaws.{next_passed}
-use Rattle.ahead.specs.ByAsks.{next_refuses, plain_next_ready, plain_next}
+use Rattle.ahead.proofs.ByAsks.{next_refuses, plain_next_ready, plain_next}
 use Rattle.ahead.proofs.next.Goals as goal
 
 pub returns-in-Refused : goal.returns-in-Refused

@@ -1,6 +1,6 @@
 -- `ahead::next_by` meets its contract: what the search brings back of a beginning, and the numbers whose asks it answered. Assumes nothing.
 use mathlib.Core.Path.{refl, ◌∙◌}
-use Rattle.ahead.specs.ByAsks.{left_within, undecided_by, listed_by}
+use Rattle.ahead.proofs.ByAsks.{left_within, undecided_by, listed_by}
 use Rattle.ahead.proofs.next_by.Goals as goal
 
 pub ask-requires : goal.ask-requires

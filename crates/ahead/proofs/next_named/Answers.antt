@@ -12,7 +12,7 @@ use Rattle.judge.specs.Judged.{named_flow}
 use Rattle.judge.specs.JudgedLaws.{records_few}
 use Rattle.judge.specs.ByCues.{cues_front}
 use Rattle.ahead.specs.CheckLaws.{named_next_lists, named_next_passed}
-use Rattle.ahead.specs.ByAsks.{next_refuses, named_next_ready, named_next}
+use Rattle.ahead.proofs.ByAsks.{next_refuses, named_next_ready, named_next}
 use Rattle.ahead.proofs.next_named.Goals as goal
 
 pub returns-in-Refused : goal.returns-in-Refused

@@ -1,7 +1,7 @@
 -- `ahead::write_listed` meets its contract: the loop's invariant: the numbers among the first j whose asks are answered stand in front, and
 -- are n. Assumes nothing.
 use native.Mathlib.Omega.{arith}
-use Rattle.ahead.specs.PickedLaws.{listed_none, listed_yes, listed_no, listed_many, listed_all}
+use Rattle.ahead.proofs.PickedLaws.{listed_none, listed_yes, listed_no, listed_many, listed_all}
 use Rattle.ahead.proofs.write_listed.Goals as goal
 use Rattle.ahead.proofs.write_listed.Goals.{then-asks-j-eq-FOLLOWS, else-asks-j-eq-FOLLOWS}
 

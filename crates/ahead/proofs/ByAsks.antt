@@ -55,7 +55,7 @@ use Rattle.ahead.specs.declared.answer.Next.TheVariants.{Listed, Undecided, Refu
 use Rattle.ahead.specs.Told.{numbers_wanted, following}
 use Rattle.ahead.specs.Outcome.{next_check, named_next_check, allowed, next_by, list_by, NextBy, NextOf, NamedNextOf}
 use Rattle.ahead.specs.Answering.{picked, NextReady, cost, found, NextAnswered}
-use Rattle.ahead.specs.PickedLaws.{picked_those}
+use Rattle.ahead.proofs.PickedLaws.{picked_those}
 use Rattle.ahead.specs.CheckLaws.{next_passed, named_next_lists, named_next_passed}
 
 ---- What the search brings back of a beginning ----
