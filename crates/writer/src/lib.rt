@@ -75,7 +75,7 @@ fn put_sets(sets: &[u8], room: &mut [u8])
     }
     let count = sets.len() / flow::SET_BYTES;
     put_number(count as u16, room);
-    bytes::copy(sets, &mut room[2..]);
+    room[2..2 + sets.len()].copy_from_slice(sets);
 }
 
 // The sections: the names as they are lent, with their count, then nodes, records and sets.
@@ -83,7 +83,8 @@ fn put_lists(names: &[u8], nodes: &[u16], records: &[u16], sets: &[u8], file: &m
     requires { (length nodes.now ≤ 256) × (length records.now ≤ 256) × (length sets.now ≤ 512) × (length names.now + 4 + 2 * (length nodes.now + length records.now) + length (sets_section sets.now) ≤ length file.old) }
     ensures { file.new ≡ at_front (lists_bytes names.now nodes.now records.now sets.now) file.old }
 {
-    let from = bytes::copy(names, file);
+    let from = names.len();
+    file[..from].copy_from_slice(names);
     put_section(nodes, 3, &mut file[from..]);
     let mid = from + 2 + 2 * nodes.len();
     put_section(records, 1, &mut file[mid..]);
