@@ -16,9 +16,9 @@ use Rattle.std.proofs.lemmas.Bool.{lt-leb}
 use Rattle.calculus.specs.Records.{Record, State}
 use Rattle.calculus.specs.Search.{visit}
 use Rattle.calculus.specs.Spending.{Out as Found, spent, back, visit_b, left_of}
-use Rattle.calculus.specs.Budget.{visit_left}
+use Rattle.calculus.proofs.Budget.{visit_left}
 use Rattle.calculus.specs.Ahead.{Begins, passes, may_follow, entered}
-use Rattle.calculus.specs.AheadLaws.{begins_found, begins_entered}
+use Rattle.calculus.proofs.AheadLaws.{begins_found, begins_entered}
 use Rattle.flow.specs.declared.Extent.TheVariants.{Beginning}
 use Rattle.flow.specs.declared.Check.{Check}
 use Rattle.flow.specs.declared.Refusal.{Refusal}
@@ -44,10 +44,10 @@ use Rattle.search.specs.Visits.{out_of, Asking, follows_mark}
 use Rattle.search.specs.Searches.{LeftWithin, Searched, answered, went_through, asks_after, Asked}
 use Rattle.search.specs.SearchLaws.{visit_within}
 use Rattle.matching.specs.Asks.{ask, asks}
-use Rattle.matching.specs.AskLaws.{ask_cue, asks_length, asks_at, asks_low, asks_apart, unasked_at}
+use Rattle.matching.proofs.AskLaws.{ask_cue, asks_length, asks_at, asks_low, asks_apart, unasked_at}
 use Rattle.matching.specs.NumberLaws.{numbers_length, each_number}
 use Rattle.matching.specs.Others.{other}
-use Rattle.matching.specs.OtherLaws.{other_some, section_other_small}
+use Rattle.matching.proofs.OtherLaws.{other_some, section_other_small}
 use Rattle.judge.specs.Judged.{room_wanted, unless_refused}
 use Rattle.judge.specs.JudgedLaws.{Passed, fine_bytes, refused_bytes}
 use Rattle.judge.specs.ByCues.{Heard, Cueing, events_heard, cueing_ready, as_long, known, plain_cueing, named_cueing}

@@ -18,29 +18,5 @@ pub mod Renames
 pub mod Leaves
 pub mod Deaf
 pub mod Remade
--- Theorems.
-pub mod Equations
-pub mod Members
-pub mod Onward
-pub mod Exact
-pub mod SetLaws
-pub mod RunsAreTraces
-pub mod PrintedTraces
-pub mod Completes
-pub mod TraceLaws
-pub mod PairLaws
-pub mod LawsHold
-pub mod Found
-pub mod Budget
+-- The table that was judged by hand, by computing.
 pub mod JudgedByHand
-pub mod LeafChoice
-pub mod SpelledTraces
-pub mod RuledOut
-pub mod JointRuledOut
-pub mod Renamed
-pub mod WithinLaws
-pub mod DeafLaws
-pub mod AheadLaws
-pub mod RemadeLaws
-pub mod Redrawn
-pub mod AheadRuns

@@ -5,7 +5,7 @@ use Rattle.std.proofs.Math.Path.{sym, ap}
 use Rattle.std.proofs.Common.{◌∙◌, subst, subst₂, arith}
 use Rattle.std.proofs.Math.Bool.{true, false}
 use Rattle.std.proofs.Math.Dec.{T}
-use Rattle.calculus.specs.Members.{and_in}
+use Rattle.calculus.proofs.Members.{and_in}
 use Rattle.flow.specs.declared.Simple.{Simple}
 use Rattle.flow.specs.declared.Operator.{Operator}
 use Rattle.flow.specs.declared.Two.{Two}
@@ -17,7 +17,7 @@ use Rattle.tallies.specs.declared.View.{View}
 use Rattle.tallies.specs.declared.Word.{Word}
 use Rattle.tallies.specs.Formulas.{skip_v, ev_v, hnd_v, blk_v, pair_w, held_w}
 use Rattle.tallies.specs.Counts.{view, word}
-use Rattle.tallies.specs.CountsLaws.{view_ev, view_hnd, view_blk, word_pair, word_held}
+use Rattle.tallies.proofs.CountsLaws.{view_ev, view_hnd, view_blk, word_pair, word_held}
 use Rattle.states.specs.declared.Sense.{Sense}
 use Rattle.states.specs.declared.Sense.TheVariants.{Drawn, Undoing}
 use Rattle.states.specs.declared.Role.{Role}

@@ -4,7 +4,7 @@ use Rattle.std.proofs.Math.Path.{sym, ap, subst}
 use Rattle.std.proofs.Common.{◌∙◌}
 use Rattle.std.proofs.Math.Dec.{T}
 use Rattle.calculus.specs.Term.{skip}
-use Rattle.calculus.specs.Members.{and_in, and_left, and_right}
+use Rattle.calculus.proofs.Members.{and_in, and_left, and_right}
 use Rattle.flow.specs.declared.Two.{Two}
 use Rattle.flow.specs.Kinds.{shape}
 use Rattle.flow.specs.Shapes.{Kid}
@@ -13,12 +13,12 @@ use Rattle.tallies.specs.declared.View.{View}
 use Rattle.tallies.specs.Formulas.{skip_v, pair_w}
 use Rattle.tallies.specs.Bare.{bare_w}
 use Rattle.tallies.specs.Counts.{view}
-use Rattle.tallies.specs.CountsLaws.{view_skip, word_pair}
+use Rattle.tallies.proofs.CountsLaws.{view_skip, word_pair}
 use Rattle.states.specs.declared.Sense.TheVariants.{Undoing}
 use Rattle.states.specs.declared.Role.{Role}
-use Rattle.states.specs.declared.Role.TheVariants.{Plain, Running}
+use Rattle.states.specs.declared.Role.TheVariants.{Plain}
 use Rattle.states.specs.State.{modes}
-use Rattle.states.specs.Rows.{row, Written, Entry, Notes, notes, entries}
+use Rattle.states.specs.Rows.{Written, Notes, notes, entries}
 use Rattle.states.specs.Stored.{Right, held_word, counted_std, own}
 use Rattle.states.specs.StateLaws.{noted_frame, stored_own}
 use Rattle.states.specs.NotedLaws.{noted_in, held_in}

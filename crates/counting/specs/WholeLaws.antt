@@ -8,7 +8,7 @@ use Rattle.flow.specs.declared.Operator.TheVariants.{Sequence, Choice, Parallel}
 use Rattle.flow.specs.Kinds.{set_of, basic, paired, standard, compensable}
 use Rattle.flow.specs.Cues.{cued}
 use Rattle.tallies.specs.Counts.{view, word}
-use Rattle.tallies.specs.CountsLaws.{view_skip, view_throw, view_yield, view_seq, view_alt, view_par, word_skipp, word_throww, word_yieldd, word_cseq, word_calt, word_cpar}
+use Rattle.tallies.proofs.CountsLaws.{view_skip, view_throw, view_yield, view_seq, view_alt, view_par, word_skipp, word_throww, word_yieldd, word_cseq, word_calt, word_cpar}
 use Rattle.counting.specs.Wholes.{simple_v, operator_v, simple_w, operator_w}
 
 module _ (a : ℕ) where

@@ -1,19 +1,14 @@
--- What the last arm of a sort's table has to know (`up`), and the arms of `node_of` that no table answers: the node of a kind with a set, and that a number between the
--- ranges is no kind's. Assumes nothing.
+-- The arms of `node_of` that no table answers: the node of a kind with a set, and that a number between the ranges is no kind's. Assumes
+-- nothing.
 use Prim.Native.Nat.{ℕ, ◌+◌, ◌-◌, ◌<◌, ◌≤◌}
 use mathlib.Core.Path.{◌≡◌, sym, ap, ◌∙◌}
 use mathlib.Core.Bool.{true, false}
-use mathlib.Core.Logic.{◌≢◌}
 use native.Mathlib.Omega.{arith}
 use borrow.Author.Tests.{le-leb, lt-leb, lt-ltb, le-ltb}
 use Rattle.flow.specs.declared.Node.TheVariants.{Standard, Compensable, Unknown}
 use Rattle.flow.specs.declared.Operator.TheVariants.{Parallel}
 use Rattle.flow.specs.Kinds.{two, kind_in, joint_kind, node_of}
 use Rattle.flow.specs.EachKind.{beyond, unknown}
-
--- a number that is left behind n
-pub up : (n k : ℕ) → n ≤ k → k ≢ n → n + 1 ≤ k
-up n k h e = omega arith
 
 below : (base k : ℕ) → k < base → kind_in base k ≡ false
 below base k h = rw (lt-leb base k h)

@@ -1,5 +1,5 @@
 -- What the conditions 6 to 8 say of each child where they do not hold, and how marks of taken children and the sorts of the nodes passed grow. Assumes nothing.
-use Rattle.std.specs.Prelude.{ℕ, suc, ◌+◌, ◌<◌, ◌≡◌, true, ◌&&◌, ◌||◌, cond, List, T, set, replicate}
+use Rattle.std.specs.Prelude.{ℕ, suc, ◌+◌, ◌<◌, ◌≡◌, true, ◌&&◌, ◌||◌, List, T, set, replicate}
 use Rattle.std.proofs.Math.Path.{refl, ap, ap₂}
 use Rattle.std.proofs.Common.{sym, ◌∙◌, ⊎_elim, arith, eq-or-lt_of_le, add-one, length-set, get_or-set_same, get_or-set_other}
 use Rattle.std.proofs.Math.Bool.{Bool, false, not, xor, or-true, or-false, or_assoc}

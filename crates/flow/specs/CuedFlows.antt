@@ -16,10 +16,10 @@ use Rattle.calculus.specs.Records.{Record, event, State, std, cmp, Fits}
 use Rattle.calculus.specs.Search.{judge}
 use Rattle.calculus.specs.Ahead.{passes, entered, Begins}
 use Rattle.calculus.specs.Within.{Within}
-use Rattle.calculus.specs.Members.{or_cases, and_right}
-use Rattle.calculus.specs.Equations.{All, none, also}
+use Rattle.calculus.proofs.Members.{or_cases, and_right}
+use Rattle.calculus.proofs.Equations.{All, none, also}
 use Rattle.calculus.specs.Renames.{renamed, HeardIn, and_event, and_close, Renames, CRenames, RenamesState, of_skip, of_throw, of_yield, of_leaf, of_seq, of_alt, of_par, of_hnd, of_blk, of_pair, of_cseq, of_calt, of_cpar, of_std, of_cmp}
-use Rattle.calculus.specs.Renamed.{judge_renamed, passes_renamed, entered_renamed, fits_renamed, begins_renamed, within_renamed}
+use Rattle.calculus.proofs.Renamed.{judge_renamed, passes_renamed, entered_renamed, fits_renamed, begins_renamed, within_renamed}
 use Rattle.flow.specs.declared.Simple.{Simple}
 use Rattle.flow.specs.declared.Simple.TheVariants.{Skip, Throw, Yield}
 use Rattle.flow.specs.declared.Operator.{Operator}

@@ -8,7 +8,7 @@ use Rattle.std.proofs.Common.{sym, subst, arith}
 use Rattle.std.proofs.Math.Dec.{eqb_refl}
 use Rattle.calculus.specs.Term.{Leaf, Joint, done, withdrawn, failed}
 use Rattle.calculus.specs.Records.{Record, event, close}
-use Rattle.calculus.specs.Members.{or_in_right}
+use Rattle.calculus.proofs.Members.{or_in_right}
 use Rattle.flow.specs.declared.Operator.{Operator}
 use Rattle.flow.specs.declared.Operator.TheVariants.{Sequence, Choice, Parallel}
 use Rattle.flow.specs.Kinds.{most_sets, set_of}

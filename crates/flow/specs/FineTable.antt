@@ -9,7 +9,7 @@ use native.Mathlib.Omega.{arith}
 use Rattle.std.proofs.Math.Dec.{T, eqb, eqb_refl}
 use Rattle.std.proofs.Math.ListN.{get_or-eq_default}
 use borrow.Author.Tests.{eqb-true, eqb-false, ltb-true, ltb-false, not-false}
-use Rattle.calculus.specs.Members.{or_in_left, or_in_right, and_in, and_left, and_right}
+use Rattle.calculus.proofs.Members.{or_in_left, or_in_right, and_in, and_left, and_right}
 use Rattle.flow.specs.declared.Check.TheVariants.{Fine}
 use Rattle.flow.specs.Shapes.{Kid, kid1, kid2}
 use Rattle.flow.specs.Trees.{Tree}

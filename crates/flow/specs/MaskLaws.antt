@@ -1,7 +1,7 @@
 -- What the mask of a set of numbers says of each: its bit, whatever stands above the mask (`mask_bit`), also where it stands in a cue
 -- (`mask_read`); and that it is small (`mask_small`). Assumes nothing.
 use Rattle.std.specs.Prelude.{ℕ, zero, suc, ◌+◌, ◌*◌, ◌/◌, ◌%◌, ◌<◌, ◌≤◌, ◌^◌, ◌≡◌, refl, ◌⊎◌, Bool, true, false, cond, eqb}
-use Rattle.std.proofs.Common.{sym, ap, ◌∙◌, subst, inl, inr, arith, eq-or-lt_of_le, pow-suc, add-mul, mul_assoc, pow-add}
+use Rattle.std.proofs.Common.{sym, ap, ◌∙◌, inl, inr, arith, eq-or-lt_of_le, pow-suc, add-mul, mul_assoc, pow-add}
 use Rattle.std.proofs.Math.Nat.{one-le-pow, div-eq_of_lt, add-mul-div_right, div-div-eq-div-mul}
 use Rattle.flow.specs.Cues.{cue, mask_of, joint_cue}
 

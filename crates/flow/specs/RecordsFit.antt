@@ -12,7 +12,7 @@ use Rattle.calculus.specs.Term.{Closing, done, withdrawn, failed, Std, Cmp}
 use Rattle.calculus.specs.Records.{Record, event, close, State, std, cmp, Closed, last, ClosedTwice, Fits}
 use Rattle.calculus.specs.Ahead.{Open, OpenTwice, Begins}
 use Rattle.calculus.specs.Within.{Within}
-use Rattle.calculus.specs.WithinLaws.{fits_within, begins_within}
+use Rattle.calculus.proofs.WithinLaws.{fits_within, begins_within}
 use Rattle.flow.specs.declared.Check.TheVariants.{Fine}
 use Rattle.flow.specs.declared.Extent.{Extent}
 use Rattle.flow.specs.declared.Extent.TheVariants.{Whole, Beginning}

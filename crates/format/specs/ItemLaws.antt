@@ -10,7 +10,7 @@ use Rattle.format.specs.declared.Item.{Item}
 use Rattle.format.specs.declared.Item.TheVariants.{Has, Bad}
 use Rattle.format.specs.declared.Range.{Range}
 use Rattle.format.specs.Format.{Entry}
-use Rattle.format.specs.Plan.{Plan, done, refuse, place, item, ◌>>=◌, Ran, got, bad, run}
+use Rattle.format.specs.Plan.{Plan, done, refuse, item, ◌>>=◌, Ran, got, bad, run}
 use Rattle.format.specs.Plans.{bind_bad, bind_got, item_there, item_cut}
 use Rattle.format.specs.Sections.{byte, number, ranged, step_length, machine_length, name, entry}
 use Rattle.format.specs.Items.{refusal_of, item_told, refusal_in, as_item, item_in_range, number_at, name_at, name_end, entry_end}

@@ -65,7 +65,7 @@ module _ (s : List ℕ) where
 module _ (extent : Extent) (s sets ns rs : List ℕ) where
   pub alone_refused : {n p : ℕ} → section_alone s ≡ bad n p → lists_check extent s sets ns rs ≡ refused n p
   unfolding lists_check named_check by_entries
-  alone_refused e = ap (by_entries _) e
+  alone_refused e = ap (by_entries (λ es. lists_order extent (length es) sets ns rs)) e
 
   module _ {es : List Entry} {at : ℕ} (e : section_alone s ≡ got es at) where
     -- from each check on
@@ -82,7 +82,7 @@ module _ (extent : Extent) (s sets ns rs : List ℕ) where
     unfolding lists_check named_check by_entries grounds_of table_length_check records_length_check sets_check
     lists_is =
         let inner = content_order extent (length es) (set_count sets) ns rs in
-        ap (by_entries _) e
+        ap (by_entries (λ es. lists_order extent (length es) sets ns rs)) e
         ∙ orders_append (table_length_order ns) (records_length_order extent rs ++ (sets_order sets ++ inner))
         ∙ ap (or_else_check (table_length_check ns)) (orders_append (records_length_order extent rs) (sets_order sets ++ inner)
         ∙ ap (or_else_check (records_length_check extent rs)) (orders_append (sets_order sets) inner))

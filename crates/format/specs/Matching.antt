@@ -3,7 +3,7 @@
 use Rattle.std.specs.Prelude.{ℕ, Bool, true, false, ◌&&◌, ◌||◌, List, [], ◌∷◌, T, eqb, length, get_or}
 use Rattle.std.proofs.Math.Dec.{eqb_refl}
 use Rattle.calculus.specs.Term.{Leaf}
-use Rattle.calculus.specs.Members.{or_in_left}
+use Rattle.calculus.proofs.Members.{or_in_left}
 use Rattle.flow.specs.Legends.{Legend, in_set}
 use Rattle.format.specs.Format.{Entry}
 

@@ -13,7 +13,7 @@ use Rattle.calculus.specs.Records.{State, event}
 use Rattle.calculus.specs.Ahead.{may_follow, entered}
 use Rattle.calculus.specs.Leaves.{AnySet}
 use Rattle.calculus.specs.Deaf.{DeafLeaf}
-use Rattle.calculus.specs.DeafLaws.{deaf_passes}
+use Rattle.calculus.proofs.DeafLaws.{deaf_passes}
 use Rattle.flow.specs.declared.Refusal.{Refusal}
 use Rattle.flow.specs.declared.Check.{Check}
 use Rattle.flow.specs.declared.Check.TheVariants.{Fine}
@@ -33,7 +33,7 @@ use Rattle.format.specs.ItemLaws.{le_or_lt}
 use Rattle.format.specs.ContentLaws.{leaf_named}
 use Rattle.format.specs.ListLaws.{ListsPassed}
 use Rattle.matching.specs.NumberLaws.{numbers_length, each_number}
-use Rattle.matching.specs.OtherLaws.{other_beyond, section_beyond}
+use Rattle.matching.proofs.OtherLaws.{other_beyond, section_beyond}
 use Rattle.judge.specs.Judged.{unless_refused, named_flow}
 use Rattle.ahead.specs.declared.answer.Found.{Found}
 use Rattle.ahead.specs.declared.answer.Next.{Next}

@@ -14,7 +14,7 @@ use Rattle.writer.specs.declared.Size.{Size}
 use Rattle.writer.specs.declared.Writing.{Writing}
 use Rattle.writer.specs.declared.Writing.TheVariants.{Written, Refused}
 use Rattle.writer.specs.Writing.{WrittenAs}
-use Rattle.writer.specs.WriterLaws.{written_lists}
+use Rattle.writer.proofs.WriterLaws.{written_lists}
 use Rattle.program.specs.FileParts.{names_of, sets_of}
 use Rattle.program.specs.Rewriting.{Copy, refused_copy, copied, rewriting, FileRewritten}
 use Rattle.program.specs.Copying.{WithinRoom}

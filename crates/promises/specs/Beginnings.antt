@@ -9,7 +9,7 @@ use Rattle.std.proofs.Math.Bool.{true}
 use Rattle.std.proofs.Common.{inl, inr, sym, ap, ◌∙◌, subst, arith, length-take-le, get_or-take}
 use Rattle.std.proofs.Math.ListN.{length}
 use borrow.Author.Tests.{ltb-false, le-ltb, leb-true, eqb-true, not-false}
-use Rattle.calculus.specs.Members.{or_cases, and_left, and_right}
+use Rattle.calculus.proofs.Members.{or_cases, and_left, and_right}
 use Rattle.flow.specs.declared.Check.TheVariants.{Fine}
 use Rattle.flow.specs.declared.Extent.{Extent}
 use Rattle.flow.specs.declared.Extent.TheVariants.{Whole, Beginning}

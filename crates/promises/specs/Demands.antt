@@ -9,8 +9,8 @@ use Rattle.std.proofs.lemmas.List.{length-map}
 use Rattle.calculus.specs.Records.{Record, State, Complete, InTraces}
 use Rattle.calculus.specs.Search.{visit}
 use Rattle.calculus.specs.Laws.{Redrawn}
-use Rattle.calculus.specs.Completes.{complete_traces}
-use Rattle.calculus.specs.Redrawn.{redrawn_flip, redrawn_complete}
+use Rattle.calculus.proofs.Completes.{complete_traces}
+use Rattle.calculus.proofs.Redrawn.{redrawn_flip, redrawn_complete}
 use Rattle.flow.specs.declared.Check.TheVariants.{Fine}
 use Rattle.flow.specs.declared.Extent.TheVariants.{Whole}
 use Rattle.flow.specs.Records.{record_of, records}

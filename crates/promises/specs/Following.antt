@@ -9,7 +9,7 @@ use Rattle.std.proofs.Common.{subst}
 use Rattle.calculus.specs.Records.{State}
 use Rattle.calculus.specs.Search.{visit}
 use Rattle.calculus.specs.Ahead.{entered}
-use Rattle.calculus.specs.AheadLaws.{begins_entered}
+use Rattle.calculus.proofs.AheadLaws.{begins_entered}
 use Rattle.flow.specs.declared.Extent.TheVariants.{Beginning}
 use Rattle.flow.specs.Records.{records}
 use Rattle.flow.specs.Earliest.{Earliest, Nowhere}

@@ -9,7 +9,7 @@ use Rattle.std.proofs.Math.Decide.{dec_le}
 use Rattle.calculus.specs.Records.{Record, State}
 use Rattle.calculus.specs.Ahead.{entered}
 use Rattle.calculus.specs.Laws.{Redrawn}
-use Rattle.calculus.specs.Redrawn.{redrawn_flip, redrawn_follows}
+use Rattle.calculus.proofs.Redrawn.{redrawn_flip, redrawn_follows}
 use Rattle.flow.specs.declared.Check.{Check}
 use Rattle.flow.specs.declared.Check.TheVariants.{Fine}
 use Rattle.flow.specs.declared.Check.TheVariants as check

@@ -14,10 +14,10 @@ use Rattle.std.proofs.Math.Decide.{dec_le}
 use Rattle.std.proofs.Math.Dec.{T}
 use Rattle.std.proofs.Math.Seq.{append_snoc}
 use Rattle.calculus.specs.Records.{Record, State, Follows, Complete, InTraces}
-use Rattle.calculus.specs.Members.{cond_both}
+use Rattle.calculus.proofs.Members.{cond_both}
 use Rattle.calculus.specs.Ahead.{may_follow, entered}
-use Rattle.calculus.specs.AheadLaws.{may_follow_follows}
-use Rattle.calculus.specs.AheadRuns.{passes_complete, passes_traces, complete_passes}
+use Rattle.calculus.proofs.AheadLaws.{may_follow_follows}
+use Rattle.calculus.proofs.AheadRuns.{passes_complete, passes_traces, complete_passes}
 use Rattle.flow.specs.declared.Refusal.{Refusal}
 use Rattle.flow.specs.declared.Check.{Check}
 use Rattle.flow.specs.declared.Check.TheVariants.{Fine}

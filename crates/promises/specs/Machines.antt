@@ -17,11 +17,11 @@ use Rattle.calculus.specs.Rules.{Run}
 use Rattle.calculus.specs.Traces.{Trace, Tr}
 use Rattle.calculus.specs.Records.{Record, event, close}
 use Rattle.calculus.specs.Successors.{only, steps}
-use Rattle.calculus.specs.Members.{or_in_left, or_in_right, or_cases, and_in, and_left, and_right, in_only, of_only}
+use Rattle.calculus.proofs.Members.{or_in_left, or_in_right, or_cases, and_in, and_left, and_right, in_only, of_only}
 use Rattle.calculus.specs.Choices.{choice_of}
-use Rattle.calculus.specs.LeafChoice.{leaf_traces, leaf_runs, leaf_once}
+use Rattle.calculus.proofs.LeafChoice.{leaf_traces, leaf_runs, leaf_once}
 use Rattle.calculus.specs.Renames.{renamed, HeardIn, none, and_event, and_close}
-use Rattle.calculus.specs.Renamed.{judge_renamed}
+use Rattle.calculus.proofs.Renamed.{judge_renamed}
 use Rattle.calculus.specs.Search.{judge}
 use Rattle.flow.specs.declared.Check.TheVariants.{Fine}
 use Rattle.flow.specs.declared.Extent.TheVariants.{Whole}

@@ -11,11 +11,11 @@ use Rattle.std.proofs.Math.Logic.Iff
 use Rattle.std.proofs.Math.Dec.{T, ltb, leb}
 use Rattle.calculus.specs.Term.{Joint, none, Std, Cmp}
 use Rattle.calculus.specs.Records.{State}
-use Rattle.calculus.specs.Members.{and_in}
+use Rattle.calculus.proofs.Members.{and_in}
 use Rattle.calculus.specs.Leaves.{Empty, Free, CFree, FreeState}
 use Rattle.calculus.specs.Search as search
 use Rattle.calculus.specs.Printed.{InPrinted}
-use Rattle.calculus.specs.PrintedTraces.{printed_in_traces}
+use Rattle.calculus.proofs.PrintedTraces.{printed_in_traces}
 use Rattle.flow.specs.declared.Refusal.{Refusal}
 use Rattle.flow.specs.declared.Check.{Check}
 use Rattle.flow.specs.declared.Simple.{Simple}

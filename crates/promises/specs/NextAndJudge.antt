@@ -10,9 +10,9 @@ use Rattle.std.proofs.Math.ListN.{get_or-map}
 use Rattle.std.proofs.Math.Seq.{split_at}
 use Rattle.calculus.specs.Records.{Record, State, Fits}
 use Rattle.calculus.specs.Search.{visit}
-use Rattle.calculus.specs.Members.{is_false}
+use Rattle.calculus.proofs.Members.{is_false}
 use Rattle.calculus.specs.Ahead.{may_follow, entered}
-use Rattle.calculus.specs.AheadLaws.{place_entered, place_not_followed, place_inside, found_may_follow}
+use Rattle.calculus.proofs.AheadLaws.{place_entered, place_not_followed, place_inside, found_may_follow}
 use Rattle.flow.specs.declared.Check.{Check}
 use Rattle.flow.specs.declared.Check.TheVariants.{Fine}
 use Rattle.flow.specs.declared.Extent.TheVariants.{Whole}

@@ -10,7 +10,7 @@ use Rattle.std.proofs.Math.Bool.{true, false, not, xor, cond, and-false}
 use Rattle.std.proofs.Math.Dec.{T, leb, T_not, eqb_refl}
 use Rattle.std.proofs.Math.ListN.{length}
 use borrow.Author.Tests.{leb-true, le-leb, le-ltb}
-use Rattle.calculus.specs.Members.{or_in_left, or_in_right, or_cases, and_in, and_left, and_right}
+use Rattle.calculus.proofs.Members.{or_in_left, or_in_right, or_cases, and_in, and_left, and_right}
 use Rattle.flow.specs.declared.Check.{Check}
 use Rattle.flow.specs.declared.Check.TheVariants.{Fine, Refused}
 use Rattle.flow.specs.declared.Extent.TheVariants.{Whole, Beginning}

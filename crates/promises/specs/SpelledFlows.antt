@@ -7,7 +7,7 @@ use Rattle.std.proofs.Common.{sym, ap, ◌∙◌, subst}
 use Rattle.std.proofs.Math.Logic.Iff
 use Rattle.calculus.specs.Records.{Record, Complete, InTraces}
 use Rattle.calculus.specs.Leaves.{EachState, AnySet, SameLeaf}
-use Rattle.calculus.specs.SpelledTraces.{spelled_in_traces, spelled_complete}
+use Rattle.calculus.proofs.SpelledTraces.{spelled_in_traces, spelled_complete}
 use Rattle.flow.specs.declared.Check.TheVariants.{Fine}
 use Rattle.flow.specs.declared.Extent.TheVariants.{Whole}
 use Rattle.flow.specs.declared.Node.TheVariants.{Event}

@@ -13,7 +13,7 @@ use mathlib.Core.List.{List, [], ◌∷◌, ◌++◌, append-nil}
 use Rattle.std.proofs.Math.Nat.{div-eq_of_lt}
 use Rattle.std.proofs.Math.Dec.{T}
 use Rattle.calculus.specs.Term.{Leaf, leaf, Joint, none}
-use Rattle.calculus.specs.Members.{or_in_left, or_in_right}
+use Rattle.calculus.proofs.Members.{or_in_left, or_in_right}
 use Rattle.calculus.specs.Leaves.{Empty, AnyLeaf, FreeState}
 use Rattle.flow.specs.declared.Check.{Check}
 use Rattle.flow.specs.declared.Check.TheVariants.{Fine, Refused}

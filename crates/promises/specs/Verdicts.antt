@@ -11,10 +11,10 @@ use Rattle.calculus.specs.Records.{Record, State, std, cmp, Complete}
 use Rattle.calculus.specs.Search.{Verdict, visit, settle}
 use Rattle.calculus.specs.Search as search
 use Rattle.calculus.specs.Laws.{Redrawn}
-use Rattle.calculus.specs.Found.{found_complete, place_follows, place_longest}
+use Rattle.calculus.proofs.Found.{found_complete, place_follows, place_longest}
 use Rattle.calculus.specs.Alike.{Alike}
-use Rattle.calculus.specs.Completes.{complete_traces}
-use Rattle.calculus.specs.Redrawn.{redrawn_alike}
+use Rattle.calculus.proofs.Completes.{complete_traces}
+use Rattle.calculus.proofs.Redrawn.{redrawn_alike}
 use Rattle.flow.specs.declared.Refusal.{Refusal}
 use Rattle.flow.specs.declared.Check.{Check}
 use Rattle.flow.specs.declared.Check.TheVariants.{Fine}

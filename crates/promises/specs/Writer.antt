@@ -25,7 +25,7 @@ use Rattle.writer.specs.declared.Writing.{Writing}
 use Rattle.writer.specs.Told.{WritingTold, writing_told, writing_written, writing_refused}
 use Rattle.writer.specs.Writes.{file_of_lists, write_order, WriteRefuses, Writable}
 use Rattle.writer.specs.Writing.{lists_bytes, order_by_bytes, write_check, wrote, put_first, WrittenAs}
-use Rattle.writer.specs.Fronts.{lists_length}
+use Rattle.writer.proofs.Fronts.{lists_length}
 use Rattle.promises.specs.ExactlyWhen.{nowhere_exactly}
 use Rattle.promises.specs.ListRefusals.{fine_not_refused, nowhere_both, nowhere_parts, named_refused, named_passes, named_exactly, named_fine, named_once, named_order}
 

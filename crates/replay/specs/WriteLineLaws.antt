@@ -10,7 +10,7 @@ use Rattle.line.specs.Line.{Put}
 use Rattle.writer.specs.declared.Writing.{Writing}
 use Rattle.writer.specs.declared.Writing.TheVariants.{Written, Refused}
 use Rattle.writer.specs.Writing.{writing, bytes_first, WrittenAs}
-use Rattle.writer.specs.WriterLaws.{written_lists, refused_lists}
+use Rattle.writer.proofs.WriterLaws.{written_lists, refused_lists}
 use Rattle.replay.specs.Filler.{filler, Kept}
 use Rattle.replay.specs.WriteLine.{length_written, file_clean, write_line, Printable}
 use Rattle.replay.specs.FillerLaws.{kept_exactly, kept_front}

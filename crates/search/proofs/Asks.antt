@@ -14,7 +14,7 @@ use Rattle.calculus.specs.Records.{Record, close, State, over, std}
 use Rattle.calculus.specs.Successors.{some_of, ends}
 use Rattle.calculus.specs.Search.{next}
 use Rattle.calculus.specs.Ahead.{passes, may_follow}
-use Rattle.calculus.specs.Members.{in_some, of_some, of_only, is_false, not_so}
+use Rattle.calculus.proofs.Members.{in_some, of_some, of_only, is_false, not_so}
 use Rattle.flow.specs.Cues.{failed_cue, cue_record}
 use Rattle.search.specs.Visits.{Answers, as_was, can, Strikes, Settled, Asking, follows_mark}
 use Rattle.search.specs.Searches.{answered}

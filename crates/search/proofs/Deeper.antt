@@ -12,11 +12,11 @@ use lib.Seq.{paste, get_or-drop, drop_at, take_all}
 use borrow.Rule.Slice.PartMut.{put_mid, mid_of, same_len_mid}
 use Rattle.calculus.specs.Records.{Record, State}
 use Rattle.calculus.specs.Within.{Within}
-use Rattle.calculus.specs.WithinLaws.{within_moves}
+use Rattle.calculus.proofs.WithinLaws.{within_moves}
 use Rattle.calculus.specs.Search.{next}
-use Rattle.calculus.specs.Found.{next_moves}
+use Rattle.calculus.proofs.Found.{next_moves}
 use Rattle.calculus.specs.Spending.{Out as Found, spent, back, visit_b, left_of}
-use Rattle.calculus.specs.Budget.{more_left}
+use Rattle.calculus.proofs.Budget.{more_left}
 use Rattle.flow.specs.Cues.{failed_cue, cue_record, cue_records}
 use Rattle.flow.specs.Refusals.{count, root}
 use Rattle.tallies.specs.Capped.{cap}
@@ -238,7 +238,7 @@ at_member : {l : List State} {k : ℕ} {x : State} → At l k x → Memᴰ x l
 at_member At.here = Memᴰ.head refl
 at_member (At.past h) = Memᴰ.tail (at_member h)
 
-member_at : {l : List State} {x : State} → Memᴰ x l → (i : ℕ) × At l i x × (i < length l)
+member_at : {x : State} {l : List State} → Memᴰ x l → (i : ℕ) × At l i x × (i < length l)
 member_at {l} (Memᴰ.head {x} {xs} e) = (0, subst (λ z. At (x ∷ xs) 0 z) (sym e) At.here, omega arith)
 member_at (Memᴰ.tail m) = let p = member_at m in (suc p.0, At.past p.1, omega (arith, p.2))
 

@@ -10,7 +10,7 @@ use lib.Dec.{T, ltb}
 use lib.ListN.{length, length-map}
 use borrow.Author.Tests.{lt-ltb, le-ltb}
 use Rattle.calculus.specs.Term.{Closing, done, withdrawn, failed, Std}
-use Rattle.calculus.specs.Records.{State, over, std, cmp, Closed, Fits}
+use Rattle.calculus.specs.Records.{State, over, std, cmp, Fits}
 use Rattle.calculus.specs.Successors.{only, some_of, ends, comps}
 use Rattle.calculus.specs.Search.{next}
 use Rattle.calculus.specs.Ahead.{passes, may_follow}
@@ -22,7 +22,7 @@ use Rattle.tallies.specs.Counts.{moves, view, tally, word}
 use Rattle.tallies.specs.Formulas.{by_w, closing, one_g}
 use Rattle.tallies.specs.PlacesLaws.{at_map}
 use Rattle.tallies.specs.Places.{At}
-use Rattle.tallies.specs.SeekLaws.{view_moves, word_moves, tally_by, seek_one, seek_one_room}
+use Rattle.tallies.proofs.SeekLaws.{view_moves, word_moves, tally_by, seek_one, seek_one_room}
 use Rattle.tallies.specs.declared.View.{View}
 use Rattle.tallies.specs.declared.Tally.{Tally}
 use Rattle.tallies.specs.declared.Word.{Word}

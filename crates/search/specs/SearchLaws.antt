@@ -14,7 +14,7 @@ use Rattle.std.proofs.Math.Seq.{drop-drop, drop-length, ext_get_or}
 use Rattle.std.proofs.lemmas.List.Edits.{fill_more}
 use Rattle.std.proofs.lemmas.Bool.{lt-leb}
 use Rattle.calculus.specs.Records.{Record, State, std, cmp}
-use Rattle.calculus.specs.Members.{is_true}
+use Rattle.calculus.proofs.Members.{is_true}
 use Rattle.calculus.specs.Within.{Within}
 use Rattle.calculus.specs.Ahead.{may_follow}
 use Rattle.calculus.specs.Search.{next}
@@ -35,7 +35,7 @@ use Rattle.states.specs.DrawnLaws.{none_done, Means, drawn_means}
 use Rattle.search.specs.declared.Out.{Out}
 use Rattle.search.specs.declared.Out.TheVariants.{Spent, Back}
 use Rattle.search.specs.Room.{room_of, cleared}
-use Rattle.search.specs.Visits.{state, out_of, stretches, VisitReady, Used, follows_mark, Answers, as_was, can, Settled, AsksAfter, Began}
+use Rattle.search.specs.Visits.{state, out_of, stretches, VisitReady, Used, follows_mark, Answers, as_was, can, AsksAfter, Began}
 use Rattle.search.specs.Searches.{role_of, LeftWithin, SearchReady, Searched, answered, went_through, asks_after, Asked}
 
 ---- All modes 0 are the drawn flow ----

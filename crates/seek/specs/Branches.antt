@@ -1,31 +1,31 @@
 -- Why each way through the search is right: one lemma for each call that the code makes and for each way in which it returns. Each
 -- takes what the code has learnt, in the code's order; what it says of terms is in SeekLaws of the crate below. Assumes nothing.
-use Rattle.std.specs.Prelude.{ℕ, ◌+◌, ◌*◌, ◌-◌, ◌<◌, ◌≤◌, ◌≡◌, Bool, true, false, not, cond, List, [], ◌∷◌, map, ◌≢◌, eqb, length}
+use Rattle.std.specs.Prelude.{ℕ, ◌+◌, ◌*◌, ◌-◌, ◌<◌, ◌≤◌, ◌≡◌, Bool, true, false, not, cond, List, [], ◌∷◌, map, eqb, length}
 use Rattle.std.proofs.Math.Path.{refl, sym, ap, subst}
 use Rattle.std.proofs.Common.{◌∙◌, subst₂, arith}
 use Rattle.std.proofs.Math.Dec.{T}
 use Rattle.std.proofs.Math.ListN.{set}
 use Rattle.calculus.specs.Term.{Closing, done, withdrawn, failed, Std, skip, seq, par, pair, cseq, held}
 use Rattle.calculus.specs.Successors.{only, ends, comps}
-use Rattle.calculus.specs.Equations.{ends_skip, comps_pair}
+use Rattle.calculus.proofs.Equations.{ends_skip, comps_pair}
 use Rattle.flow.specs.declared.Simple.{Simple}
 use Rattle.flow.specs.declared.Simple.TheVariants.{Skip, Throw, Yield}
 use Rattle.flow.specs.declared.Operator.{Operator}
 use Rattle.flow.specs.declared.Operator.TheVariants.{Sequence, Choice, Parallel}
 use Rattle.flow.specs.declared.Two.{Two}
 use Rattle.flow.specs.declared.Node.TheVariants.{Compensable}
-use Rattle.flow.specs.Kinds.{set_of, paired, compensable, node, shape}
+use Rattle.flow.specs.Kinds.{set_of, paired, compensable, shape}
 use Rattle.flow.specs.Cues.{cued, joint_at}
 use Rattle.flow.specs.Shapes.{Kid}
 use Rattle.flow.specs.Trees.{Under, Tree}
 use Rattle.flow.specs.NodeChildren.{two_kids, kids_disjoint}
 use Rattle.tallies.specs.Capped.{cap}
 use Rattle.tallies.specs.Counts.{sum_of, moves, view, tally, word, weight}
-use Rattle.tallies.specs.CountsLaws.{by_word, word_pair}
+use Rattle.tallies.proofs.CountsLaws.{by_word, word_pair}
 use Rattle.tallies.specs.Formulas.{closing, skip_v, one_t, worded, pair_w, when_t, by_w, total, after_g, inside_g, beside_g, within_g, fitting_t, partners_t}
 use Rattle.tallies.specs.Bare.{bare_w}
 use Rattle.tallies.specs.BareLaws.{total_by_bare, total_when_bare, after_by_bare, beside_partners_bare, side_bare, fitting_bare}
-use Rattle.tallies.specs.SeekLaws.{eqc_done, closing_other, fall_done, fall_withdrawn, fall_failed, total_by, total_when, seek_pair, seek_pair_skip, seek_skip, seek_calt_first, seek_calt_room, seek_calt_second, seek_second_room, seek_second, seek_held_room, seek_held, seek_own_room, seek_own, seek_both_room, seek_both_rest, seek_both, seek_par_first_room, seek_par_second_room, seek_par}
+use Rattle.tallies.proofs.SeekLaws.{eqc_done, closing_other, fall_done, fall_withdrawn, fall_failed, total_by, total_when, seek_pair, seek_pair_skip, seek_skip, seek_calt_first, seek_calt_room, seek_calt_second, seek_second_room, seek_second, seek_held_room, seek_held, seek_own_room, seek_own, seek_both_room, seek_both_rest, seek_both, seek_par_first_room, seek_par_second_room, seek_par}
 use Rattle.tallies.specs.Sought.{Falls}
 use Rattle.tallies.specs.declared.Word.{Word}
 use Rattle.tallies.specs.declared.Weight.{Weight}
@@ -42,7 +42,7 @@ use Rattle.states.specs.Stored.{std_right}
 use Rattle.states.specs.NotedLaws.{noted_stored}
 use Rattle.states.specs.StateLaws.{std_part}
 use Rattle.states.specs.LiveParts.{Twins}
-use Rattle.states.specs.Becomes.{picked, known_of, seq_of, par_of, ask_second, own_of, side_of, fitting_of, Lands, on_done, on_withdrawn, on_failed, Becomes, basic_stays, pair_to_second, pair_to_nothing, as_child, held_to_both, seq_to_first, seq_to_both, alt_to_first, alt_to_second, par_to_both}
+use Rattle.states.specs.Becomes.{picked, known_of, seq_of, par_of, own_of, side_of, fitting_of, Lands, on_done, on_withdrawn, on_failed, Becomes, basic_stays, pair_to_second, pair_to_nothing, as_child, held_to_both, seq_to_first, seq_to_both, alt_to_first, alt_to_second, par_to_both}
 use Rattle.states.specs.Clauses.{Spot, Kept, Sets, Redrawn, Scene, scene, weight_of, Ask, ask, Chosen, Weighed, Undone}
 use Rattle.states.specs.ChildLaws.{set_sets, not_own, lower_spot, same_room, kept_set, kept_part, kid_lower, kept_kid, own_kept, same_part, spot_down}
 use Rattle.seek.specs.Asked.{Fallen, course_at, runs, left, lone, PairLeft, to_second, to_nothing, UndoneBelow, Picks, Wanted, Below, seconds, SecondWanted, SecondChosen}
@@ -55,14 +55,14 @@ use Rattle.seek.specs.NodeLaws.{course_runs, course_kids, course_node, left_is, 
 module _ {ns t : List ℕ} {a i : ℕ} {n : Notes} (k : Weighed (scene ns t a) n i) where
   module _ (w : ℕ) (g : Weight) where
     weight_read : {r : ℕ} → r ≡ total (by_w (row n.rows i) (closing w)) g → r ≡ weight_of (scene ns t a) i (closing w) g
-    weight_read e = total_by a g _ (closing w) refl refl (e ∙ ap (λ x. total (by_w x (closing w)) g) (row_is k) ∙ total_by_bare _ (closing w) g)
+    weight_read e = total_by a g _ (closing w) refl refl (e ∙ ap (λ x. total (by_w x (closing w)) g) (row_is k) ∙ total_by_bare (word a (runs ns t i)) (closing w) g)
 
     -- none where the closing is done
     own_read : {r : ℕ} → r ≡ total (when_t (not (eqb w 0)) (by_w (row n.rows i) (closing w))) g → r ≡ own_of (scene ns t a) i (closing w) g
-    own_read e = rw eqc_done (total_when a g _ (closing w) (not (eqb w 0)) refl (e ∙ ap (λ x. total (when_t (not (eqb w 0)) (by_w x (closing w))) g) (row_is k) ∙ total_when_bare _ (closing w) g (not (eqb w 0))))
+    own_read e = rw eqc_done (total_when a g _ (closing w) (not (eqb w 0)) refl (e ∙ ap (λ x. total (when_t (not (eqb w 0)) (by_w x (closing w))) g) (row_is k) ∙ total_when_bare (word a (runs ns t i)) (closing w) g (not (eqb w 0))))
 
     before_read : {r : Weight} → r ≡ after_g (by_w (row n.rows i) (closing w)) g → r ≡ after_g (tally a (comps (runs ns t i) (closing w))) g
-    before_read e = e ∙ ap (λ x. after_g (by_w x (closing w)) g) (row_is k) ∙ after_by_bare _ (closing w) g ∙ ap (λ x. after_g x g) (by_word a (runs ns t i) (closing w))
+    before_read e = e ∙ ap (λ x. after_g (by_w x (closing w)) g) (row_is k) ∙ after_by_bare (word a (runs ns t i)) (closing w) g ∙ ap (λ x. after_g x g) (by_word a (runs ns t i) (closing w))
 
 -- A node of a course becomes what one of that course does
 at_course : {ns t : List ℕ} {a i : ℕ} {x : Course} {q : Ask} {t' : List ℕ} {p : Picked} → course_at ns t i ≡ x → Becomes ns a x t i q t' p → Becomes ns a (course_at ns t i) t i q t' p

@@ -1,5 +1,5 @@
 -- A step has one content of the bytes after (`makes_once`, `step_once`). Assumes nothing.
-use Rattle.std.specs.Prelude.{ℕ, ◌≡◌, refl, true, false, List}
+use Rattle.std.specs.Prelude.{ℕ, ◌≡◌, refl, List}
 use Rattle.std.proofs.Common.{sym, ◌∙◌, ap, subst, subst₂, true≢false, arith}
 use Rattle.flow.specs.declared.Operator.{Operator}
 use Rattle.flow.specs.declared.Operator.TheVariants.{Sequence, Choice, Parallel}

@@ -3,7 +3,7 @@ use Rattle.std.specs.Prelude.{ℕ, ◌≡◌, Bool, List, eqb}
 use Rattle.std.proofs.Common.{sym, eq-eqb}
 use Rattle.std.proofs.Math.Path.{subst}
 use Rattle.std.proofs.Math.Dec.{T, eqb→eq}
-use Rattle.calculus.specs.Members.{and_in, and_left, and_right}
+use Rattle.calculus.proofs.Members.{and_in, and_left, and_right}
 use Rattle.flow.specs.Kinds.{shape}
 use Rattle.flow.specs.Trees.{Tree}
 use Rattle.tallies.specs.Counts.{moves, view, word}

@@ -1,7 +1,7 @@
 -- A row has the numbers of a word exactly if it is that word without what weights do not look at. Assumes nothing.
-use Rattle.std.specs.Prelude.{ℕ, ◌≡◌, refl, true, false, ◌&&◌, List, T, eqb, get_or}
+use Rattle.std.specs.Prelude.{ℕ, ◌≡◌, false, ◌&&◌, List, T, eqb}
 use Rattle.std.proofs.Common.{sym, ap, subst, eqb→eq, eq-eqb}
-use Rattle.calculus.specs.Members.{and_in, and_left, and_right}
+use Rattle.calculus.proofs.Members.{and_in, and_left, and_right}
 use Rattle.tallies.specs.declared.Tally.{Tally}
 use Rattle.tallies.specs.declared.Word.{Word}
 use Rattle.tallies.specs.Formulas.{tallied, worded}

@@ -7,7 +7,7 @@ use Rattle.std.proofs.Math.Bool.{true, cond}
 use mathlib.Core.List.{List}
 use Rattle.calculus.specs.Term.{Joint, Std, Cmp, done, failed, skip, throw, yield, seq, par, hnd, blk, pair, cseq, cpar, held}
 use Rattle.calculus.specs.Successors.{steps, csteps, comps}
-use Rattle.calculus.specs.Members.{and_left, and_right}
+use Rattle.calculus.proofs.Members.{and_left, and_right}
 use Rattle.flow.specs.declared.Simple.{Simple}
 use Rattle.flow.specs.declared.Simple.TheVariants.{Skip, Throw, Yield}
 use Rattle.flow.specs.declared.Operator.{Operator}
@@ -22,7 +22,7 @@ use Rattle.tallies.specs.Capped.{cap}
 use Rattle.tallies.specs.Formulas.{moves_g, hold_g}
 use Rattle.tallies.specs.Counts.{sum_of, moves, weight}
 use Rattle.tallies.specs.Places.{At, Finds}
-use Rattle.tallies.specs.StepLaws.{at_ev, no_skip_step, no_throw_step, no_yield_step, at_seq_first, at_hnd_first, at_alt_first, seq_room, at_seq_second, hnd_room, at_hnd_second, alt_room, at_alt_second, par_together, cpar_together, apart_at_first, apart_room, apart_at_second, at_blk_first, blk_room, blk_rest, at_blk_second, at_pair, pair_room, at_held, held_room, at_cseq_first, at_calt_first, cseq_room, cseq_rest, at_cseq_second, calt_room, at_calt_second}
+use Rattle.tallies.proofs.StepLaws.{at_ev, no_skip_step, no_throw_step, no_yield_step, at_seq_first, at_hnd_first, at_alt_first, seq_room, at_seq_second, hnd_room, at_hnd_second, alt_room, at_alt_second, par_together, cpar_together, apart_at_first, apart_room, apart_at_second, at_blk_first, blk_room, blk_rest, at_blk_second, at_pair, pair_room, at_held, held_room, at_cseq_first, at_calt_first, cseq_room, cseq_rest, at_cseq_second, calt_room, at_calt_second}
 use Rattle.tallies.specs.declared.Weight.{Weight}
 use Rattle.states.specs.declared.Sense.{Sense}
 use Rattle.states.specs.declared.Sense.TheVariants.{Drawn, Undoing}

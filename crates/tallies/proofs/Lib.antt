@@ -1,4 +1,6 @@
 pub mod Beside
 pub mod ClosedForms
-pub mod Closings
-pub mod Products
+-- Theorems that other crates cite.
+pub mod CountsLaws
+pub mod SeekLaws
+pub mod StepLaws

@@ -1,7 +1,7 @@
 -- What weighs is in the three numbers of a tally: weights of bare tallies and words are those of the whole ones. Assumes nothing.
 use Rattle.std.specs.Prelude.{◌+◌, ◌≡◌, refl, Bool, true, false, ◌&&◌, ◌||◌, cond, T, eqb}
 use Rattle.std.proofs.Common.{sym, ◌∙◌, ap, subst, arith, eqb→eq}
-use Rattle.calculus.specs.Members.{and_left, and_right}
+use Rattle.calculus.proofs.Members.{and_left, and_right}
 use Rattle.calculus.specs.Term.{Closing, done, withdrawn, failed, join}
 use Rattle.calculus.specs.Successors.{eqc}
 use Rattle.tallies.specs.declared.Tally.{Tally}

@@ -1,8 +1,8 @@
 -- The formulas that the code of this crate computes: views, tallies, words and weights of a whole from those of its parts. What
 -- they mean for terms is in Counts, and that they are right in CountsLaws. Definitions only. Assumes nothing.
 --
--- A name ends in the letter of what it makes: V a view, T a tally, W a word, G a weight; one that reads something out of views or of
--- a word ends in theirs (endsV, meetV, bothV, byW). It begins with the calculus's own word for the whole (skip throw yield ev seq
+-- A name ends in the letter of what it makes: _v a view, _t a tally, _w a word, _g a weight; one that reads something out of views or
+-- of a word ends in theirs (ends_v, meet_v, both_v, by_w). It begins with the calculus's own word for the whole (skip throw yield ev seq
 -- alt par hnd blk; pair cseq held calt cpar skipp throww yieldd), or with what is done to tallies or weights (none one when plus over
 -- fitting partners both; after inside beside within). Of two sides p and q that end by x and y, both end by u. What is put together of
 -- two sides takes first whether the record's event is joint there: then a step of the whole is one of each side.

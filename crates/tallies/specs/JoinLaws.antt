@@ -1,7 +1,7 @@
 -- How two closings join, as laws: done is joined of done and done only, withdrawn of two that are not failed and not both done, failed as
 -- soon as one is failed. By these, what two sides can end by together is told without going through the nine pairs of closings.
 -- Theorems only. Assumes nothing.
-use Rattle.std.specs.Prelude.{◌≡◌, refl, Bool, true, false, not, ◌&&◌, ◌||◌}
+use Rattle.std.specs.Prelude.{◌≡◌, refl, Bool, false, not, ◌&&◌, ◌||◌}
 use Rattle.std.proofs.Common.{◌∙◌, ap}
 use Rattle.std.proofs.Math.Path.{fun_ext}
 use Rattle.std.proofs.Math.Bool.{or-false, or_assoc, and-or_distrib_left, and-or_distrib_right}

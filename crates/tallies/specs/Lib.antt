@@ -11,10 +11,7 @@ pub mod CappedLaws
 pub mod RankLaws
 pub mod JoinLaws
 pub mod SumsLaws
-pub mod CountsLaws
 pub mod PlacesLaws
-pub mod SeekLaws
-pub mod StepLaws
 pub mod RuledOut
 pub mod BareLaws
 pub mod OwnLaws

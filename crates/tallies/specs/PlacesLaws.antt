@@ -39,6 +39,7 @@ module _ {A : Type 0} where
   pub at_only : (b : Bool) {l : List A} {k : ℕ} {x : A} → T b → At l k x → At (only b l) k x
   unfolding only
   at_only true t h = h
+  at_only false t h = elim t [ ]
 
 module _ {A B : Type 0} where
   pub at_map : (f : A → B) {l : List A} {k : ℕ} {x : A} → At l k x → At (map f l) k (f x)
@@ -84,6 +85,7 @@ module _ {A : Type 0} {f : A → ℕ} where
   pub finds_only : (b : Bool) {l : List A} {j : ℕ} {x : A} {r : ℕ} → T b → Finds f l j x r → Finds f (only b l) j x r
   unfolding only
   finds_only true t h = h
+  finds_only false t h = elim t [ ]
 
 module _ {A B : Type 0} where
   pub finds_map : (f : B → ℕ) (g : A → B) {l : List A} {j : ℕ} {x : A} {r : ℕ} → Finds (λ y. f (g y)) l j x r → Finds f (map g l) j (g x) r
@@ -118,8 +120,8 @@ module _ {A : Type 0} (f g : A → ℕ) (e : (x : A) → cap (f x) ≡ cap (g x)
 module _ {A : Type 0} (size : List A → ℕ) (none : size [] ≡ 0) (b : Bool) (l : List A) {k : ℕ} where
   pub only_holds : k < cap (size (only b l)) → T b
   unfolding only
-  only_holds = elim b [ true ↦ λ h. tt | false ↦ λ h. omega arith ]
+  only_holds = elim b as (λ b. k < cap (size (only b l)) → T b) [ true ↦ λ h. tt | false ↦ λ h. omega arith ]
 
   pub only_room : k < cap (size (only b l)) → k < cap (size l)
   unfolding only
-  only_room = elim b [ true ↦ λ h. h | false ↦ λ h. omega arith ]
+  only_room = elim b as (λ b. k < cap (size (only b l)) → k < cap (size l)) [ true ↦ λ h. h | false ↦ λ h. omega arith ]

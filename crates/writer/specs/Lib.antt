@@ -3,6 +3,3 @@ pub mod Told
 pub mod Writes
 -- Definitions that need not be believed.
 pub mod Writing
--- Theorems on the way to the code.
-pub mod Fronts
-pub mod WriterLaws

@@ -22,6 +22,14 @@ pub enum Writing {
     Refused(Refusal),
 }
 
+// The bytes as they are at the front of the room; the rest of it stays.
+fn put_bytes(bytes: &[u8], room: &mut [u8])
+    requires { length bytes.now ≤ length room.old }
+    ensures { room.new ≡ at_front bytes.now room.old }
+{
+    room[..bytes.len()].copy_from_slice(bytes);
+}
+
 // Two bytes at the front of the room, the low one first; the rest of it stays.
 fn put_number(number: u16, room: &mut [u8])
     requires { 2 ≤ length room.old }
@@ -75,7 +83,7 @@ fn put_sets(sets: &[u8], room: &mut [u8])
     }
     let count = sets.len() / flow::SET_BYTES;
     put_number(count as u16, room);
-    room[2..2 + sets.len()].copy_from_slice(sets);
+    put_bytes(sets, &mut room[2..]);
 }
 
 // The sections: the names as they are lent, with their count, then nodes, records and sets.
@@ -84,7 +92,7 @@ fn put_lists(names: &[u8], nodes: &[u16], records: &[u16], sets: &[u8], file: &m
     ensures { file.new ≡ at_front (lists_bytes names.now nodes.now records.now sets.now) file.old }
 {
     let from = names.len();
-    file[..from].copy_from_slice(names);
+    put_bytes(names, file);
     put_section(nodes, 3, &mut file[from..]);
     let mid = from + 2 + 2 * nodes.len();
     put_section(records, 1, &mut file[mid..]);

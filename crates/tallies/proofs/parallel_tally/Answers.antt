@@ -1,0 +1,19 @@
+-- `tallies::parallel_tally` meets its contract: each return rewrites with the tests that led there. Assumes nothing.
+use Rattle.tallies.specs.Formulas.{par_t}
+use Rattle.tallies.proofs.Beside.{beside}
+use borrow.Author.Tests.{eq-eqb, ne_eqb}
+use Rattle.tallies.proofs.parallel_tally.Goals as goal
+
+pub returns-then-x-eq0 : goal.returns-then-x-eq0
+unfolding par_t
+returns-then-x-eq0 c = simp (eq-eqb _ _ c.if-x-eq0.true, c.no_tally.ensures)
+
+pub returns-then-y-eq0 : goal.returns-then-y-eq0
+unfolding par_t
+returns-then-y-eq0 c = simp (ne_eqb _ _ c.if-x-eq0.false, eq-eqb _ _ c.if-y-eq0.true, c.no_tally-then-y-eq0.ensures)
+
+pub returns : goal.returns
+returns c =
+    beside _ _ _ (ne_eqb _ _ c.if-x-eq0.false) (ne_eqb _ _ c.if-y-eq0.false) c.any_view-p.ensures c.any_view-q.ensures
+    c.product.ensures c.product-2.ensures c.steps_beside.ensures
+    c.both_withdraw.ensures c.both_fail.ensures c.tally_of.ensures

@@ -1,0 +1,27 @@
+-- `tallies::weight_beside` meets its contract: each arm rewrites with the test that led there. Assumes nothing.
+use Rattle.tallies.specs.Formulas.{beside_g}
+use Rattle.tallies.proofs.weight_beside.Goals as goal
+
+pub returns-then-joint : goal.returns-then-joint
+unfolding beside_g
+returns-then-joint c =
+    simp (
+      c.if-joint.true,
+      c.weight_of.ensures,
+      c.product-able.ensures,
+      c.product-moves.ensures,
+      c.product-own.ensures,
+    )
+
+pub returns-else-joint : goal.returns-else-joint
+unfolding beside_g
+returns-else-joint c =
+    simp (
+      c.if-joint.false,
+      c.weight_of-else-joint.ensures,
+      c.product.ensures,
+      c.sum.ensures,
+      c.product-able.ensures,
+      c.product-moves.ensures,
+      c.product-own.ensures,
+    )

@@ -1,0 +1,33 @@
+-- `tallies::weight_within` meets its contract: nothing changes where only compensations are counted, else by what its callees
+-- ensure. Assumes nothing.
+use mathlib.Core.Path.{sym, ◌∙◌}
+use native.Mathlib.Omega.{arith}
+use Rattle.tallies.specs.OwnLaws.{own_within}
+use Rattle.tallies.specs.Formulas.{within_g}
+use Rattle.tallies.proofs.weight_within.Goals as goal
+
+pub returns-then-own_only : goal.returns-then-own_only
+returns-then-own_only c =
+    let a = c.args in
+    sym (own_within a.g (sym c.own_only.ensures ∙ c.if-own_only.true) (omega arith) a.joint a.moves a.able)
+
+pub returns-then-joint : goal.returns-then-joint
+unfolding within_g
+returns-then-joint c =
+    simp (
+      c.if-joint.true,
+      c.weight_of.ensures,
+      c.if_able-ends.ensures,
+      c.product-more.ensures,
+    )
+
+pub returns-else-joint : goal.returns-else-joint
+unfolding within_g
+returns-else-joint c =
+    simp (
+      c.if-joint.false,
+      c.weight_of-else-joint.ensures,
+      c.sum.ensures,
+      c.if_able-ends.ensures,
+      c.product-more.ensures,
+    )
