@@ -5,7 +5,7 @@ calls, which ask what may come next.
 Every figure is of one run on the same files. Prints a table and keeps it in RESULTS.md beside this file, above that file's first
 section. The judge is measured in one of two ways, and the table says which:
 - on x86-64, for which Rattle's programs are compiled: the program `replay`, which is given a case again and again;
-- elsewhere, where they would be emulated: the judge's code compiled for this machine as plain Rust (native.py).
+- elsewhere, where they do not run: the judge's code compiled for this machine as plain Rust (native.py).
 usage: measure.py INDEPENDENT [OTHER]
   INDEPENDENT  the independent implementation, which has a subcommand `bench FILE ALLOWANCE`
   OTHER        one more program with `bench FILE`, printing lines that end in '.. M states/s' (optional)
@@ -21,7 +21,7 @@ import native
 
 HERE = pathlib.Path(__file__).resolve().parent
 HOME = HERE.parent
-EMULATED = platform.machine() != "x86_64"
+ELSEWHERE = platform.machine() != "x86_64"
 MOST = 4_294_967_295
 FLOWS = {name: MOST for name in ["paraa", "choice", "yield", "undo", "lines", "seven", "pairs", "throww", "twelve", "fourteen"]}
 FLOWS["throww"] = 100_000  # of some thousand million
@@ -44,7 +44,7 @@ ENOUGH = 20  # seconds that one build may take for one flow, but two rounds it h
 FEW = 32  # states of a small case
 NATIVELY = f"its code compiled for this processor ({platform.machine()}) as plain Rust (`native.py`)"
 PROVED = "the proved program `replay`"
-WAY = f"{NATIVELY}, where programs would be emulated" if EMULATED else PROVED
+WAY = f"{NATIVELY}, where programs do not run" if ELSEWHERE else PROVED
 EARLIER_BUILDS = "\n## Against earlier builds\n"
 NOTE = f"""
 - flow: the file in `bench/flows`. nodes: how many it has. states: how many the search enters, the count of the program's line; all
@@ -360,7 +360,7 @@ def builds(arguments, folder):
     programs = [pathlib.Path(argument) for argument in arguments if pathlib.Path(argument).is_file()]
     if not programs:
         return [compiled(HOME, folder / "this")] + [earlier_build(a, folder / f"earlier{i}") for i, a in enumerate(arguments)], NATIVELY
-    if EMULATED or len(programs) < len(arguments): sys.exit("programs can be measured beside programs only, and on x86-64")
+    if ELSEWHERE or len(programs) < len(arguments): sys.exit("programs can be measured beside programs only, and on x86-64")
     this = proved_build()
     # They run on the same C library as this one.
     return [this] + [Replay(this.words[:-1] + [str(program)]) for program in programs], PROVED
@@ -436,7 +436,7 @@ def described():
 
 def kept(independent, other, folder):
     head = ["flow", "nodes", "states", "differ", "judge", "a call", "independent", "Prolog"] + (["other"] if other else [])
-    judge, rows = compiled(HOME, folder / "this") if EMULATED else proved_build(), []
+    judge, rows = compiled(HOME, folder / "this") if ELSEWHERE else proved_build(), []
     for name, path, nodes, records, allowance, given in flows():
         [turn] = calls([judge], given)
         count, differ, speed = bench([independent, "bench", path, str(allowance)])

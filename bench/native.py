@@ -1,9 +1,9 @@
 #!/usr/bin/env python3
 """Compiles the judge as plain Rust for this machine, over `native.rs`.
 
-Rattle's programs are compiled for x86-64 and are emulated elsewhere, where their time says nothing. Their code is nearly Rust: what is
-taken out here is contracts, ghost imports and checks of bounds, and what is added is that values are copied. So the code that is measured
-is the code that is proved, but for its compiler: nothing is proved of what comes out, and nothing but measuring is done with it.
+Rattle's programs are compiled for x86-64, and run nowhere else. Their code is nearly Rust: what is taken out here is what only a proof
+reads and checks of bounds, and what is added is that values are copied. So the code that is measured is the code that is proved, but for
+its compiler: nothing is proved of what comes out, and nothing but measuring is done with it.
 usage: native.py CHECKOUT PROGRAM
   CHECKOUT  a folder with crates.txt and crates/, this one's or that of an earlier commit
   PROGRAM   the file to write
@@ -27,12 +27,12 @@ def crates(checkout):
 
 
 def plain(text):
-    """Without ghost imports, `requires` and `ensures`."""
+    """Without what only a proof reads: ghost imports, clauses, and what is said to the prover."""
     kept, open_braces = [], 0
     for line in text.splitlines():
-        if open_braces or re.match(r"\s*(requires|ensures) .*{", line):
+        if open_braces or re.match(r"\s*(ghost \w+:|requires|ensures) .*{", line):
             open_braces += line.count("{") - line.count("}")
-        elif not re.match(r"\s*ghost use\b", line):
+        elif not re.match(r"\s*(ghost use\b|#!?\[(tactic|cycle)\b)", line):
             kept.append(line)
     return "\n".join(kept) + "\n"
 
@@ -45,10 +45,16 @@ def unchecked(text):
     return re.sub(at, r"(unsafe { *\1.as_ptr().add(\2) })", text)
 
 
+def copied(found):
+    """A type with what it derives: it can be copied, and what says that it may be let go is Rattle's alone."""
+    names = {"Clone", "Copy", *re.findall(r"\w+", found[1] or "")} - {"Drop"}
+    return f"#[derive({', '.join(sorted(names))})]\n{found[2]}"
+
+
 def module(text, names):
     """As a module of one Rust crate, in which the other crates are modules too."""
-    text = re.sub(rf"(?<![\w:])({'|'.join(names)})::(?=\w)", r"crate::\1::", unchecked(plain(text)))
-    return re.sub(r"^((?:pub )?(?:struct|enum) )", r"#[derive(Clone, Copy)]\n\1", text, flags=re.M)
+    text = re.sub(rf"(?<![\w:])({'|'.join(names)})::(?=[\w{{])", r"crate::\1::", unchecked(plain(text)))
+    return re.sub(r"^(?:#\[derive\((.*)\)\]\n)?((?:pub )?(?:struct|enum) )", copied, text, flags=re.M)
 
 
 def calls(checkout, names):

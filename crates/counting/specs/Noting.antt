@@ -16,9 +16,9 @@ use Rattle.tallies.specs.Counts.{view}
 use Rattle.tallies.proofs.CountsLaws.{view_skip, word_pair}
 use Rattle.states.specs.declared.Sense.TheVariants.{Undoing}
 use Rattle.states.specs.declared.Role.{Role}
-use Rattle.states.specs.declared.Role.TheVariants.{Plain, Running}
+use Rattle.states.specs.declared.Role.TheVariants.{Plain}
 use Rattle.states.specs.State.{modes}
-use Rattle.states.specs.Rows.{row, Written, Entry, Notes, notes, entries}
+use Rattle.states.specs.Rows.{Written, Notes, notes, entries}
 use Rattle.states.specs.Stored.{Right, held_word, counted_std, own}
 use Rattle.states.specs.StateLaws.{noted_frame, stored_own}
 use Rattle.states.specs.NotedLaws.{noted_in, held_in}

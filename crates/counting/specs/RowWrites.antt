@@ -1,7 +1,7 @@
 -- How a row is written: three numbers of a closing (`shared_by`), and those of all three closings (`written_by`); and what is written to the
 -- tables in a role (`plain_writes`, `run_writes`). Theorems only. Assumes nothing.
-use Rattle.std.specs.Prelude.{ℕ, ◌+◌, ◌*◌, ◌<◌, ◌≤◌, ◌≡◌, refl, Bool, true, false, List, ◌≢◌, ltb, length, get_or, set}
-use Rattle.std.proofs.Common.{sym, ◌∙◌, ap, subst, arith, ltb-true, ltb-false}
+use Rattle.std.specs.Prelude.{ℕ, ◌+◌, ◌*◌, ◌<◌, ◌≤◌, ◌≡◌, refl, Bool, true, false, List, ◌≢◌, ltb, length, set}
+use Rattle.std.proofs.Common.{sym, ◌∙◌, ap, arith, ltb-true, ltb-false}
 use Rattle.tallies.specs.declared.Tally.{Tally}
 use Rattle.tallies.specs.declared.View.{View}
 use Rattle.tallies.specs.declared.Word.{Word}
@@ -9,7 +9,7 @@ use Rattle.tallies.specs.Formulas.{tallied, worded}
 use Rattle.tallies.specs.Bare.{bare_w}
 use Rattle.states.specs.declared.Sense.{Sense}
 use Rattle.states.specs.declared.Role.TheVariants.{Plain, Running}
-use Rattle.states.specs.Rows.{share, row, Shared, Written, Notes, notes, Entry}
+use Rattle.states.specs.Rows.{share, row, Shared, Written, notes, Entry}
 use Rattle.states.specs.ChildLaws.{set_sets}
 use Rattle.states.specs.Clauses.{Sets, Writes}
 

@@ -129,7 +129,7 @@ fn both_word(cue: u64, operator: Operator, p: Word, q: Word) -> Word
 }
 
 // What node i can do as a standard part. A part that is live in place of another is counted where it stands, without a call.
-#[cycle(count_run_count_std)]
+#[cycle(counting)]
 pub fn count_std(
     ns: &[u16],
     t: &[u8],
@@ -172,7 +172,7 @@ pub fn count_std(
 }
 
 // What node i can do as a part that runs.
-#[cycle(count_run_count_std)]
+#[cycle(counting)]
 pub fn count_run(
     ns: &[u16],
     t: &[u8],

@@ -34,7 +34,7 @@ use Rattle.format.specs.ListChecks.{entries_in}
 use Rattle.format.specs.ListLaws.{ListsPassed}
 use Rattle.format.specs.Told.{at_front}
 use Rattle.matching.specs.Others.{other}
-use Rattle.matching.specs.OtherLaws.{section_takes, section_other_small}
+use Rattle.matching.proofs.OtherLaws.{section_takes, section_other_small}
 use Rattle.judge.specs.declared.Answer.{Answer}
 use Rattle.judge.specs.Judged.{room_wanted, judge_check, named_judge_check, answer_of, Judged, NamedJudged}
 use Rattle.judge.specs.JudgedLaws.{Passed, records_few, judge_searches, judge_passed, named_lists, named_passed}

@@ -1,6 +1,6 @@
 -- What a loop learns that puts one text after the other: nothing stands there at first (`put_none`), there is room for one more
 -- (`put_room`), one more stands there then (`put_more`), and all at last (`put_all`). Assumes nothing.
-use Rattle.std.specs.Prelude.{ℕ, suc, ◌+◌, ◌*◌, ◌≤◌, ◌<◌, ◌≡◌, length, get_or, take}
+use Rattle.std.specs.Prelude.{ℕ, ◌+◌, ◌*◌, ◌≤◌, ◌<◌, ◌≡◌, length, get_or, take}
 use Rattle.std.proofs.Common.{mul-le-mul_left, mul-suc, add-one, arith, ◌∙◌, subst, take-append-drop, take-suc, take_all}
 use mathlib.Core.List.{List, [], ◌∷◌, ◌++◌, append-nil, append_assoc}
 use Rattle.std.proofs.Math.Path.{refl, sym, ap}

@@ -195,6 +195,7 @@ pub fn named_cues(names: &[u8], records: &[u16], sets: &[u8], cues: &mut [u64])
 }
 
 // Marks an event, if it is one of 256.
+#[tactic(auto, using(crate::proofs::MarkLaws::also_event, crate::proofs::MarkLaws::also_above))]
 fn mark_event(event: u16, marks: &mut [bool; 257])
     requires { length marks.old ≡ 257 }
     ensures { AlsoMarked (λ a. eqb a event) marks.old marks.new }

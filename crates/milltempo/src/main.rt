@@ -1,13 +1,13 @@
 // Judges the flow file on standard input and prints one line: verdict word, refusal number or 0, place, count. 22,409 bytes are
-// one more than the longest file that is not refused by 21.
+// one more than the longest file that is not refused by 21. A read or a write that fails ends it with its error, and exit status 1.
 #![tactic(auto)]
 
-use libc::{STDIN_FILENO, STDOUT_FILENO};
+use std::io;
 
-fn main() {
+fn main(rt: HostRuntime) -> io::Result<()> {
     let mut file = [0u8; 22409];
-    let got = io::read_full(STDIN_FILENO, &mut file);
+    let got = intake::read_full(&mut rt.stdin(), &mut file)?;
     let mut line = [0u8; 64];
     let end = program::write_file_line(&file[..got], &mut line);
-    io::write_all(STDOUT_FILENO, &line[..end]);
+    rt.write_all(&line[..end])
 }

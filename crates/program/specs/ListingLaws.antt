@@ -18,7 +18,7 @@ use Rattle.format.specs.ItemLaws.{le_or_lt, got_value, got_not_bad, name_length,
 use Rattle.format.specs.SectionLaws.{entries_at_more, entries_at_length, new_entry_there, names_bad, scan_start, scan_stop, scan_more, scan_end}
 use Rattle.format.specs.ListLaws.{alone_run}
 use Rattle.format.specs.EntryLaws.{whole_there}
-use Rattle.matching.specs.CueLaws.{nth_entry, nth_entry_ends}
+use Rattle.matching.proofs.CueLaws.{nth_entry, nth_entry_ends}
 
 ---- The lengths of names ----
 

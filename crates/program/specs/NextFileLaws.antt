@@ -33,13 +33,13 @@ use Rattle.format.specs.ItemLaws.{le_or_lt}
 use Rattle.format.specs.ContentLaws.{leaf_named}
 use Rattle.format.specs.ListLaws.{ListsPassed}
 use Rattle.matching.specs.NumberLaws.{numbers_length, each_number}
-use Rattle.matching.specs.OtherLaws.{other_beyond, section_beyond}
+use Rattle.matching.proofs.OtherLaws.{other_beyond, section_beyond}
 use Rattle.judge.specs.Judged.{unless_refused, named_flow}
 use Rattle.ahead.specs.declared.answer.Found.{Found}
 use Rattle.ahead.specs.declared.answer.Next.{Next}
 use Rattle.ahead.specs.declared.answer.Next.TheVariants.{Listed, Undecided, Refused}
 use Rattle.ahead.specs.Told.{those, following, numbers_wanted}
-use Rattle.ahead.specs.PickedLaws.{following_few}
+use Rattle.ahead.proofs.PickedLaws.{following_few}
 use Rattle.ahead.specs.CheckLaws.{named_next_lists}
 use Rattle.ahead.specs.Outcome.{named_next_check, allowed, next_by, list_by, NextBy}
 use Rattle.judge.specs.declared.Answer.TheVariants as answer

@@ -1,8 +1,9 @@
 // What a case is read from: bytes from standard input, and numbers of them, the low byte first.
 ghost use Rattle.std.specs.Prelude.{false, ◌≡◌, ◌+◌, ◌*◌, ◌≤◌, length};
+ghost use Rattle.std.specs.Result.{result_unwrap_or};
 ghost use Rattle.replay.specs.Fetched.{Fetched};
 
-use libc::{STDIN_FILENO, STDOUT_FILENO};
+use std::io;
 
 // Four bytes as a number, the low one first.
 pub fn four(a: u8, b: u8, c: u8, d: u8) -> u32
@@ -11,30 +12,31 @@ pub fn four(a: u8, b: u8, c: u8, d: u8) -> u32
     format::number_from(a, b) as u32 + 65536 * (format::number_from(c, d) as u32)
 }
 
-// Reads so many bytes, and answers whether they were there.
-pub fn fetch(room: &mut [u8], n: usize) -> bool
+// Reads so many bytes, and answers whether they were there: of a read that fails the error, which the promise counts as no.
+pub fn fetch(rt: &impl Input, room: &mut [u8], n: usize) -> io::Result<bool>
     requires { n ≤ length room.old }
-    ensures { Fetched n room.old room.new result }
+    ensures { Fetched n room.old room.new (result_unwrap_or result false) }
 {
-    io::read_full(STDIN_FILENO, &mut room[..n]) == n
+    let got = intake::read_full(&mut rt.reader(), &mut room[..n])?;
+    Ok(got == n)
 }
 
 // Reads so many numbers of two bytes to the front of a table, and answers whether they were there.
-pub fn fetch_numbers(table: &mut [u16], n: usize) -> bool
+pub fn fetch_numbers(rt: &impl Input, table: &mut [u16], n: usize) -> io::Result<bool>
     requires n_bound { n ≤ 400 }
     requires n_in_bounds { n ≤ length table.old }
-    ensures { Fetched n table.old table.new result }
+    ensures { Fetched n table.old table.new (result_unwrap_or result false) }
 {
     let mut bytes = [0u8; 800];
-    let there = fetch(&mut bytes, 2 * n);
+    let there = fetch(rt, &mut bytes, 2 * n)?;
     format::fill(&bytes, 0, n, table);
-    there
+    Ok(there)
 }
 
 // Says that this is no case; there is no going on after it.
-pub fn bad_case() -> bool
-    ensures { result ≡ false }
+pub fn bad_case(rt: &impl Print) -> io::Result<bool>
+    ensures { result_unwrap_or result false ≡ false }
 {
-    io::write_all(STDOUT_FILENO, b"bad case\n");
-    false
+    rt.write_all(b"bad case\n")?;
+    Ok(false)
 }

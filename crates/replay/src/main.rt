@@ -1,7 +1,8 @@
 // Cases from standard input to its end, one line for each. A case is a letter and what its kind wants, all little-endian. Here is what
 // reads a case and prints its line, a function for each kind; two kinds are calls, whose lists are fetched in one place. What these
 // functions answer depends on standard input, so they promise nothing of it and nothing outside this file calls them. The line itself
-// comes from a function on the bytes that were read, with its whole contract. Anything else prints `bad case` and ends.
+// comes from a function on the bytes that were read, with its whole contract. Anything else prints `bad case` and ends; a read or a write
+// that fails ends with its error.
 #![tactic(auto)]
 
 mod filler;
@@ -15,7 +16,7 @@ mod write_line;
 
 ghost use Rattle.std.specs.Prelude.{◌≤◌, length};
 
-use libc::STDOUT_FILENO;
+use std::io;
 
 // What a case begins with.
 const FILE_CASE: u8 = 70;
@@ -61,30 +62,43 @@ struct Call {
     sets: u16,
 }
 
+// Prints the line of a case; there is going on after it.
+fn print_line(rt: &impl Print, line: &[u8]) -> io::Result<bool> {
+    rt.write_all(line)?;
+    Ok(true)
+}
+
 // A flow file: a length of two bytes and the file. Prints the program's line.
-fn file_case() -> bool {
+fn file_case(rt: &(impl Input + Print)) -> io::Result<bool> {
     let mut head = [0u8; 2];
-    if !input::fetch(&mut head, 2) {
-        return input::bad_case();
+    if !input::fetch(rt, &mut head, 2)? {
+        return input::bad_case(rt);
     }
     let n = format::number_from(head[0], head[1]) as usize;
     let mut file = [0u8; 65535];
-    if !input::fetch(&mut file, n) {
-        return input::bad_case();
+    if !input::fetch(rt, &mut file, n)? {
+        return input::bad_case(rt);
     }
     let mut out = [0u8; 64];
     let end = program::write_file_line(&file[..n], &mut out);
-    io::write_all(STDOUT_FILENO, &out[..end])
+    print_line(rt, &out[..end])
 }
 
 // A call of the judge, with the names or without.
-fn judge_call(call: Call, names: &[u8], nodes: &[u16], records: &[u16], sets: &[u8]) -> bool
+fn judge_call(
+    rt: &impl Print,
+    call: Call,
+    names: &[u8],
+    nodes: &[u16],
+    records: &[u16],
+    sets: &[u8],
+) -> io::Result<bool>
     requires nodes_len_bound { length nodes.now ≤ 400 }
     requires records_len_bound { length records.now ≤ 400 }
 {
     let lent = call.work as usize;
     if MOST_WORK < lent {
-        return input::bad_case();
+        return input::bad_case(rt);
     }
     let mut work = [0u8; 40000];
     let mut out = [0u8; 64];
@@ -98,7 +112,7 @@ fn judge_call(call: Call, names: &[u8], nodes: &[u16], records: &[u16], sets: &[
             call.allowance,
             &mut out,
         );
-        return io::write_all(STDOUT_FILENO, &out[..end]);
+        return print_line(rt, &out[..end]);
     }
     let end = judge_line::judge_lists(
         nodes,
@@ -108,21 +122,28 @@ fn judge_call(call: Call, names: &[u8], nodes: &[u16], records: &[u16], sets: &[
         call.allowance,
         &mut out,
     );
-    io::write_all(STDOUT_FILENO, &out[..end])
+    print_line(rt, &out[..end])
 }
 
 // A call of `next`, with the names or without.
-fn next_call(call: Call, names: &[u8], nodes: &[u16], records: &[u16], sets: &[u8]) -> bool
+fn next_call(
+    rt: &impl Print,
+    call: Call,
+    names: &[u8],
+    nodes: &[u16],
+    records: &[u16],
+    sets: &[u8],
+) -> io::Result<bool>
     requires nodes_len_bound { length nodes.now ≤ 400 }
     requires records_len_bound { length records.now ≤ 400 }
 {
     let lent = call.work as usize;
     if MOST_WORK < lent {
-        return input::bad_case();
+        return input::bad_case(rt);
     }
     let room = call.room as usize;
     if MOST_ROOM < room {
-        return input::bad_case();
+        return input::bad_case(rt);
     }
     let mut list = [0u16; 70000];
     let mut work = [0u8; 40000];
@@ -138,7 +159,7 @@ fn next_call(call: Call, names: &[u8], nodes: &[u16], records: &[u16], sets: &[u
             call.allowance,
             &mut out,
         );
-        return io::write_all(STDOUT_FILENO, &out[..end]);
+        return print_line(rt, &out[..end]);
     }
     let end = next_line::next_lists(
         nodes,
@@ -149,89 +170,109 @@ fn next_call(call: Call, names: &[u8], nodes: &[u16], records: &[u16], sets: &[u
         call.allowance,
         &mut out,
     );
-    io::write_all(STDOUT_FILENO, &out[..end])
+    print_line(rt, &out[..end])
 }
 
 // A call of the writer.
-fn write_call(call: Call, names: &[u8], nodes: &[u16], records: &[u16], sets: &[u8]) -> bool {
+fn write_call(
+    rt: &impl Print,
+    call: Call,
+    names: &[u8],
+    nodes: &[u16],
+    records: &[u16],
+    sets: &[u8],
+) -> io::Result<bool> {
     let room = call.room as usize;
     if MOST_ROOM < room {
-        return input::bad_case();
+        return input::bad_case(rt);
     }
     let mut file = [0u8; 70000];
     let mut out = [0u8; 44842];
     let end = write_line::write_lists(names, nodes, records, sets, &mut file[..room], &mut out);
-    io::write_all(STDOUT_FILENO, &out[..end])
+    print_line(rt, &out[..end])
 }
 
 // The call of its function on what was fetched for it.
-fn call_with(call: Call, names: &[u8], nodes: &[u16], records: &[u16], sets: &[u8]) -> bool
+fn call_with(
+    rt: &impl Print,
+    call: Call,
+    names: &[u8],
+    nodes: &[u16],
+    records: &[u16],
+    sets: &[u8],
+) -> io::Result<bool>
     requires nodes_len_bound { length nodes.now ≤ 400 }
     requires records_len_bound { length records.now ≤ 400 }
 {
     let function = call.function;
     match function {
-        JUDGE => judge_call(call, names, nodes, records, sets),
-        NEXT => next_call(call, names, nodes, records, sets),
-        WRITE => write_call(call, names, nodes, records, sets),
-        _ => input::bad_case(),
+        JUDGE => judge_call(rt, call, names, nodes, records, sets),
+        NEXT => next_call(rt, call, names, nodes, records, sets),
+        WRITE => write_call(rt, call, names, nodes, records, sets),
+        _ => input::bad_case(rt),
     }
 }
 
 // The sets of a call, behind the numbers; and the call.
-fn sets_lent(call: Call, names: &[u8], nodes: &[u16], records: &[u16]) -> bool
+fn sets_lent(
+    rt: &(impl Input + Print),
+    call: Call,
+    names: &[u8],
+    nodes: &[u16],
+    records: &[u16],
+) -> io::Result<bool>
     requires nodes_len_bound { length nodes.now ≤ 400 }
     requires records_len_bound { length records.now ≤ 400 }
 {
     let bytes = call.sets as usize;
     if MOST_SETS < bytes {
-        return input::bad_case();
+        return input::bad_case(rt);
     }
     let mut sets = [0u8; 600];
-    if !input::fetch(&mut sets, bytes) {
-        return input::bad_case();
+    if !input::fetch(rt, &mut sets, bytes)? {
+        return input::bad_case(rt);
     }
-    call_with(call, names, nodes, records, &sets[..bytes])
+    call_with(rt, call, names, nodes, records, &sets[..bytes])
 }
 
 // The numbers of the nodes and the records of a call, two bytes each, before the sets.
-fn numbers_lent(call: Call, names: &[u8]) -> bool {
+fn numbers_lent(rt: &(impl Input + Print), call: Call, names: &[u8]) -> io::Result<bool> {
     let nodes = call.nodes as usize;
     let records = call.records as usize;
     if MOST_NUMBERS < nodes {
-        return input::bad_case();
+        return input::bad_case(rt);
     }
     if MOST_NUMBERS < records {
-        return input::bad_case();
+        return input::bad_case(rt);
     }
     let mut ns = [0u16; 400];
-    if !input::fetch_numbers(&mut ns, nodes) {
-        return input::bad_case();
+    if !input::fetch_numbers(rt, &mut ns, nodes)? {
+        return input::bad_case(rt);
     }
     let mut rs = [0u16; 400];
-    if !input::fetch_numbers(&mut rs, records) {
-        return input::bad_case();
+    if !input::fetch_numbers(rt, &mut rs, records)? {
+        return input::bad_case(rt);
     }
-    sets_lent(call, names, &ns[..nodes], &rs[..records])
+    sets_lent(rt, call, names, &ns[..nodes], &rs[..records])
 }
 
 // The names section of a call, of so many bytes, before the numbers.
-fn names_lent(call: Call, bytes: usize) -> bool
+fn names_lent(rt: &(impl Input + Print), call: Call, bytes: usize) -> io::Result<bool>
     requires { bytes ≤ 65535 }
 {
     let mut names = [0u8; 65535];
-    if !input::fetch(&mut names, bytes) {
-        return input::bad_case();
+    if !input::fetch(rt, &mut names, bytes)? {
+        return input::bad_case(rt);
     }
-    numbers_lent(call, &names[..bytes])
+    numbers_lent(rt, call, &names[..bytes])
 }
 
 // A call of the judge without names or sets: an allowance and a work length of four bytes each, the number of node numbers and of records
 // of two bytes each, and the numbers.
-fn judge_case() -> bool {
+fn judge_case(rt: &(impl Input + Print)) -> io::Result<bool> {
     let mut head = [0u8; 12];
-    if !input::fetch(&mut head, 12) {
-        return input::bad_case();
+    if !input::fetch(rt, &mut head, 12)? {
+        return input::bad_case(rt);
     }
     let call = Call {
         function: JUDGE,
@@ -243,7 +284,7 @@ fn judge_case() -> bool {
         records: format::number_from(head[10], head[11]),
         sets: 0,
     };
-    numbers_lent(call, b"")
+    numbers_lent(rt, call, b"")
 }
 
 // Whether a function takes the edition and the names, so many bytes of them: the judge and `next` the one edition, with names or without;
@@ -268,14 +309,14 @@ fn takes(function: u8, edition: u8, lent: u8, names: usize) -> bool {
 // A call with everything that may be lent: a function, an edition and whether names are lent, of a byte each; an allowance, a work
 // length and a room of four bytes each; the length of the names section, the number of node numbers and of records and the length
 // of the sets, of two bytes each; and all of these.
-fn call_case() -> bool {
+fn call_case(rt: &(impl Input + Print)) -> io::Result<bool> {
     let mut head = [0u8; 23];
-    if !input::fetch(&mut head, 23) {
-        return input::bad_case();
+    if !input::fetch(rt, &mut head, 23)? {
+        return input::bad_case(rt);
     }
     let names = format::number_from(head[15], head[16]) as usize;
     if !takes(head[0], head[1], head[2], names) {
-        return input::bad_case();
+        return input::bad_case(rt);
     }
     let call = Call {
         function: head[0],
@@ -287,21 +328,21 @@ fn call_case() -> bool {
         records: format::number_from(head[19], head[20]),
         sets: format::number_from(head[21], head[22]),
     };
-    names_lent(call, names)
+    names_lent(rt, call, names)
 }
 
 // A call of the reader: the room for node numbers, for records and the length of the file, of two bytes each, and the file.
-fn read_case() -> bool {
+fn read_case(rt: &(impl Input + Print)) -> io::Result<bool> {
     let mut head = [0u8; 6];
-    if !input::fetch(&mut head, 6) {
-        return input::bad_case();
+    if !input::fetch(rt, &mut head, 6)? {
+        return input::bad_case(rt);
     }
     let node_room = format::number_from(head[0], head[1]) as usize;
     let record_room = format::number_from(head[2], head[3]) as usize;
     let n = format::number_from(head[4], head[5]) as usize;
     let mut file = [0u8; 65535];
-    if !input::fetch(&mut file, n) {
-        return input::bad_case();
+    if !input::fetch(rt, &mut file, n)? {
+        return input::bad_case(rt);
     }
     let mut nodes = [0u16; 65535];
     let mut records = [0u16; 65535];
@@ -312,31 +353,30 @@ fn read_case() -> bool {
         &mut records[..record_room],
         &mut out,
     );
-    io::write_all(STDOUT_FILENO, &out[..end])
+    print_line(rt, &out[..end])
 }
 
 // One case; whether to go on.
-fn case() -> bool {
+fn case(rt: &(impl Input + Print)) -> io::Result<bool> {
     let mut kind = [0u8; 1];
-    if !input::fetch(&mut kind, 1) {
-        return false;
+    if !input::fetch(rt, &mut kind, 1)? {
+        return Ok(false);
     }
     let k = kind[0];
     match k {
-        FILE_CASE => file_case(),
-        JUDGE_CASE => judge_case(),
-        READ_CASE => read_case(),
-        CALL_CASE => call_case(),
-        _ => input::bad_case(),
+        FILE_CASE => file_case(rt),
+        JUDGE_CASE => judge_case(rt),
+        READ_CASE => read_case(rt),
+        CALL_CASE => call_case(rt),
+        _ => input::bad_case(rt),
     }
 }
 
-fn main() {
-    let mut turns = 18446744073709551615u64;
-    while 0 < turns {
-        if !case() {
-            return;
+fn main(rt: HostRuntime) -> io::Result<()> {
+    for _ in 0..u64::MAX {
+        if !case(&rt)? {
+            break;
         }
-        turns -= 1;
     }
+    Ok(())
 }

@@ -238,7 +238,7 @@ at_member : {l : List State} {k : ℕ} {x : State} → At l k x → Memᴰ x l
 at_member At.here = Memᴰ.head refl
 at_member (At.past h) = Memᴰ.tail (at_member h)
 
-member_at : {l : List State} {x : State} → Memᴰ x l → (i : ℕ) × At l i x × (i < length l)
+member_at : {x : State} {l : List State} → Memᴰ x l → (i : ℕ) × At l i x × (i < length l)
 member_at {l} (Memᴰ.head {x} {xs} e) = (0, subst (λ z. At (x ∷ xs) 0 z) (sym e) At.here, omega arith)
 member_at (Memᴰ.tail m) = let p = member_at m in (suc p.0, At.past p.1, omega (arith, p.2))
 

@@ -10,7 +10,7 @@ use lib.ListN.{length, drop, get_or, replicate, length-drop, length-replicate}
 use lib.Seq.{drop-drop}
 use borrow.Author.Tests.{lt-leb, le-leb}
 use Rattle.calculus.specs.Records.{Record, State}
-use Rattle.calculus.specs.Search.{Seen, visit}
+use Rattle.calculus.specs.Search.{visit}
 use Rattle.calculus.specs.Spending.{Out as Found, spent, back, visit_b, left_of}
 use Rattle.calculus.proofs.Budget.{visit_left, back_seen}
 use Rattle.flow.specs.Cues.{cue_records}

@@ -10,7 +10,7 @@ use lib.Dec.{T, ltb}
 use lib.ListN.{length, length-map}
 use borrow.Author.Tests.{lt-ltb, le-ltb}
 use Rattle.calculus.specs.Term.{Closing, done, withdrawn, failed, Std}
-use Rattle.calculus.specs.Records.{State, over, std, cmp, Closed, Fits}
+use Rattle.calculus.specs.Records.{State, over, std, cmp, Fits}
 use Rattle.calculus.specs.Successors.{only, some_of, ends, comps}
 use Rattle.calculus.specs.Search.{next}
 use Rattle.calculus.specs.Ahead.{passes, may_follow}

@@ -35,7 +35,7 @@ use Rattle.states.specs.DrawnLaws.{none_done, Means, drawn_means}
 use Rattle.search.specs.declared.Out.{Out}
 use Rattle.search.specs.declared.Out.TheVariants.{Spent, Back}
 use Rattle.search.specs.Room.{room_of, cleared}
-use Rattle.search.specs.Visits.{state, out_of, stretches, VisitReady, Used, follows_mark, Answers, as_was, can, Settled, AsksAfter, Began}
+use Rattle.search.specs.Visits.{state, out_of, stretches, VisitReady, Used, follows_mark, Answers, as_was, can, AsksAfter, Began}
 use Rattle.search.specs.Searches.{role_of, LeftWithin, SearchReady, Searched, answered, went_through, asks_after, Asked}
 
 ---- All modes 0 are the drawn flow ----

@@ -332,7 +332,7 @@ fn keep(
 }
 
 // Into this state, unless it is remembered, and on from it.
-#[cycle(enter_follow_try_each_visit_visit_each)]
+#[cycle(visiting)]
 fn visit(
     ns: &[u16],
     cues: &[u64],
@@ -360,7 +360,7 @@ fn visit(
 }
 
 // Into this state, if the allowance is not used up.
-#[cycle(enter_follow_try_each_visit_visit_each)]
+#[cycle(visiting)]
 fn enter(
     ns: &[u16],
     cues: &[u64],
@@ -407,7 +407,7 @@ fn ends(role: Role, cue: u64) -> bool
 }
 
 // The successors are counted, and tried.
-#[cycle(enter_follow_try_each_visit_visit_each)]
+#[cycle(visiting)]
 fn visit_each(
     ns: &[u16],
     cues: &[u64],
@@ -431,7 +431,7 @@ fn visit_each(
 }
 
 // The successors one after the other, until one finds the end.
-#[cycle(enter_follow_try_each_visit_visit_each)]
+#[cycle(visiting)]
 fn try_each(
     ns: &[u16],
     cues: &[u64],
@@ -496,7 +496,7 @@ fn copy_down(work: &mut [u8], n: usize)
 }
 
 // Into the k-th successor, in its own stretch of the work bytes.
-#[cycle(enter_follow_try_each_visit_visit_each)]
+#[cycle(visiting)]
 fn follow(
     ns: &[u16],
     cues: &[u64],

@@ -1,6 +1,6 @@
 -- Why each way through the search is right: one lemma for each call that the code makes and for each way in which it returns. Each
 -- takes what the code has learnt, in the code's order; what it says of terms is in SeekLaws of the crate below. Assumes nothing.
-use Rattle.std.specs.Prelude.{ℕ, ◌+◌, ◌*◌, ◌-◌, ◌<◌, ◌≤◌, ◌≡◌, Bool, true, false, not, cond, List, [], ◌∷◌, map, ◌≢◌, eqb, length}
+use Rattle.std.specs.Prelude.{ℕ, ◌+◌, ◌*◌, ◌-◌, ◌<◌, ◌≤◌, ◌≡◌, Bool, true, false, not, cond, List, [], ◌∷◌, map, eqb, length}
 use Rattle.std.proofs.Math.Path.{refl, sym, ap, subst}
 use Rattle.std.proofs.Common.{◌∙◌, subst₂, arith}
 use Rattle.std.proofs.Math.Dec.{T}
@@ -14,7 +14,7 @@ use Rattle.flow.specs.declared.Operator.{Operator}
 use Rattle.flow.specs.declared.Operator.TheVariants.{Sequence, Choice, Parallel}
 use Rattle.flow.specs.declared.Two.{Two}
 use Rattle.flow.specs.declared.Node.TheVariants.{Compensable}
-use Rattle.flow.specs.Kinds.{set_of, paired, compensable, node, shape}
+use Rattle.flow.specs.Kinds.{set_of, paired, compensable, shape}
 use Rattle.flow.specs.Cues.{cued, joint_at}
 use Rattle.flow.specs.Shapes.{Kid}
 use Rattle.flow.specs.Trees.{Under, Tree}
@@ -42,7 +42,7 @@ use Rattle.states.specs.Stored.{std_right}
 use Rattle.states.specs.NotedLaws.{noted_stored}
 use Rattle.states.specs.StateLaws.{std_part}
 use Rattle.states.specs.LiveParts.{Twins}
-use Rattle.states.specs.Becomes.{picked, known_of, seq_of, par_of, ask_second, own_of, side_of, fitting_of, Lands, on_done, on_withdrawn, on_failed, Becomes, basic_stays, pair_to_second, pair_to_nothing, as_child, held_to_both, seq_to_first, seq_to_both, alt_to_first, alt_to_second, par_to_both}
+use Rattle.states.specs.Becomes.{picked, known_of, seq_of, par_of, own_of, side_of, fitting_of, Lands, on_done, on_withdrawn, on_failed, Becomes, basic_stays, pair_to_second, pair_to_nothing, as_child, held_to_both, seq_to_first, seq_to_both, alt_to_first, alt_to_second, par_to_both}
 use Rattle.states.specs.Clauses.{Spot, Kept, Sets, Redrawn, Scene, scene, weight_of, Ask, ask, Chosen, Weighed, Undone}
 use Rattle.states.specs.ChildLaws.{set_sets, not_own, lower_spot, same_room, kept_set, kept_part, kid_lower, kept_kid, own_kept, same_part, spot_down}
 use Rattle.seek.specs.Asked.{Fallen, course_at, runs, left, lone, PairLeft, to_second, to_nothing, UndoneBelow, Picks, Wanted, Below, seconds, SecondWanted, SecondChosen}
@@ -55,14 +55,14 @@ use Rattle.seek.specs.NodeLaws.{course_runs, course_kids, course_node, left_is, 
 module _ {ns t : List ℕ} {a i : ℕ} {n : Notes} (k : Weighed (scene ns t a) n i) where
   module _ (w : ℕ) (g : Weight) where
     weight_read : {r : ℕ} → r ≡ total (by_w (row n.rows i) (closing w)) g → r ≡ weight_of (scene ns t a) i (closing w) g
-    weight_read e = total_by a g _ (closing w) refl refl (e ∙ ap (λ x. total (by_w x (closing w)) g) (row_is k) ∙ total_by_bare _ (closing w) g)
+    weight_read e = total_by a g _ (closing w) refl refl (e ∙ ap (λ x. total (by_w x (closing w)) g) (row_is k) ∙ total_by_bare (word a (runs ns t i)) (closing w) g)
 
     -- none where the closing is done
     own_read : {r : ℕ} → r ≡ total (when_t (not (eqb w 0)) (by_w (row n.rows i) (closing w))) g → r ≡ own_of (scene ns t a) i (closing w) g
-    own_read e = rw eqc_done (total_when a g _ (closing w) (not (eqb w 0)) refl (e ∙ ap (λ x. total (when_t (not (eqb w 0)) (by_w x (closing w))) g) (row_is k) ∙ total_when_bare _ (closing w) g (not (eqb w 0))))
+    own_read e = rw eqc_done (total_when a g _ (closing w) (not (eqb w 0)) refl (e ∙ ap (λ x. total (when_t (not (eqb w 0)) (by_w x (closing w))) g) (row_is k) ∙ total_when_bare (word a (runs ns t i)) (closing w) g (not (eqb w 0))))
 
     before_read : {r : Weight} → r ≡ after_g (by_w (row n.rows i) (closing w)) g → r ≡ after_g (tally a (comps (runs ns t i) (closing w))) g
-    before_read e = e ∙ ap (λ x. after_g (by_w x (closing w)) g) (row_is k) ∙ after_by_bare _ (closing w) g ∙ ap (λ x. after_g x g) (by_word a (runs ns t i) (closing w))
+    before_read e = e ∙ ap (λ x. after_g (by_w x (closing w)) g) (row_is k) ∙ after_by_bare (word a (runs ns t i)) (closing w) g ∙ ap (λ x. after_g x g) (by_word a (runs ns t i) (closing w))
 
 -- A node of a course becomes what one of that course does
 at_course : {ns t : List ℕ} {a i : ℕ} {x : Course} {q : Ask} {t' : List ℕ} {p : Picked} → course_at ns t i ≡ x → Becomes ns a x t i q t' p → Becomes ns a (course_at ns t i) t i q t' p

@@ -1,13 +1,13 @@
 -- Why the tables are right for a compensation that has been chosen: one lemma for each course. What is drawn below a pair, and what was held,
 -- is as it was; the nodes above are given their numbers of steps one by one (`undone_by`). Assumes nothing.
-use Rattle.std.specs.Prelude.{ℕ, ◌<◌, ◌≡◌, refl, Bool, ◌&&◌, List, ◌≢◌, length, set}
-use Rattle.std.proofs.Common.{sym, ◌∙◌, arith}
+use Rattle.std.specs.Prelude.{ℕ, ◌≡◌, refl, List, ◌≢◌, set}
+use Rattle.std.proofs.Common.{sym, ◌∙◌}
 use Rattle.std.proofs.Math.Path.{ap, subst}
 use Rattle.std.proofs.Math.Dec.{T}
 use Rattle.calculus.proofs.Members.{and_in}
 use Rattle.flow.specs.declared.Simple.{Simple}
 use Rattle.flow.specs.declared.Operator.{Operator}
-use Rattle.flow.specs.declared.Operator.TheVariants.{Sequence, Parallel}
+use Rattle.flow.specs.declared.Operator.TheVariants.{Parallel}
 use Rattle.flow.specs.declared.Two.{Two}
 use Rattle.flow.specs.declared.Node.{Node}
 use Rattle.flow.specs.declared.Node.TheVariants.{Compensable}
@@ -17,23 +17,22 @@ use Rattle.flow.specs.Trees.{Under, self, Tree}
 use Rattle.flow.specs.NodeChildren.{two_kids, kids_disjoint}
 use Rattle.tallies.specs.Counts.{view}
 use Rattle.tallies.specs.declared.Weight.{Weight}
-use Rattle.states.specs.declared.Sense.TheVariants.{Drawn, Undoing}
+use Rattle.states.specs.declared.Sense.TheVariants.{Undoing}
 use Rattle.states.specs.declared.Role.TheVariants.{Plain}
 use Rattle.states.specs.declared.Course.TheVariants as course
-use Rattle.states.specs.declared.Standing.TheVariants as standing
 use Rattle.states.specs.declared.Picked.{Picked}
 use Rattle.states.specs.Standings as standings
 use Rattle.states.specs.Standings.{left_both, stand, stand_undoing, undoing_two}
 use Rattle.states.specs.State.{modes}
-use Rattle.states.specs.Rows.{Notes, notes, Entry, entries, row}
+use Rattle.states.specs.Rows.{Notes, notes, entries, row}
 use Rattle.states.specs.Stored.{Right, std_right}
 use Rattle.states.specs.StateLaws.{std_stored, stored_own}
 use Rattle.states.specs.NotedLaws.{noted_in, noted_stored}
 use Rattle.states.specs.LiveParts.{Twins}
-use Rattle.states.specs.Clauses.{Spot, Kept, Sets, Scene, scene, Ask, Chosen, stored_at, noted_at, Weighed, Undone}
+use Rattle.states.specs.Clauses.{Spot, Kept, Sets, Scene, scene, Ask, Chosen, stored_at, noted_at, Undone}
 use Rattle.states.specs.ChildLaws.{set_sets, not_own, kept_kid, own_kept}
-use Rattle.seek.specs.Asked.{course_at, Wanted, SecondWanted, UndoneBelow}
-use Rattle.seek.specs.NodeLaws.{course_kids, course_node, marked_mode, marked_kept}
+use Rattle.seek.specs.Asked.{Wanted, SecondWanted, UndoneBelow}
+use Rattle.seek.specs.NodeLaws.{course_kids, course_node, marked_mode}
 use Rattle.seek.specs.WeighedLaws.{noted_still}
 
 -- by the mode that the node got

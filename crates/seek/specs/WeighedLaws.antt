@@ -1,6 +1,6 @@
 -- Laws of what is kept of a node that runs: its row is that of its part (`row_is`), the parts that are live in it are right too, by its
 -- course, and what is noted of a node depends only on the modes and entries under it (`noted_still`, `weighed_still`). Assumes nothing.
-use Rattle.std.specs.Prelude.{ℕ, ◌+◌, ◌*◌, ◌<◌, ◌≡◌, refl, Bool, true, cond, List, length}
+use Rattle.std.specs.Prelude.{ℕ, ◌+◌, ◌*◌, ◌<◌, ◌≡◌, Bool, true, cond, List, length}
 use Rattle.std.proofs.Common.{◌∙◌, ap, arith}
 use Rattle.std.proofs.Math.Path.{subst}
 use Rattle.std.proofs.Math.Dec.{T}

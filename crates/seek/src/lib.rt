@@ -239,7 +239,7 @@ struct Query {
 }
 
 // Node i becomes one of its compensations, and the number of its steps takes the place of its own in c.
-#[cycle(choose_choose_both_choose_by_seek_choice_seek_marked_seek_parallel_seek_running_seek_second)]
+#[cycle(choosing)]
 pub fn choose(
     ns: &[u16],
     t: &mut [u8],
@@ -275,7 +275,7 @@ pub fn choose(
 }
 
 // By its course.
-#[cycle(choose_choose_both_choose_by_seek_choice_seek_marked_seek_parallel_seek_running_seek_second)]
+#[cycle(choosing)]
 fn choose_by(
     ns: &[u16],
     t: &mut [u8],
@@ -308,7 +308,7 @@ fn choose_by(
     }
 }
 
-#[cycle(choose_choose_both_choose_by_seek_choice_seek_marked_seek_parallel_seek_running_seek_second)]
+#[cycle(choosing)]
 fn choose_both(
     ns: &[u16],
     t: &mut [u8],
@@ -353,7 +353,7 @@ fn seek_pair(ns: &[u16], t: &mut [u8], d: &[u32], i: usize, two: Two, w: u8, j: 
 }
 
 // Node i gets the mode m, and a child becomes one of its compensations.
-#[cycle(choose_choose_both_choose_by_seek_choice_seek_marked_seek_parallel_seek_running_seek_second)]
+#[cycle(choosing)]
 fn seek_marked(
     ns: &[u16],
     t: &mut [u8],
@@ -375,7 +375,7 @@ fn seek_marked(
 }
 
 // PP;QQ whose PP has ended: QQ's compensation, and then PP's, k.
-#[cycle(choose_choose_both_choose_by_seek_choice_seek_marked_seek_parallel_seek_running_seek_second)]
+#[cycle(choosing)]
 fn seek_second(
     ns: &[u16],
     t: &mut [u8],
@@ -409,7 +409,7 @@ fn seek_second(
 }
 
 // PP closes by w, or it ends done and QQ closes by w.
-#[cycle(choose_choose_both_choose_by_seek_choice_seek_marked_seek_parallel_seek_running_seek_second)]
+#[cycle(choosing)]
 fn seek_running(
     ns: &[u16],
     t: &mut [u8],
@@ -444,7 +444,7 @@ fn seek_running(
     seek_second(ns, t, a, c, d, i, two, q.closing, q.weight, k)
 }
 
-#[cycle(choose_choose_both_choose_by_seek_choice_seek_marked_seek_parallel_seek_running_seek_second)]
+#[cycle(choosing)]
 fn seek_choice(
     ns: &[u16],
     t: &mut [u8],
@@ -473,7 +473,7 @@ fn seek_choice(
     seek_marked(ns, t, a, c, d, i, states::SECOND_TAKEN, two.second, rest)
 }
 
-#[cycle(choose_choose_both_choose_by_seek_choice_seek_marked_seek_parallel_seek_running_seek_second)]
+#[cycle(choosing)]
 fn seek_parallel(
     ns: &[u16],
     t: &mut [u8],

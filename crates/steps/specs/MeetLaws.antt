@@ -4,12 +4,12 @@
 use Rattle.std.specs.Prelude.{ℕ, ◌<◌, ◌/◌, ◌%◌, ◌≡◌, true, ◌&&◌, List, T, length}
 use Rattle.std.proofs.Math.Path.{refl}
 use Rattle.std.proofs.Common.{sym, ◌∙◌, ap, subst, subst₂, true≢false, arith}
-use Rattle.calculus.specs.Term.{Joint, par, cpar}
+use Rattle.calculus.specs.Term.{par, cpar}
 use Rattle.calculus.proofs.Members.{and_left, and_right}
 use Rattle.flow.specs.declared.Operator.{Operator}
 use Rattle.flow.specs.declared.Operator.TheVariants.{Sequence, Choice, Parallel}
 use Rattle.flow.specs.declared.Two.{Two}
-use Rattle.flow.specs.Kinds.{node, shape, set_of}
+use Rattle.flow.specs.Kinds.{node, set_of}
 use Rattle.flow.specs.Cues.{cued, joint_at, joint_by}
 use Rattle.tallies.specs.Capped.{cap}
 use Rattle.tallies.specs.Places.{At}
@@ -28,9 +28,9 @@ use Rattle.states.specs.NotedLaws.{own_count, noted_stored}
 use Rattle.states.specs.LiveParts.{Twins, Rests, CRests}
 use Rattle.states.specs.Rests.{stand_rests, course_rests}
 use Rattle.states.specs.Roles.{Term, get, nexts, many, ok}
-use Rattle.states.specs.Clauses.{Spot, Kept, Scene, scene, part_at, stored_at, noted_at, Ready, Stepped}
+use Rattle.states.specs.Clauses.{Kept, Scene, scene, part_at, noted_at, Ready, Stepped}
 use Rattle.states.specs.ChildLaws.{sets_none, lower_spot, same_room, kid_lower, kept_kid, own_kept, kept_part, beside_part, beside_stored}
-use Rattle.states.specs.Hands.{move, Stance, stance_of, Meets, both_stand, both_run, first_move, second_move, Makes, meets}
+use Rattle.states.specs.Hands.{move, Stance, stance_of, Meets, both_stand, both_run, Makes, meets}
 use Rattle.steps.specs.Turns.{stance_term}
 use Rattle.steps.specs.NodeLaws.{tree_of, step_room, parts_right, step_goes}
 

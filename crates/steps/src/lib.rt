@@ -199,7 +199,7 @@ fn turn_out(
 }
 
 // The k-th step of a standard part. It is handed down in a loop, which costs half of what a call for each level does.
-#[cycle(meet_run_meet_std_step_block_step_run_step_std)]
+#[cycle(stepping)]
 pub fn step_std(
     ns: &[u16],
     t: &mut [u8],
@@ -251,7 +251,7 @@ pub fn step_std(
 }
 
 // Both sides of a parallel, by a joint event: each step of the first goes with all of the second.
-#[cycle(meet_run_meet_std_step_block_step_run_step_std)]
+#[cycle(stepping)]
 fn meet_std(
     ns: &[u16],
     t: &mut [u8],
@@ -274,7 +274,7 @@ fn meet_std(
 }
 
 // Of a block: inside, or out of it by a compensation.
-#[cycle(meet_run_meet_std_step_block_step_run_step_std)]
+#[cycle(stepping)]
 fn step_block(
     ns: &[u16],
     t: &mut [u8],
@@ -299,7 +299,7 @@ fn step_block(
 }
 
 // The k-th step of a compensable part that runs.
-#[cycle(meet_run_meet_std_step_block_step_run_step_std)]
+#[cycle(stepping)]
 pub fn step_run(ns: &[u16], t: &mut [u8], a: u64, c: &mut [u32; 64], d: &[u32], i: usize, k: u32)
     requires { Ready (scene ns.now t.old a) Running (notes c.old d.now) i k }
     ensures stepped { Stepped (scene ns.now t.old a) Running i k t.new }
@@ -322,7 +322,7 @@ pub fn step_run(ns: &[u16], t: &mut [u8], a: u64, c: &mut [u32; 64], d: &[u32], 
 }
 
 // Both sides of a parallel that runs, by a joint event.
-#[cycle(meet_run_meet_std_step_block_step_run_step_std)]
+#[cycle(stepping)]
 fn meet_run(
     ns: &[u16],
     t: &mut [u8],

@@ -1,0 +1,13 @@
+-- `matching::mark_named_leaf` meets its contract: the marks of one node more. Assumes nothing.
+use Rattle.format.specs.ListChecks.{entries_in}
+use Rattle.matching.specs.Others.{other}
+use Rattle.matching.proofs.MarkLaws.{heard_more, heard_same}
+use Rattle.matching.proofs.mark_named_leaf.Goals as goal
+
+pub returns-then-form : goal.returns-then-form
+returns-then-form c =
+    heard_more (other (entries_in c.args.names.now)) c.args.nodes.now c.requires.heard_marks
+    c.form_at-form.ensures c.first_at-event.ensures c.if-form.true c.mark_taken.ensures
+
+pub returns-else-form : goal.returns-else-form
+returns-else-form c = heard_same (other (entries_in c.args.names.now)) c.args.nodes.now c.requires.heard_marks c.form_at-form.ensures c.if-form.false

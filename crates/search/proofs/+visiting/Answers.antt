@@ -1,0 +1,300 @@
+-- The counted search meets its contract: `visit` recalls a state or enters it, `visit_each` counts its successors,
+-- `try_each` goes through them and `follow` into one. The recursion's measure is six for each record that is left. The loop's invariant
+-- is `Going`: what is kept, what was learned, and that what comes of all successors is what comes of those still to be tried. Assumes
+-- nothing.
+use Prim.Native.Nat.{suc}
+use mathlib.Core.Path.{refl, sym, subst, ◌∙◌}
+use native.Mathlib.Omega.{arith}
+use lib.ListN.{length, drop, get_or, length-drop}
+use Rattle.flow.specs.Cues.{cue_records}
+use Rattle.search.specs.SearchLaws.{visit_within}
+use Rattle.search.specs.Visits.{Truthful, state, memory}
+use Rattle.flow.specs.Refusals.{count}
+use Rattle.search.proofs.Deeper.{memory_fits, visited_known, visited_kept, ready_spot, first_low, visited_spent, visited_arrived, visited_last, visited_tried, ready_still, right_still, count_still, goes_still, tried_none, tried_spent, tried_found, tried_on, tried_over, two_stretches, copied_room, apply_asked, back_room, visit_asked, followed, rest_is, rest_length}
+use Rattle.search.proofs.Numbers.{first_inner, ends_fits}
+use Rattle.search.proofs.Stretches.{used_same, used_trans}
+use Rattle.search.proofs.Turns.{turn_none, turn_over, turn_spent, turn_cost, turn_found, turn_on, turn_all}
+use Rattle.search.proofs.Asks.{strikes_same}
+use Rattle.search.proofs.Memories.{learned_same, learned_trans, truthful_still, truthful_rest}
+use Rattle.search.proofs.+visiting.Goals as goal
+
+pub enter-returns-then-left-eq0 : goal.enter-returns-then-left-eq0
+enter-returns-then-left-eq0 t c =
+    let a = c.args in
+    visited_spent a.ns.now a.cues.now a.work.now a.role a.asks.now a.left (memory a.modes.now a.marks.now) c.if-left-eq0.true
+
+pub enter-overflow_sub-left : goal.enter-overflow_sub-left
+enter-overflow_sub-left t c = omega (arith, c.if-left-eq0.false)
+
+pub enter-arrive-requires : goal.enter-arrive-requires
+enter-arrive-requires t c =
+    record {
+      spot = ready_spot c.requires.visit_ready;
+      in_bounds = (c.requires.visit_ready.some, c.requires.truthful.asking);
+    }
+
+pub enter-returns-then-cues-eq0 : goal.enter-returns-then-cues-eq0
+enter-returns-then-cues-eq0 t c =
+    let a = c.args in
+    visited_arrived a.ns.now a.cues.now a.work.now a.role a.asks.now a.left (memory a.modes.now a.marks.now) c.if-left-eq0.false c.arrive.result c.if-cues-eq0.true c.arrive.ensures.value c.arrive.ensures.asked
+
+pub enter-bounds-cues-0 : goal.enter-bounds-cues-0
+enter-bounds-cues-0 t c = omega (arith, c.if-cues-eq0.false)
+
+pub enter-bounds-cues-0-then-ends : goal.enter-bounds-cues-0-then-ends
+enter-bounds-cues-0-then-ends t c = omega (arith, c.if-cues-eq0.false)
+
+pub enter-overflow_sub-left-then-ends : goal.enter-overflow_sub-left-then-ends
+enter-overflow_sub-left-then-ends t c = omega (arith, c.if-left-eq0.false)
+
+pub enter-finish-requires : goal.enter-finish-requires
+enter-finish-requires t c =
+    let r = c.requires.visit_ready in record {
+      spot = ready_spot r;
+      in_bounds = (r.some, ends_fits c.args.ns.now c.args.work.now (get_or c.args.cues.now 0 0) (first_low r (omega (arith, c.if-cues-eq0.false))) c.args.role (sym c.ends.ensures ∙ c.if-ends.true));
+    }
+
+pub enter-overflow_sub-left-else-ends : goal.enter-overflow_sub-left-else-ends
+enter-overflow_sub-left-else-ends t c = omega (arith, c.if-left-eq0.false)
+
+pub enter-visit_each-requires : goal.enter-visit_each-requires
+enter-visit_each-requires t c =
+    let r = c.requires.visit_ready in
+    (omega (arith, c.decreases), (r, (c.requires.truthful, ((omega (arith, c.if-cues-eq0.false), omega (arith, c.ranges.left, c.if-left-eq0.false)), sym c.ends.ensures ∙ c.if-ends.false))))
+
+pub enter-returns-then-ends : goal.enter-returns-then-ends
+enter-returns-then-ends t c =
+    let a = c.args in
+    visited_last a.ns.now a.cues.now a.work.now a.role a.asks.now a.left (memory a.modes.now a.marks.now) c.if-left-eq0.false c.requires.visit_ready (omega (arith, c.if-cues-eq0.false)) c.finish.result (sym c.ends.ensures ∙ c.if-ends.true) c.finish.ensures
+
+pub enter-returns-else-ends : goal.enter-returns-else-ends
+enter-returns-else-ends t c =
+    let a = c.args in
+    visited_tried a.ns.now a.cues.now a.work.now a.role a.asks.now a.left (memory a.modes.now a.marks.now) c.if-left-eq0.false c.requires.visit_ready (omega (arith, c.if-cues-eq0.false)) c.visit_each.result c.visit_each.new.work c.visit_each.new.asks (memory c.visit_each.new.modes c.visit_each.new.marks) c.visit_each.ensures
+
+pub follow-copy_down-requires : goal.follow-copy_down-requires
+follow-copy_down-requires t c =
+    let o = two_stretches c.requires.visit_ready c.requires.in_bounds in
+    omega arith
+
+pub follow-overflow_mul-w : goal.follow-overflow_mul-w
+follow-overflow_mul-w t c = omega arith
+
+pub follow-slice_bounds-apply-count : goal.follow-slice_bounds-apply-count
+follow-slice_bounds-apply-count t c =
+    let o = copied_room c.requires.visit_ready c.requires.in_bounds c.copy_down.new.work c.copy_down.ensures in
+    omega arith
+
+pub follow-slice_bounds-apply-start : goal.follow-slice_bounds-apply-start
+follow-slice_bounds-apply-start t c =
+    let o = copied_room c.requires.visit_ready c.requires.in_bounds c.copy_down.new.work c.copy_down.ensures in
+    omega arith
+
+pub follow-bounds-cues-0 : goal.follow-bounds-cues-0
+follow-bounds-cues-0 t c =
+    let q = c.requires.in_bounds in
+    omega arith
+
+pub follow-apply-requires : goal.follow-apply-requires
+follow-apply-requires t c =
+    let whole = apply_asked c.requires.visit_ready c.requires.in_bounds c.copy_down.new.work c.copy_down.ensures c.requires.cues_value c.args.c.now c.args.d.now c.args.k c.requires.right_counts c.requires.k_bound in record {
+      spot = whole.0;
+      in_bounds = whole.1.0;
+      right_counts = whole.1.1.0;
+      k_bound = whole.1.1.1;
+    }
+
+pub follow-bounds-cues-0-2 : goal.follow-bounds-cues-0-2
+follow-bounds-cues-0-2 t c =
+    let q = c.requires.in_bounds in
+    omega arith
+
+pub follow-slice_bounds-visit-count : goal.follow-slice_bounds-visit-count
+follow-slice_bounds-visit-count t c =
+    let q = c.requires.in_bounds in
+    omega arith
+
+pub follow-slice_bounds-visit-start : goal.follow-slice_bounds-visit-start
+follow-slice_bounds-visit-start t c =
+    let q = c.requires.in_bounds in
+    omega arith
+
+pub follow-slice_bounds-visit-count-2 : goal.follow-slice_bounds-visit-count-2
+follow-slice_bounds-visit-count-2 t c =
+    let o = back_room c.requires.visit_ready c.requires.in_bounds c.copy_down.new.work c.copy_down.ensures c.args.k c.apply.new.t c.apply.auto.t c.apply.ensures in
+    omega arith
+
+pub follow-slice_bounds-visit-start-2 : goal.follow-slice_bounds-visit-start-2
+follow-slice_bounds-visit-start-2 t c =
+    let o = back_room c.requires.visit_ready c.requires.in_bounds c.copy_down.new.work c.copy_down.ensures c.args.k c.apply.new.t c.apply.auto.t c.apply.ensures in
+    omega arith
+
+pub follow-visit-requires : goal.follow-visit-requires
+follow-visit-requires t c =
+    let l = rest_length c.args.cues.now in
+    let one = c.requires.in_bounds in (
+      omega (arith, c.decreases),
+      (
+        visit_asked c.requires.visit_ready one c.copy_down.new.work c.copy_down.ensures c.args.k c.apply.new.t c.apply.auto.t c.apply.ensures _ (rest_is c.args.cues.now) _ c.role_after-after.ensures,
+        subst (λ l. Truthful c.args.ns.now l c.args.asks.now (memory c.args.modes.now c.args.marks.now)) (sym (rest_is c.args.cues.now)) (truthful_rest c.args.ns.now c.args.cues.now (omega arith) c.requires.truthful),
+      ),
+    )
+
+pub follow-returns : goal.follow-returns
+follow-returns t c = followed c.requires.visit_ready c.requires.in_bounds c.copy_down.new.work c.copy_down.ensures c.args.k c.apply.new.t c.apply.auto.t c.apply.ensures _ (rest_is c.args.cues.now) _ c.role_after-after.ensures c.args.asks.now c.args.left c.visit.result c.visit.new.work c.visit.new.asks (memory c.args.modes.now c.args.marks.now) (memory c.visit.new.modes c.visit.new.marks) c.visit.ensures
+
+pub try_each-loop-k-init : goal.try_each-loop-k-init
+try_each-loop-k-init t c =
+    let a = c.args in
+    record {
+      long = refl;
+      wide = refl;
+      deep = refl;
+      used = used_same (count a.ns.now) (suc (length a.cues.now)) a.work.now;
+      learned = learned_same a.ns.now a.cues.now a.asks.now (memory a.modes.now a.marks.now);
+      turn = turn_none (state a.ns.now a.role a.work.now) (get_or a.cues.now 0 0) (drop 1 a.cues.now) a.left;
+      struck = strikes_same a.asks.now;
+      tried = tried_none (state a.ns.now a.role a.work.now) a.cues.now a.asks.now;
+    }
+
+pub try_each-follow-requires : goal.try_each-follow-requires
+try_each-follow-requires t c =
+    let a = c.args in
+    let v = c.loop-k.invariant in (
+      omega (arith, c.decreases),
+      (
+        ready_still c.requires.visit_ready c.loop-k.work v.used v.long,
+        (
+          truthful_still a.ns.now a.cues.now c.requires.truthful v.struck v.learned v.wide v.deep,
+          (
+            c.requires.in_bounds.0,
+            (
+              c.requires.cues_value,
+              (
+                right_still c.requires.visit_ready c.loop-k.work v.used (get_or a.cues.now 0 0) a.c.now a.d.now c.requires.right_counts,
+                count_still c.requires.visit_ready c.loop-k.work v.used c.loop-k.k (get_or a.cues.now 0 0) a.many c.loop-k-test.true c.requires.many_value,
+              ),
+            ),
+          ),
+        ),
+      ),
+    )
+
+pub try_each-returns-in-Spent : goal.try_each-returns-in-Spent
+try_each-returns-in-Spent t c =
+    let r = c.requires.visit_ready in
+    let a = c.args in
+    let v = c.loop-k.invariant in
+    record {
+      out = turn_spent (state a.ns.now a.role a.work.now) (get_or a.cues.now 0 0) (drop 1 a.cues.now) a.left v.turn c.follow.result (goes_still r c.loop-k.work v.used (get_or a.cues.now 0 0) c.loop-k.k c.follow.ensures.goes) c.follow.ensures.out c.in-Spent.is;
+      used = used_trans v.used c.follow.ensures.used;
+      asked = tried_spent (state a.ns.now a.role a.work.now) a.cues.now c.requires.in_bounds.0 v.struck (goes_still r c.loop-k.work v.used (get_or a.cues.now 0 0) c.loop-k.k c.follow.ensures.goes) c.follow.result c.follow.ensures.asked c.in-Spent.is;
+      learned = learned_trans a.ns.now a.cues.now c.follow.ensures.asked.strikes v.learned c.follow.ensures.learned;
+    }
+
+pub try_each-further-far-requires : goal.try_each-further-far-requires
+try_each-further-far-requires t c =
+    let r = c.requires.visit_ready in
+    let a = c.args in
+    let v = c.loop-k.invariant in
+    let z = turn_cost (state a.ns.now a.role a.work.now) (get_or a.cues.now 0 0) (drop 1 a.cues.now) a.left v.turn c.follow.result (goes_still r c.loop-k.work v.used (get_or a.cues.now 0 0) c.loop-k.k c.follow.ensures.goes) c.follow.ensures.out c.in-Back.trip c.in-Back.is in
+    let d = length-drop 1 a.cues.now in
+    let q = r.known.few in
+    omega (arith, z.far)
+
+pub try_each-returns-then-trip : goal.try_each-returns-then-trip
+try_each-returns-then-trip t c =
+    let r = c.requires.visit_ready in
+    let a = c.args in
+    let v = c.loop-k.invariant in
+    record {
+      out = turn_found (state a.ns.now a.role a.work.now) (get_or a.cues.now 0 0) (drop 1 a.cues.now) a.left v.turn c.follow.result (goes_still r c.loop-k.work v.used (get_or a.cues.now 0 0) c.loop-k.k c.follow.ensures.goes) c.follow.ensures.out c.in-Back.trip c.in-Back.is c.further-far.result c.further-far.ensures c.if-trip.true;
+      used = used_trans v.used c.follow.ensures.used;
+      asked = tried_found (state a.ns.now a.role a.work.now) a.cues.now c.requires.in_bounds.0 v.struck (goes_still r c.loop-k.work v.used (get_or a.cues.now 0 0) c.loop-k.k c.follow.ensures.goes) c.follow.result c.follow.ensures.asked c.further-far.result c.in-Back.trip.left;
+      learned = learned_trans a.ns.now a.cues.now c.follow.ensures.asked.strikes v.learned c.follow.ensures.learned;
+    }
+
+pub try_each-overflow_add-k : goal.try_each-overflow_add-k
+try_each-overflow_add-k t c = omega (arith, c.loop-k-test.true, c.ranges.many)
+
+pub try_each-loop-k-smaller : goal.try_each-loop-k-smaller
+try_each-loop-k-smaller t c = omega arith
+
+pub try_each-loop-k-preserved : goal.try_each-loop-k-preserved
+try_each-loop-k-preserved t c =
+    let r = c.requires.visit_ready in
+    let a = c.args in
+    let v = c.loop-k.invariant in
+    let g = tried_on (state a.ns.now a.role a.work.now) a.cues.now c.requires.in_bounds.0 v.struck (goes_still r c.loop-k.work v.used (get_or a.cues.now 0 0) c.loop-k.k c.follow.ensures.goes) c.follow.result c.follow.ensures.asked v.tried c.in-Back.trip c.in-Back.is c.if-trip.false in
+    record {
+      long = c.follow.auto.work ∙ v.long;
+      wide = c.follow.auto.modes ∙ v.wide;
+      deep = c.follow.auto.marks ∙ v.deep;
+      used = used_trans v.used c.follow.ensures.used;
+      learned = learned_trans a.ns.now a.cues.now c.follow.ensures.asked.strikes v.learned c.follow.ensures.learned;
+      turn = turn_on (state a.ns.now a.role a.work.now) (get_or a.cues.now 0 0) (drop 1 a.cues.now) a.left v.turn c.follow.result (goes_still r c.loop-k.work v.used (get_or a.cues.now 0 0) c.loop-k.k c.follow.ensures.goes) c.follow.ensures.out c.in-Back.trip c.in-Back.is c.further-far.result c.further-far.ensures c.if-trip.false;
+      struck = g.0;
+      tried = g.1;
+    }
+
+pub try_each-returns : goal.try_each-returns
+try_each-returns t c =
+    let a = c.args in
+    let v = c.loop-k.invariant in
+    record {
+      out = turn_over (state a.ns.now a.role a.work.now) (get_or a.cues.now 0 0) (drop 1 a.cues.now) a.left v.turn (omega (arith, c.loop-k-test.false, c.requires.many_value)) c.requires.in_bounds.1;
+      used = v.used;
+      asked = tried_over (state a.ns.now a.role a.work.now) a.cues.now c.requires.in_bounds.0 v.struck v.tried (turn_all (state a.ns.now a.role a.work.now) (get_or a.cues.now 0 0) (drop 1 a.cues.now) a.left v.turn (omega (arith, c.loop-k-test.false, c.requires.many_value)) c.requires.in_bounds.1) _;
+      learned = v.learned;
+    }
+
+pub visit-key_of-key-requires : goal.visit-key_of-key-requires
+visit-key_of-key-requires t c = c.requires.visit_ready.known.few
+
+pub visit-recall-requires : goal.visit-recall-requires
+visit-recall-requires t c = memory_fits c.requires.visit_ready (memory c.args.modes.now c.args.marks.now) c.key_of-key.ensures c.args.work.now refl c.requires.truthful
+
+pub visit-enter-out-requires : goal.visit-enter-out-requires
+visit-enter-out-requires t c = (omega (arith, c.decreases), (c.requires.visit_ready, c.requires.truthful))
+
+pub visit-keep-requires : goal.visit-keep-requires
+visit-keep-requires t c =
+    let a = c.args in
+    let m' = memory c.enter-out.new.modes c.enter-out.new.marks in record {
+      fitting = memory_fits c.requires.visit_ready m' c.key_of-key.ensures c.enter-out.new.work c.enter-out.auto.work (truthful_still a.ns.now a.cues.now c.requires.truthful c.enter-out.ensures.asked.strikes c.enter-out.ensures.learned c.enter-out.auto.modes c.enter-out.auto.marks);
+      left_within = visit_within (cue_records a.cues.now) (state a.ns.now a.role a.work.now) a.left c.enter-out.result c.enter-out.ensures.out;
+    }
+
+pub visit-returns-in-Known : goal.visit-returns-in-Known
+visit-returns-in-Known t c =
+    let a = c.args in
+    visited_known c.requires.visit_ready (memory a.modes.now a.marks.now) c.key_of-key.ensures c.requires.truthful a.left c.known.result (sym c.recall.ensures ∙ c.in-Known.is) c.known.ensures
+
+pub visit-returns-in-Unknown : goal.visit-returns-in-Unknown
+visit-returns-in-Unknown t c =
+    let a = c.args in
+    visited_kept c.requires.visit_ready (memory a.modes.now a.marks.now) c.key_of-key.ensures a.asks.now a.left c.enter-out.new.work c.enter-out.new.asks (memory c.enter-out.new.modes c.enter-out.new.marks) (memory c.keep.new.modes c.keep.new.marks) c.enter-out.result c.enter-out.ensures c.keep.ensures
+
+pub visit_each-bounds-cues-0 : goal.visit_each-bounds-cues-0
+visit_each-bounds-cues-0 t c =
+    let q = c.requires.in_bounds.0 in
+    omega arith
+
+pub visit_each-successors-many-requires : goal.visit_each-successors-many-requires
+visit_each-successors-many-requires t c =
+    let a = c.args in record {
+      spot = ready_spot c.requires.visit_ready;
+      in_bounds = (c.requires.visit_ready.some, first_inner a.role (get_or a.cues.now 0 0) (first_low c.requires.visit_ready c.requires.in_bounds.0) c.requires.cues_value);
+      d_len = refl;
+    }
+
+pub visit_each-slice_bounds-try_each-end : goal.visit_each-slice_bounds-try_each-end
+visit_each-slice_bounds-try_each-end t c = sym c.successors-many.ensures.right.long
+
+pub visit_each-try_each-requires : goal.visit_each-try_each-requires
+visit_each-try_each-requires t c =
+    let k = c.successors-many.ensures in
+    (omega (arith, c.decreases), (c.requires.visit_ready, (c.requires.truthful, (c.requires.in_bounds, (c.requires.cues_value, (k.right, k.many))))))
+
+pub visit_each-returns : goal.visit_each-returns
+visit_each-returns t c = c.try_each.ensures

@@ -1,0 +1,39 @@
+-- `search::apply` meets its contract: by the role, the step of the root or the choice of its compensation. Assumes nothing.
+use Rattle.search.proofs.OneRecord.{inner_is, step_asked, closing_asked, step_applied, closing_applied}
+use Rattle.search.proofs.apply.Goals as goal
+
+pub step_std-requires : goal.step_std-requires
+step_std-requires c =
+    let a = c.args in
+    let g = c.in-Plain.is in
+    step_asked a.ns.now a.t.now a.cue c.root_of-i.result c.root_of-i.ensures g (inner_is a.ns.now a.t.now a.cue c.root_of-i.result c.root_of-i.ensures g c.requires.in_bounds.1) c.requires.spot c.requires.right_counts c.requires.k_bound
+
+pub step_run-requires : goal.step_run-requires
+step_run-requires c =
+    let a = c.args in
+    step_asked a.ns.now a.t.now a.cue c.root_of-i.result c.root_of-i.ensures c.in-Running.is c.if-cue-lt-DONE_CUE.true c.requires.spot c.requires.right_counts c.requires.k_bound
+
+pub choose-requires : goal.choose-requires
+choose-requires c =
+    let a = c.args in
+    let whole = closing_asked a.ns.now a.t.now a.cue c.root_of-i.result c.root_of-i.ensures c.in-Running.is c.if-cue-lt-DONE_CUE.false c.requires.in_bounds.1 c.rank_of.result c.rank_of.ensures.1 c.rank_of.ensures.0 c.requires.spot c.requires.right_counts c.requires.k_bound in record {
+      spot = whole.0;
+      weighed = whole.1.0;
+      w_bound = whole.1.1;
+    }
+
+pub returns-in-Plain : goal.returns-in-Plain
+returns-in-Plain c =
+    let a = c.args in
+    let g = c.in-Plain.is in
+    step_applied a.ns.now a.t.now a.cue c.root_of-i.result c.root_of-i.ensures g (inner_is a.ns.now a.t.now a.cue c.root_of-i.result c.root_of-i.ensures g c.requires.in_bounds.1) c.step_std.ensures.stepped
+
+pub returns-then-cue-lt-DONE_CUE : goal.returns-then-cue-lt-DONE_CUE
+returns-then-cue-lt-DONE_CUE c =
+    let a = c.args in
+    step_applied a.ns.now a.t.now a.cue c.root_of-i.result c.root_of-i.ensures c.in-Running.is c.if-cue-lt-DONE_CUE.true c.step_run.ensures.stepped
+
+pub returns-else-cue-lt-DONE_CUE : goal.returns-else-cue-lt-DONE_CUE
+returns-else-cue-lt-DONE_CUE c =
+    let a = c.args in
+    closing_applied a.ns.now a.t.now a.cue c.root_of-i.result c.root_of-i.ensures c.in-Running.is c.if-cue-lt-DONE_CUE.false c.requires.in_bounds.1 c.rank_of.result c.rank_of.ensures.1 c.choose.ensures.chosen

@@ -1,0 +1,13 @@
+-- `search::rank_of` meets its contract: each arm by its number. Assumes nothing.
+use native.Mathlib.Omega.{arith}
+use borrow.Author.Tests.{ne_eqb}
+use Rattle.search.proofs.rank_of.Goals as goal
+
+pub returns-in-281470681804801 : goal.returns-in-281470681804801
+returns-in-281470681804801 c = (omega arith, rw c.in-281470681804801.is)
+
+pub returns-in-281470681804802 : goal.returns-in-281470681804802
+returns-in-281470681804802 c = (omega arith, rw c.in-281470681804802.is)
+
+pub returns-in_default : goal.returns-in_default
+returns-in_default c = (omega arith, simp (ne_eqb c.args.cue 281470681804801 (λ e. omega (arith, e)), ne_eqb c.args.cue 281470681804802 (λ e. omega (arith, e))))

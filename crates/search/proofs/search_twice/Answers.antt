@@ -1,0 +1,31 @@
+-- `search::search_twice` meets its contract: a search that was enough gives the answer, and one that was not has changed nothing but asks
+-- that it answered. Assumes nothing.
+use mathlib.Core.Path.{sym, subst}
+use native.Mathlib.Omega.{arith}
+use Rattle.search.specs.Searches.{LeftWithin}
+use Rattle.search.specs.SearchLaws.{visit_within}
+use Rattle.search.specs.Visits.{state, Began}
+use Rattle.flow.specs.Cues.{cue_records}
+use Rattle.search.proofs.Asks.{asking_still}
+use Rattle.search.proofs.Deeper.{ready_still, began_again, began_more}
+use Rattle.search.proofs.search_twice.Goals as goal
+
+pub long_search-requires : goal.long_search-requires
+long_search-requires c = (ready_still c.requires.0 c.first_search-2.new.work c.first_search-2.ensures.used c.first_search-2.auto.work, asking_still c.first_search-2.ensures.asked.strikes c.requires.1)
+
+pub with_more-requires : goal.with_more-requires
+with_more-requires c =
+    let a = c.args in
+    let w = visit_within (cue_records a.cues.now) (state a.ns.now a.role a.work.now) 32 c.first_search-2.result c.first_search-2.ensures.out in
+    (subst (LeftWithin 32) c.in-Back.is w, omega (arith, c.if-allowance-le-FEW_STATES.false))
+
+pub returns-in-Spent : goal.returns-in-Spent
+returns-in-Spent c = began_again c.requires.0 c.first_search-2.new.work c.first_search-2.ensures.used 32 c.args.allowance c.first_search-2.ensures.asked.strikes c.long_search.ensures
+
+pub returns-in-Back : goal.returns-in-Back
+returns-in-Back c =
+    let a = c.args in
+    let w = visit_within (cue_records a.cues.now) (state a.ns.now a.role a.work.now) 32 c.first_search-2.result c.first_search-2.ensures.out in
+    subst (λ o. Began a.ns.now a.cues.now a.work.now a.role a.asks.now a.allowance c.first_search-2.new.work c.first_search-2.new.asks o) (sym c.with_more.ensures)
+    (began_more a.ns.now a.cues.now a.work.now a.role a.asks.now 32 a.allowance c.first_search-2.ensures c.in-Back.is (subst (LeftWithin 32) c.in-Back.is w)
+    (omega (arith, c.if-allowance-le-FEW_STATES.false)))

@@ -1,0 +1,6 @@
+-- `seek::second_ending` meets its contract: what the endings done and withdrawn weigh is put in for the numbers handed on.
+-- Assumes nothing.
+use Rattle.seek.proofs.second_ending.Goals as goal
+
+pub returns : goal.returns
+returns c = rw (← c.fitting_weight.ensures, ← c.fitting_weight-2.ensures) c.ending_at.ensures

@@ -1,0 +1,5 @@
+-- `seek::weight_before` meets its contract: what the two calls ensure, put together. Assumes nothing.
+use Rattle.seek.proofs.weight_before.Goals as goal
+
+pub returns : goal.returns
+returns c = cc
