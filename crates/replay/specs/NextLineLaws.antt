@@ -3,9 +3,9 @@
 use Rattle.std.specs.Prelude.{ℕ, ◌≤◌, Bool, ◌↔◌, ◌≡◌, drop, replicate}
 use native.Mathlib.Omega.{arith}
 use Rattle.std.proofs.Math.Bool.{true, false, cond}
-use mathlib.Core.List.{List, [], ◌++◌}
+use mathlib.Core.List.{List, []}
 use Rattle.std.proofs.Math.Path.{refl, ap, ap₂}
-use Rattle.std.proofs.Common.{sym, ◌∙◌, subst, subst₂, length-append}
+use Rattle.std.proofs.Common.{◌∙◌, subst₂, length-append}
 use Rattle.std.proofs.Math.ListN.{length}
 use Rattle.std.proofs.lemmas.List.{length-replicate}
 use Rattle.calculus.specs.Records.{State}
@@ -19,7 +19,7 @@ use Rattle.format.specs.Told.{at_front}
 use Rattle.judge.specs.Judged.{unless_refused, cleared, room_wanted, bytes_by}
 use Rattle.line.specs.Line.{Put}
 use Rattle.ahead.specs.declared.answer.Next.{Next}
-use Rattle.ahead.specs.declared.answer.Next.TheVariants.{Listed, Undecided, Refused}
+use Rattle.ahead.specs.declared.answer.Next.TheVariants.{Listed, Undecided}
 use Rattle.ahead.specs.Told.{following, numbers_wanted}
 use Rattle.ahead.specs.Outcome.{allowed, next_by, list_by, NextBy}
 use Rattle.ahead.proofs.PickedLaws.{following_few}

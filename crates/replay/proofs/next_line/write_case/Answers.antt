@@ -1,0 +1,14 @@
+-- `replay::next_line::write_case` meets its contract: what the answer tells, and the word for what was lent behind it. Assumes nothing.
+use native.Mathlib.Omega.{arith}
+use Rattle.line.specs.LineLaws.{put_then}
+use Rattle.replay.specs.NextLine.{next_line}
+use Rattle.replay.specs.TextLaws.{noted_length}
+use Rattle.replay.proofs.next_line.write_case.Goals as goal
+
+pub returns : goal.returns
+unfolding next_line
+returns c =
+    let n = c.put_note.ensures in record {
+      put = put_then c.put_next-end.ensures.put (omega arith) n;
+      upper_bound = omega (arith, n.end, noted_length c.args.clean);
+    }
