@@ -1,7 +1,6 @@
 -- What the helpers of `next` and `next_named` promise: 14, the numbers whose asks are answered, and what comes of a search by cues with the
 -- asks of all numbers. Definitions only. Assumes nothing.
 use Rattle.std.specs.Prelude.{ℕ, ◌≤◌, cond, ◌≡◌, List, [], ◌∷◌, map, eqb, leb, length, take}
-use Rattle.calculus.specs.Records.{State}
 use Rattle.calculus.specs.Ahead.{Begins, entered}
 use Rattle.flow.specs.declared.Check.{Check}
 use Rattle.flow.specs.Records.{all_numbers}

@@ -5,5 +5,3 @@ pub mod Outcome
 pub mod Answering
 -- Theorems.
 pub mod CheckLaws
-pub mod PickedLaws
-pub mod ByAsks

@@ -39,7 +39,7 @@ use Rattle.ahead.specs.declared.answer.Found.{Found}
 use Rattle.ahead.specs.declared.answer.Next.{Next}
 use Rattle.ahead.specs.declared.answer.Next.TheVariants.{Listed, Undecided, Refused}
 use Rattle.ahead.specs.Told.{those, following, numbers_wanted}
-use Rattle.ahead.specs.PickedLaws.{following_few}
+use Rattle.ahead.proofs.PickedLaws.{following_few}
 use Rattle.ahead.specs.CheckLaws.{named_next_lists}
 use Rattle.ahead.specs.Outcome.{named_next_check, allowed, next_by, list_by, NextBy}
 use Rattle.judge.specs.declared.Answer.TheVariants as answer

@@ -29,7 +29,7 @@ use Rattle.judge.specs.JudgedLaws.{refused_bytes, fine_bytes}
 use Rattle.ahead.specs.declared.answer.Next.{Next}
 use Rattle.ahead.specs.declared.answer.Next.TheVariants.{Listed, Undecided, Refused}
 use Rattle.ahead.specs.Told.{NextWord, NextTold, found, refusal, told, numbers_wanted, those, following}
-use Rattle.ahead.specs.PickedLaws.{following_few}
+use Rattle.ahead.proofs.PickedLaws.{following_few}
 use Rattle.ahead.specs.Outcome.{allowed, next_by, list_by, NextBy}
 use Rattle.promises.specs.FollowingStated.{EventOrClosing, is_event, is_done, is_withdrawn, is_failed, Rising, none, below, Listing, Lists}
 

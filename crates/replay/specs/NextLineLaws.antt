@@ -22,7 +22,7 @@ use Rattle.ahead.specs.declared.answer.Next.{Next}
 use Rattle.ahead.specs.declared.answer.Next.TheVariants.{Listed, Undecided, Refused}
 use Rattle.ahead.specs.Told.{following, numbers_wanted}
 use Rattle.ahead.specs.Outcome.{allowed, next_by, list_by, NextBy}
-use Rattle.ahead.specs.PickedLaws.{following_few}
+use Rattle.ahead.proofs.PickedLaws.{following_few}
 use Rattle.replay.specs.Filler.{filler, number_filler, kept, Kept}
 use Rattle.replay.specs.Promised.{promised, is_clean}
 use Rattle.replay.specs.NextLine.{length_listed, next_zeros, next_clean, next_line, Tellable, NextCase}

@@ -4,8 +4,8 @@
 -- Assumes nothing.
 use Prim.Native.Nat.{ℕ, zero, suc, ◌-◌, ◌<◌, ◌≤◌}
 use Rattle.std.proofs.Math.Path.{◌≡◌, refl, sym, ap, subst}
-use Rattle.std.proofs.Common.{ap₂, ◌∙◌, inl, inr, arith, le-leb, leb-true, leb-false, ne_eqb}
-use Rattle.std.specs.Prelude.{Bool, ◌||◌, ◌⊎◌, T, replicate}
+use Rattle.std.proofs.Common.{◌∙◌, inl, inr, arith, le-leb, leb-true, ne_eqb}
+use Rattle.std.specs.Prelude.{Bool, ◌⊎◌, replicate}
 use Rattle.std.proofs.Math.Bool.{true, false, cond}
 use mathlib.Core.List.{List, [], ◌∷◌, ◌++◌, map, map-append}
 use Rattle.std.proofs.Math.Decide.{dec_le}
@@ -15,7 +15,7 @@ use Rattle.std.proofs.lemmas.List.{length-map}
 use Rattle.std.proofs.lemmas.Bool.{lt-leb}
 use Rattle.calculus.specs.Records.{Record, State}
 use Rattle.calculus.specs.Search.{visit}
-use Rattle.calculus.specs.Spending.{Out as Found, spent, back, visit_b, left_of}
+use Rattle.calculus.specs.Spending.{Out as Found, spent, back, left_of}
 use Rattle.calculus.proofs.Budget.{visit_left}
 use Rattle.calculus.specs.Ahead.{Begins, passes, may_follow, entered}
 use Rattle.calculus.proofs.AheadLaws.{begins_found, begins_entered}
@@ -30,8 +30,7 @@ use Rattle.flow.specs.Drawn.{flow_by}
 use Rattle.flow.specs.Legends.{Legend, in_set, plain}
 use Rattle.flow.specs.Cues.{cued, cue_of, masked, cue_record, cue_records, itself, failed_cue}
 use Rattle.flow.specs.CuedFlows.{cued_passes, cued_entered, cued_begins}
-use Rattle.flow.specs.RecordsFit.{fine_records, records_begin}
-use Rattle.format.specs.Format.{Entry}
+use Rattle.flow.specs.RecordsFit.{records_begin}
 use Rattle.format.specs.Told.{at_front}
 use Rattle.format.specs.Matching.{with_names}
 use Rattle.format.specs.ListChecks.{entries_in}
@@ -40,8 +39,8 @@ use Rattle.search.specs.declared.Out.{Out}
 use Rattle.search.specs.declared.Out.TheVariants.{Spent, Back}
 use Rattle.search.specs.declared.Trip.{Trip}
 use Rattle.search.specs.Room.{room_of, cleared}
-use Rattle.search.specs.Visits.{out_of, Asking, follows_mark}
-use Rattle.search.specs.Searches.{LeftWithin, Searched, answered, went_through, asks_after, Asked}
+use Rattle.search.specs.Visits.{out_of, follows_mark}
+use Rattle.search.specs.Searches.{LeftWithin, answered, went_through, asks_after, Asked}
 use Rattle.search.specs.SearchLaws.{visit_within}
 use Rattle.matching.specs.Asks.{ask, asks}
 use Rattle.matching.proofs.AskLaws.{ask_cue, asks_length, asks_at, asks_low, asks_apart, unasked_at}
@@ -56,7 +55,7 @@ use Rattle.ahead.specs.declared.answer.Next.TheVariants.{Listed, Undecided, Refu
 use Rattle.ahead.specs.Told.{numbers_wanted, following}
 use Rattle.ahead.specs.Outcome.{next_check, named_next_check, allowed, next_by, list_by, NextBy, NextOf, NamedNextOf}
 use Rattle.ahead.specs.Answering.{picked, NextReady, cost, found, NextAnswered}
-use Rattle.ahead.specs.PickedLaws.{picked_those}
+use Rattle.ahead.proofs.PickedLaws.{picked_those}
 use Rattle.ahead.specs.CheckLaws.{next_passed, named_next_lists, named_next_passed}
 
 ---- What the search brings back of a beginning ----

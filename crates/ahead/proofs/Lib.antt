@@ -1,0 +1,3 @@
+-- Theorems that other crates cite.
+pub mod PickedLaws
+pub mod ByAsks

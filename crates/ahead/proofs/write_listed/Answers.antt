@@ -1,0 +1,56 @@
+-- `ahead::write_listed` meets its contract: the loop's invariant: the numbers among the first j whose asks are answered stand in front, and
+-- are n. Assumes nothing.
+use native.Mathlib.Omega.{arith}
+use Rattle.ahead.proofs.PickedLaws.{listed_none, listed_yes, listed_no, listed_many, listed_all}
+use Rattle.ahead.proofs.write_listed.Goals as goal
+use Rattle.ahead.proofs.write_listed.Goals.{then-asks-j-eq-FOLLOWS, else-asks-j-eq-FOLLOWS}
+
+pub loop-j-init : goal.loop-j-init
+loop-j-init c = listed_none _ _
+
+pub offset_bounds-asks-j : goal.offset_bounds-asks-j
+offset_bounds-asks-j c = omega arith
+
+pub bounds-asks-j : goal.bounds-asks-j
+bounds-asks-j c = omega arith
+
+pub nth_number-requires : goal.nth_number-requires
+nth_number-requires c = omega arith
+
+pub offset_bounds-list-n : goal.offset_bounds-list-n
+offset_bounds-list-n c = omega arith
+
+pub bounds-list-n : goal.bounds-list-n
+bounds-list-n c = omega (arith, c.loop-j.invariant.size)
+
+pub overflow_add-n : goal.overflow_add-n
+overflow_add-n c = omega arith
+
+pub overflow_add-j : goal.overflow_add-j
+overflow_add-j c = omega arith
+
+pub loop-j-smaller : goal.loop-j-smaller
+loop-j-smaller c = omega arith
+
+pub loop-j-preserved : goal.loop-j-preserved
+loop-j-preserved c =
+    let qs = c.args.asks.now in
+    let list = c.args.list.now in
+    elim c.if-asks-j-eq-FOLLOWS.branch [
+      | then-asks-j-eq-FOLLOWS w ↦ rw (w.list-is, w.n-is) (listed_yes qs list c.requires.0 c.loop-j.invariant c.requires.1 (omega arith) w.if-asks-j-eq-FOLLOWS.true w.nth_number.ensures)
+      | else-asks-j-eq-FOLLOWS w ↦ rw (w.list-is, w.n-is) (listed_no qs list c.requires.0 c.loop-j.invariant (omega arith) w.if-asks-j-eq-FOLLOWS.false)
+    ]
+
+pub overflow_cast-result : goal.overflow_cast-result
+overflow_cast-result c = omega arith
+
+pub shape_of-list : goal.shape_of-list
+shape_of-list c = c.loop-j.invariant.size
+
+pub returns : goal.returns
+returns c =
+    let a = c.args in
+    let all = c.requires.0 in record {
+      value = listed_many a.asks.now a.list.now all c.loop-j.invariant (omega arith);
+      written = listed_all a.asks.now a.list.now all c.loop-j.invariant (omega arith);
+    }
