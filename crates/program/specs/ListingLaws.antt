@@ -15,7 +15,7 @@ use Rattle.format.specs.Items.{name_at, name_end, entry_at, entry_end, entries_a
 use Rattle.format.specs.ListChecks.{entries_in, Whole}
 use Rattle.format.specs.There.{NameThere, Scanned}
 use Rattle.format.specs.ItemLaws.{le_or_lt, got_value, got_not_bad, name_length, name_there, entry_runs}
-use Rattle.format.specs.SectionLaws.{entries_at_more, entries_at_length, new_entry_there, names_bad, scan_start, scan_stop, scan_more, scan_end}
+use Rattle.format.specs.SectionLaws.{entries_at_more, new_entry_there, names_bad, scan_start, scan_stop, scan_more, scan_end}
 use Rattle.format.specs.ListLaws.{alone_run}
 use Rattle.format.specs.EntryLaws.{whole_there}
 use Rattle.matching.proofs.CueLaws.{nth_entry, nth_entry_ends}

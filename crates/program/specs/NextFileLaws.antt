@@ -1,14 +1,14 @@
 -- What may follow can be shown by the names that are lent (`listed_showable`). Then what is known where a list is answered (`listed_so`), the
 -- text by the answer (`listed_printed`, `undecided_printed`, `refused_printed`), and that of a file by what the reader answered
 -- (`refused_file`, `held_file`). Assumes nothing.
-use Prim.Native.Nat.{ℕ, zero, suc, ◌+◌, ◌-◌, ◌*◌, ◌≤◌, ◌<◌}
+use Prim.Native.Nat.{ℕ, zero, suc, ◌-◌, ◌≤◌, ◌<◌}
 use Rattle.std.proofs.Common.{arith, inl, inr, ◌∙◌, subst, ne_eqb, ltb-true, length-append, take_at, take-take, length-take-le}
 use Rattle.std.proofs.Math.Bool.{Bool, true, false, cond}
-use Rattle.std.specs.Prelude.{◌&&◌, ◌||◌, ◌⊎◌, ◌≡◌, eqb, ltb, leb, get_or, drop}
+use Rattle.std.specs.Prelude.{◌⊎◌, ◌≡◌, eqb, ltb, get_or, drop}
 use Rattle.std.proofs.lemmas.Bool.{false≢true}
-use mathlib.Core.List.{List, [], ◌∷◌, ◌++◌}
+use mathlib.Core.List.{List, [], ◌∷◌}
 use Rattle.std.proofs.Math.Path.{refl, sym, ap, ap₂}
-use Rattle.std.proofs.Math.ListN.{length, take, get_or-eq_default}
+use Rattle.std.proofs.Math.ListN.{length, take}
 use Rattle.calculus.specs.Records.{State, event}
 use Rattle.calculus.specs.Ahead.{may_follow, entered}
 use Rattle.calculus.specs.Leaves.{AnySet}
@@ -20,15 +20,11 @@ use Rattle.flow.specs.declared.Check.TheVariants.{Fine}
 use Rattle.flow.specs.declared.Check.TheVariants as check
 use Rattle.flow.specs.declared.Extent.TheVariants.{Beginning}
 use Rattle.flow.specs.Records.{done_number, withdrawn_number, failed_number, most_events, record_of, records, all_numbers}
-use Rattle.flow.specs.Checks.{first, grounds, or_else_check}
-use Rattle.flow.specs.FirstRefusal.{both_fine}
 use Rattle.flow.specs.FineTable.{fine_table}
-use Rattle.flow.specs.Drawn.{flow_by}
 use Rattle.flow.specs.DrawnLeaves.{flow_each}
-use Rattle.format.specs.Format.{Entry}
 use Rattle.format.specs.Matching.{matches, with_names}
 use Rattle.format.specs.Told.{at_front}
-use Rattle.format.specs.ListChecks.{entries_in, Whole, lists_check}
+use Rattle.format.specs.ListChecks.{entries_in, Whole}
 use Rattle.format.specs.ItemLaws.{le_or_lt}
 use Rattle.format.specs.ContentLaws.{leaf_named}
 use Rattle.format.specs.ListLaws.{ListsPassed}
@@ -53,7 +49,6 @@ use Rattle.program.specs.FileParts.{names_of, sets_of}
 use Rattle.program.specs.Listing.{all_but_last, so_many, beginning, list_text, answer_text}
 use Rattle.program.specs.NextFile.{tables_text, text_by, file_text, Showable, ListShowable}
 use Rattle.program.specs.ProgramLaws.{Held, sets_all}
-use Rattle.program.specs.ListingLaws.{entry_here}
 
 -- the record of an event's number
 event_number : (r : ℕ) → r ≤ most_events → record_of r ≡ event r

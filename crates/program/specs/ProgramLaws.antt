@@ -13,7 +13,7 @@ use Rattle.judge.specs.Judged.{judged_named}
 use Rattle.reader.specs.declared.Counts.{Counts}
 use Rattle.reader.specs.declared.Reading.{Reading}
 use Rattle.reader.specs.declared.Reading.TheVariants as read
-use Rattle.reader.specs.Reading.{Outcome, counts_of, reading, ReadAs}
+use Rattle.reader.specs.Reading.{Outcome, reading, ReadAs}
 use Rattle.reader.specs.ReaderLaws.{read_file}
 use Rattle.program.specs.Program.{states_allowed, work_lent}
 use Rattle.program.specs.FileParts.{scanned, names_of, sets_of}

@@ -90,6 +90,7 @@ module _ {r : Refusal} where
           past_sweep passed (rec x.1)
 
   earliest_first : (order : List Round) → Earliest r order → First r (grounds order)
+  earliest_first [] x = elim x [ ]
   earliest_first (lone g ∷ order) (is_lone e t) = here e t
   earliest_first (lone g ∷ order) (past_lone t x) = later t (earliest_first order x)
   earliest_first (sweep n f ∷ order) (in_sweep i h before x) =

@@ -27,7 +27,7 @@ use Rattle.format.specs.Told.{at_front}
 use Rattle.judge.specs.Judged.{unless_refused, room_wanted, cleared}
 use Rattle.judge.specs.JudgedLaws.{refused_bytes, fine_bytes}
 use Rattle.ahead.specs.declared.answer.Next.{Next}
-use Rattle.ahead.specs.declared.answer.Next.TheVariants.{Listed, Undecided, Refused}
+use Rattle.ahead.specs.declared.answer.Next.TheVariants.{Listed, Undecided}
 use Rattle.ahead.specs.Told.{NextWord, NextTold, found, refusal, told, numbers_wanted, those, following}
 use Rattle.ahead.proofs.PickedLaws.{following_few}
 use Rattle.ahead.specs.Outcome.{allowed, next_by, list_by, NextBy}
@@ -90,6 +90,7 @@ of_closings : {r : ℕ} → Memᴰ r closings → EventOrClosing r
 of_closings (Memᴰ.head e) = is_done e
 of_closings (Memᴰ.tail (Memᴰ.head e)) = is_withdrawn e
 of_closings (Memᴰ.tail (Memᴰ.tail (Memᴰ.head e))) = is_failed e
+of_closings (Memᴰ.tail (Memᴰ.tail (Memᴰ.tail m))) = elim m [ ]
 
 -- the events and the closings
 pub all_exactly : (r : ℕ) → Memᴰ r all_numbers ↔ EventOrClosing r

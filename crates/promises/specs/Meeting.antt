@@ -3,7 +3,7 @@
 -- (`kinds_free`), and so is all that is judged without sets (`unset_printed`). Which events a set holds (`set_bits`), and that it is asked
 -- for the record's event (`record_looked_up`). And exactly when 22 and 23 are given (`set_absent_exactly`,
 -- `sets_wrong_exactly`). What is said of an answer of `judge` is said of `judge_named` too, with `named-` before the name. Assumes nothing.
-use Rattle.std.specs.Prelude.{ℕ, ◌*◌, ◌-◌, ◌<◌, ◌≡◌, Bool, false, not, ◌&&◌, cond, List, [], ◌∷◌, ◌++◌, ◌⊎◌, ◌↔◌, ◌≢◌, length, replicate}
+use Rattle.std.specs.Prelude.{ℕ, ◌-◌, ◌<◌, ◌≡◌, Bool, false, not, ◌&&◌, cond, List, [], ◌∷◌, ◌++◌, ◌⊎◌, ◌↔◌, ◌≢◌, length, replicate}
 use Rattle.std.proofs.Math.Path.{refl, ap, subst}
 use Rattle.std.proofs.Common.{sym, inl, inr, ⊎_elim, arith, le-leb}
 use Rattle.std.proofs.Math.Bool.{true, xor}
@@ -31,7 +31,7 @@ use Rattle.flow.specs.Kinds.{two, node_of, form, node, most_sets, joint_kind, op
 use Rattle.flow.specs.Legends.{Legend, in_set, set_count}
 use Rattle.flow.specs.Refusals.{Ground, ground_of, Round, lone, sweep, count, no_nodes, not_whole, too_many_nodes, unknown_kind, no_such_set, wrong_field, not_lower, is_child, taken, wrong_sort, child_taken, nobodys_child, wrong_sets, no_records, too_many_records, no_record, closings_wanted, closed, wrong_closings, closings_place, after_closings, node_grounds, child_grounds, value_grounds, table_length_order, sets_order, values_order, closing_order, records_length_order, records_order}
 use Rattle.flow.specs.Checks.{refused, first, grounds, answer, or_else_check, each}
-use Rattle.flow.specs.Earliest.{First, here, later, None, Earliest, is_lone, past_lone, in_sweep, past_sweep, Nowhere, end, not_lone, not_sweep}
+use Rattle.flow.specs.Earliest.{First, here, later, Earliest, is_lone, past_lone, in_sweep, past_sweep, Nowhere, end, not_lone, not_sweep}
 use Rattle.flow.specs.Draws.{Draws, at_event, at_basic, at_standard, at_handler, at_block, at_pair, at_compensable, at_paired}
 use Rattle.flow.specs.Drawn.{made, drawn, flow_by, flow_of}
 use Rattle.flow.specs.FineTable.{FineTable, node_within}

@@ -1,6 +1,6 @@
 -- Names as they are shown (`line`, Shown): every byte that is shown is text (`shown_text`), so that a TAB or a line feed in a name breaks no line
 -- of a list; and no two names look alike (`shown_apart`). Theorems only. Assumes nothing.
-use Rattle.std.specs.Prelude.{ℕ, zero, suc, ◌+◌, ◌/◌, ◌%◌, ◌≤◌, ◌<◌, Bool, ◌&&◌, not, cond, ◌≡◌, eqb, leb, ltb, length, drop}
+use Rattle.std.specs.Prelude.{ℕ, suc, ◌+◌, ◌/◌, ◌%◌, ◌≤◌, ◌<◌, Bool, ◌&&◌, not, cond, ◌≡◌, eqb, leb, ltb, length, drop}
 use Rattle.std.proofs.Common.{arith, sym, ap₂, ◌∙◌, leb-true, ltb-true, ltb-false, length-append}
 use Rattle.std.proofs.Math.Bool.{true, false}
 use Rattle.std.proofs.lemmas.Bool.{false≢true}

@@ -3,9 +3,8 @@
 -- the file's names, sets, nodes and first records (`next_file_read`). Theorems only. Assumes nothing.
 use Rattle.std.specs.Prelude.{ℕ, ◌≡◌}
 use mathlib.Core.List.{List}
-use Rattle.std.proofs.Common.{sym, ◌∙◌}
+use Rattle.std.proofs.Common.{◌∙◌}
 use Rattle.std.proofs.Math.Path.{ap, ap₂}
-use Rattle.calculus.specs.Records.{State}
 use Rattle.flow.specs.Drawn.{flow_by}
 use Rattle.format.specs.Format.{Entry, names_section, File}
 use Rattle.format.specs.Limits.{Bytes}
@@ -22,7 +21,7 @@ use Rattle.program.specs.Program.{line_for}
 use Rattle.program.specs.Listing.{beginning, answer_text}
 use Rattle.program.specs.NextFile.{next_answer, tables_text, text_by, file_text}
 use Rattle.promises.specs.RoundTrip.{names_handed, sets_handed}
-use Rattle.promises.specs.NamedDemands.{alone_is, named_flow_is}
+use Rattle.promises.specs.NamedDemands.{alone_is}
 use Rattle.promises.specs.Reader.{Readable, readable_read, report_refused}
 use Rattle.promises.specs.ReaderRefusals.{refused_when}
 

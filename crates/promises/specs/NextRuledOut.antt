@@ -1,7 +1,7 @@
 -- Wrong answers that the contract of `next_file` rules out: files and numbers of records on which a wrong one writes something else. All from
 -- the definitions by computation; the room holds 64 bytes of 7. Theorems only. Assumes nothing.
-use Rattle.std.specs.Prelude.{ℕ, List, [], ◌∷◌, ◌++◌, map, ◌≡◌, refl, length, drop, replicate}
-use Rattle.std.proofs.Common.{arith, ap, ◌∙◌}
+use Rattle.std.specs.Prelude.{ℕ, List, [], ◌∷◌, map, ◌≡◌, refl}
+use Rattle.std.proofs.Common.{ap, ◌∙◌}
 use Rattle.std.proofs.Math.Bool.{xor}
 use Rattle.calculus.specs.Ahead.{passes, entered}
 use Rattle.flow.specs.Trees.{descend}
@@ -21,12 +21,12 @@ use Rattle.reader.specs.Reading.{Outcome, read_outcome, counts_of, reading}
 use Rattle.judge.specs.Judged.{told, room_of, too_short, unless_refused}
 use Rattle.ahead.specs.Told.{no_room, following}
 use Rattle.ahead.specs.Outcome.{named_next_check, next_by}
-use Rattle.line.specs.Line.{places, size, decimal, spaced, spelled, text_of, line_of, Put}
+use Rattle.line.specs.Line.{places, size, decimal, spaced, spelled, text_of, line_of}
 use Rattle.line.specs.Shown.{hex_byte, is_text, shown_byte, texts}
 use Rattle.program.specs.Program.{line_for}
 use Rattle.program.specs.FileParts.{scanned, names_of, sets_of}
 use Rattle.program.specs.Listing.{all_but_last, so_many, beginning, closing_word, entry_text, meaning, number_line, count_line, list_text, answer_text}
-use Rattle.program.specs.NextFile.{tables_text, text_by, file_text, NextPrinted}
+use Rattle.program.specs.NextFile.{tables_text, text_by, file_text}
 use Rattle.promises.specs.Worked.{worked, worked_read, meeting, meeting_read}
 
 -- how many records are asked for, and what is printed then of a file

@@ -143,6 +143,7 @@ moves_alike (of_std h) (by_step m) = let s = step_alike m h in (std s.0, by_step
 moves_alike (of_std h) (by_end e) = (over, by_end (end_alike e h), of_over)
 moves_alike (of_cmp h) (by_cstep m) = let s = cstep_alike m h in (cmp s.0, by_cstep s.1, of_cmp s.2)
 moves_alike (of_cmp h) (by_cend e) = let c = cend_alike e h in (std c.0, by_cend c.1, of_std c.2)
+moves_alike of_over m = elim m [ ]
 
 alike_follows : {s t : State} {batch : List Record} {n : ℕ} → LikeState s t → Follows s batch n → Follows t batch n
 alike_follows h stays = stays

@@ -25,8 +25,8 @@ use Rattle.flow.specs.Records.{is_event_number}
 use Rattle.flow.specs.Kinds.{form, node_of, one_of, two_of, kind_in, most_sets, set_number, set_of}
 use Rattle.flow.specs.Legends.{in_set, set_count}
 use Rattle.flow.specs.EachKind.{each_kind, unknown}
-use Rattle.flow.specs.Refusals.{count, unknown_kind, no_such_set, wrong_field, not_lower, wrong_sort, child_taken, wrong_sets, Ground, ground_of, Round, lone, sweep, node_grounds, child_grounds, sets_order, table_length_order, table_order, nodes_order, values_order, closing_order, records_length_order, records_order}
-use Rattle.flow.specs.Checks.{refused, or_else_check, answer, first, each, grounds, table_check, nodes_check}
+use Rattle.flow.specs.Refusals.{count, unknown_kind, no_such_set, wrong_sets, Ground, ground_of, Round, lone, node_grounds, child_grounds, sets_order, table_length_order, table_order, nodes_order, values_order, closing_order, records_length_order, records_order}
+use Rattle.flow.specs.Checks.{or_else_check, answer, first, each, grounds, table_check, nodes_check}
 use Rattle.flow.specs.FirstRefusal.{None, more, fine_exactly, none_append, none_each, first_passed, first_append, orders_append}
 use Rattle.flow.specs.FineTable.{FineTable}
 use Rattle.flow.specs.Drawn.{flow_by, flow_of}

@@ -1,8 +1,8 @@
 -- Wrong writers that the contract of `write` rules out: lists on which a wrong one answers or writes something else. All from the
 -- definitions by computation; the lists are those of the worked files, whose names sections have 19 bytes. Theorems only. Assumes nothing.
-use Rattle.std.specs.Prelude.{ℕ, List, [], ◌∷◌, ◌++◌, map, ◌≡◌, refl, length, take, drop, replicate}
+use Rattle.std.specs.Prelude.{ℕ, List, [], ◌∷◌, ◌++◌, map, ◌≡◌, refl, take, drop, replicate}
 use Rattle.std.proofs.Math.Bool.{xor}
-use Rattle.std.proofs.Common.{ap, ◌∙◌}
+use Rattle.std.proofs.Common.{◌∙◌}
 use Rattle.flow.specs.Kinds.{joint_kind}
 use Rattle.flow.specs.Records.{is_event_number, is_closing_number}
 use Rattle.flow.specs.Refusals.{no_nodes, not_whole, too_many_nodes, unknown_kind, no_such_set, wrong_field, not_lower, is_child, taken, wrong_sort, child_taken, nobodys_child, wrong_sets, no_records, too_many_records, no_record, closings_wanted, closed, wrong_closings, closings_place, after_closings, node_grounds, child_grounds, value_grounds}

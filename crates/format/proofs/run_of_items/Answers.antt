@@ -2,14 +2,10 @@
 -- Assumes nothing.
 use Prim.Native.Nat.{ℕ, ◌*◌}
 use mathlib.Core.Path.{◌≡◌, ap, ◌∙◌}
-use native.Mathlib.Nat.{mul-zero}
 use native.Mathlib.Omega.{arith}
 use Rattle.format.specs.ItemLaws.{item_bad}
 use Rattle.format.specs.RunLaws.{item_before, item_more, items_stop, items_item}
 use Rattle.format.proofs.run_of_items.Goals as goal
-
-pub loop-i-init : goal.loop-i-init
-loop-i-init c = omega (arith, mul-zero c.args.size)
 
 pub overflow_mul-at : goal.overflow_mul-at
 overflow_mul-at c = omega (arith, item_before c.args.size c.loop-i-test.true)
@@ -24,9 +20,6 @@ pub returns-then-file-at : goal.returns-then-file-at
 returns-then-file-at c =
     let l = c.loop-i in
     item_bad _ _ c.refusal.ensures (items_stop _ _ l.i _ _ c.loop-i-test.true l.invariant.1 c.if-file-at.true)
-
-pub loop-i-smaller : goal.loop-i-smaller
-loop-i-smaller c = omega arith
 
 pub loop-i-preserved : goal.loop-i-preserved
 loop-i-preserved c = omega (arith, item_more c.args.size c.loop-i.i)

@@ -1,6 +1,6 @@
 -- `format::same_bytes` meets its contract: the loop's invariant: the two names are the same_bytes exactly if what is left of them is.
 -- Assumes nothing.
-use mathlib.Core.Path.{refl, sym, ◌∙◌}
+use mathlib.Core.Path.{sym, ◌∙◌}
 use native.Mathlib.Omega.{arith}
 use Rattle.format.specs.NameLaws.{same_length, same_here, same_not, same_end}
 use Rattle.format.proofs.same_bytes.Goals as goal
@@ -8,26 +8,11 @@ use Rattle.format.proofs.same_bytes.Goals as goal
 pub returns-then-a-b : goal.returns-then-a-b
 returns-then-a-b c = sym (same_length _ _ c.if-a-b.true)
 
-pub loop-i-init : goal.loop-i-init
-loop-i-init c = (omega arith, omega arith, refl)
-
-pub bounds-a-i : goal.bounds-a-i
-bounds-a-i c = omega arith
-
-pub bounds-b-i : goal.bounds-b-i
-bounds-b-i c = omega arith
-
 pub returns-then-a-i : goal.returns-then-a-i
 returns-then-a-i c =
     let a = c.args.a.now in
     let b = c.args.b.now in
     sym (c.loop-i.invariant.2 ∙ same_not a b c.loop-i.i (omega arith) (omega arith) c.if-a-i.true)
-
-pub overflow_add-i : goal.overflow_add-i
-overflow_add-i c = omega arith
-
-pub loop-i-smaller : goal.loop-i-smaller
-loop-i-smaller c = omega arith
 
 pub loop-i-preserved : goal.loop-i-preserved
 loop-i-preserved c =

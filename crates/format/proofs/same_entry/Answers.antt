@@ -6,9 +6,6 @@ use Rattle.format.specs.Items.{name_at}
 use Rattle.format.specs.Sections.{same_bytes, same_entry}
 use Rattle.format.proofs.same_entry.Goals as goal
 
-pub same_name-requires : goal.same_name-requires
-same_name-requires c = (rw c.end_of_name.ensures c.requires.0, rw c.end_of_name-then-same_step.ensures c.requires.1)
-
 pub returns-then-same_step : goal.returns-then-same_step
 unfolding same_entry
 returns-then-same_step c =

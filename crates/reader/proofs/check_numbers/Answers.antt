@@ -2,31 +2,12 @@
 -- Assumes nothing.
 use Prim.Native.Nat.{ℕ, ◌*◌}
 use mathlib.Core.List.{List}
-use mathlib.Core.Path.{ap₂, sym, ◌∙◌}
-use native.Mathlib.Omega.{arith}
+use mathlib.Core.Path.{ap₂, ◌∙◌}
 use Rattle.flow.specs.declared.Extent.TheVariants.{Whole}
 use Rattle.flow.specs.Checks.{first}
 use Rattle.format.specs.ContentChecks.{grounds_of}
-use Rattle.format.specs.SectionLaws.{front_is, front_length}
+use Rattle.format.specs.SectionLaws.{front_is}
 use Rattle.reader.proofs.check_numbers.Goals as goal
-
-pub slice_bounds-check_contents-end : goal.slice_bounds-check_contents-end
-slice_bounds-check_contents-end c =
-    let a = c.args in
-    sym (front_length a.file.now (3 * a.o.counts.nodes) a.o.nodes _ c.fill.ensures)
-
-pub slice_bounds-check_contents-end-2 : goal.slice_bounds-check_contents-end-2
-slice_bounds-check_contents-end-2 c =
-    let a = c.args in
-    sym (front_length a.file.now a.o.counts.records a.o.records _ c.fill-2.ensures)
-
-pub check_contents-requires : goal.check_contents-requires
-check_contents-requires c =
-    let a = c.args in
-    let nodes = front_length a.file.now (3 * a.o.counts.nodes) a.o.nodes _ c.fill.ensures in
-    let records = front_length a.file.now a.o.counts.records a.o.records _ c.fill-2.ensures in
-    let p = c.requires in
-    (omega arith, omega arith, omega arith)
 
 pub returns : goal.returns
 returns c =

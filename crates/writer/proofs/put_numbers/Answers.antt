@@ -4,8 +4,8 @@ use Prim.Native.Nat.{ℕ, ◌+◌, ◌*◌, ◌<◌, ◌≤◌}
 use mathlib.Core.List.{List}
 use mathlib.Core.Path.{◌≡◌, refl, ap, ◌∙◌}
 use native.Mathlib.Omega.{arith}
-use lib.ListN.{length, get_or, take, length-take, length-drop}
-use lib.Seq.{length-take-le, take_all}
+use lib.ListN.{length, get_or, take}
+use lib.Seq.{length-take-le}
 use Rattle.format.specs.Format.{number_bytes, numbers_bytes}
 use Rattle.format.specs.Told.{at_front}
 use Rattle.format.specs.Lengths.{numbers_bytes_length}
@@ -20,27 +20,6 @@ pub loop-i-init : goal.loop-i-init
 unfolding numbers_bytes
 loop-i-init c = (omega arith, refl, refl)
 
-pub overflow_mul-at : goal.overflow_mul-at
-overflow_mul-at c = omega arith
-
-pub offset_bounds-numbers-i : goal.offset_bounds-numbers-i
-offset_bounds-numbers-i c = omega arith
-
-pub bounds-numbers-i : goal.bounds-numbers-i
-bounds-numbers-i c = omega arith
-
-pub slice_bounds-put_number-count : goal.slice_bounds-put_number-count
-slice_bounds-put_number-count c = omega arith
-
-pub put_number-requires : goal.put_number-requires
-put_number-requires c = simp (length-take, length-drop) (omega arith)
-
-pub overflow_add-i : goal.overflow_add-i
-overflow_add-i c = omega arith
-
-pub loop-i-smaller : goal.loop-i-smaller
-loop-i-smaller c = omega arith
-
 pub loop-i-preserved : goal.loop-i-preserved
 loop-i-preserved c =
     let l = c.loop-i in
@@ -50,8 +29,3 @@ loop-i-preserved c =
     let put = front_then (numbers_bytes (take l.i ns)) (number_bytes (get_or ns l.i 0)) t l.invariant.2 (front-size ns l.i l.invariant.0) refl c.put_number.ensures in
     let next = put ∙ ap (λ (bs : List ℕ). at_front bs t) (numbers_bytes_next ns l.i below) in
     (omega arith, ap length next ∙ front_length (numbers_bytes (take (l.i + 1) ns)) t (omega (arith, front-size ns (l.i + 1) (omega arith))), next)
-
-pub returns : goal.returns
-returns c =
-    let l = c.loop-i in
-    l.invariant.2 ∙ ap (λ (ns : List ℕ). at_front (numbers_bytes ns) c.args.room.now) (take_all l.i c.args.numbers.now (omega arith))

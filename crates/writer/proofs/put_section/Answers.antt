@@ -1,15 +1,10 @@
 -- `writer::put_section` meets its contract: a count, and the numbers behind it. Assumes nothing.
 use Prim.Native.Nat.{◌/◌}
 use mathlib.Core.Path.{refl}
-use native.Mathlib.Nat.{div-le_self}
-use native.Mathlib.Omega.{arith}
 use lib.ListN.{length}
 use Rattle.format.specs.Format.{number_bytes, numbers_bytes, numbers_section}
 use Rattle.writer.proofs.Fronts.{front_then}
 use Rattle.writer.proofs.put_section.Goals as goal
-
-pub overflow_cast-count : goal.overflow_cast-count
-overflow_cast-count c = omega (arith, div-le_self (length c.args.numbers.now) c.args.each)
 
 pub returns : goal.returns
 unfolding numbers_section number_bytes
