@@ -1,8 +1,10 @@
 -- Laws of the line: the fewest digits are as many as `size` says, one text after another is one text, and a line is short.
 -- Assumes nothing.
-use Rattle.std.specs.Prelude.{ℕ, zero, suc, ◌-◌, ◌*◌, ◌/◌, ◌%◌, ◌^◌, ◌≤◌, ◌<◌, Bool, true, false, List, [], ◌∷◌, ◌++◌, ◌≡◌, refl, ltb, length, take, drop}
+use Rattle.std.specs.Prelude.{ℕ, zero, suc, ◌+◌, ◌-◌, ◌*◌, ◌/◌, ◌%◌, ◌^◌, ◌≤◌, ◌<◌, Bool, true, false, List, [], ◌∷◌, ◌++◌, ◌≡◌, refl, ltb, length, take, drop}
 use Rattle.std.proofs.Math.Nat.{pow-succ', one-le-pow}
-use Rattle.std.proofs.Common.{zero-lt-suc, arith, append_assoc, sym, ap, ◌∙◌, lt-ltb, le-ltb, ltb-true, ltb-false, length-append, length-drop, length-take-le, take_at, drop_at, drop-drop}
+use Rattle.std.proofs.Common.{zero-lt-suc, arith, append_assoc, sym, ap, ◌∙◌, lt-ltb, le-ltb, ltb-true, ltb-false, length-append, length-take, length-drop, take-append-drop, length-take-le, take_at, drop_at, drop-drop}
+use Rattle.std.proofs.Math.Seq.{take-length}
+use Rattle.std.proofs.lemmas.List.{drop-append-le}
 use Rattle.io.specs.Digits.{last_digits, IsDigitCount, hex_digit_ascii}
 use Rattle.line.specs.Line.{places, size, Put}
 
@@ -65,6 +67,30 @@ unfolding size
 fewest_most n k h f = omega (arith, fewest_size n k f, places_most n n 9 (omega arith))
 
 ---- One text after another ----
+
+-- a copy into the part of the room from an offset on
+pub put_copied : {text out ys : List ℕ} {at k : ℕ} (r : ℕ)
+    → at + length text ≤ length out → k ≡ length out - at → r ≡ length text
+    → ys ≡ take (length text) text ++ drop (length text) (take k (drop at out))
+    → Put text out at (take at out ++ (ys ++ drop k (drop at out))) (at + r)
+put_copied {text} {out} {ys} {at} {k} r fits ek er e =
+    record { end = ap (λ (n : ℕ). at + n) er; written = ap (λ (l : List ℕ). take at out ++ l) behind }
+  where
+    within : length text ≤ length (take k (drop at out))
+    within = simp (length-take, length-drop) (omega arith)
+
+    rest : drop (length text) (take k (drop at out)) ++ drop k (drop at out) ≡ drop (at + r) out
+    rest =
+        sym (drop-append-le (length text) (take k (drop at out)) (drop k (drop at out)) within)
+        ∙ ap (drop (length text)) (take-append-drop k (drop at out))
+        ∙ drop-drop (length text) at out ∙ ap (λ (n : ℕ). drop (at + n) out) (sym er)
+
+    behind : ys ++ drop k (drop at out) ≡ text ++ drop (at + r) out
+    behind =
+        ap (λ (l : List ℕ). l ++ drop k (drop at out)) e
+        ∙ append_assoc (take (length text) text) (drop (length text) (take k (drop at out))) (drop k (drop at out))
+        ∙ ap (λ (l : List ℕ). l ++ (drop (length text) (take k (drop at out)) ++ drop k (drop at out))) (take-length text)
+        ∙ ap (λ (l : List ℕ). text ++ l) rest
 
 module _ {text out out' : List ℕ} {at r : ℕ} (p : Put text out at out' r) (fits : r ≤ length out) where
   head_length : length (take at out ++ text) ≡ r

@@ -12,7 +12,7 @@ ghost use Rattle.calculus.specs.Successors.{eqc};
 
 const MOST: u64 = 4294967295;
 
-// Closings by their rank: done, withdrawn, failed.
+// Closings by their rank, in the order of 01.
 pub const RANK_DONE: u8 = 0;
 
 pub const RANK_WITHDRAWN: u8 = 1;
