@@ -155,8 +155,8 @@ fn branch(standard: bool, kids: u8, inner: bool) -> Form
     }
 }
 
-// The table of the standard kinds without a set, by a node's three numbers; no other number comes here. Single numbers are compiled to a
-// jump, where ranges are a chain of tests.
+// The table of the standard kinds without a set, by a node's three numbers; no other number comes here, so the last needs no arm of its
+// own. Single numbers are compiled to a jump, where ranges are a chain of tests.
 fn standard_of(kind: u16, first: u16, second: u16) -> Node
     requires { (1 ≤ kind) × (kind ≤ 9) }
     ensures { result ≡ node_of kind first second }
@@ -174,8 +174,7 @@ fn standard_of(kind: u16, first: u16, second: u16) -> Node
         6 => Node::Standard(Operator::Choice, two),
         7 => Node::Standard(Operator::Parallel(NO_SET), two),
         8 => Node::Handler(two),
-        9 => Node::Block(first as usize),
-        _ => Node::Unknown,
+        _ => Node::Block(first as usize),
     }
 }
 
@@ -195,8 +194,7 @@ fn compensable_of(kind: u16, first: u16, second: u16) -> Node
         13 => Node::Compensable(Operator::Parallel(NO_SET), two),
         14 => Node::Paired(Simple::Skip),
         15 => Node::Paired(Simple::Throw),
-        16 => Node::Paired(Simple::Yield),
-        _ => Node::Unknown,
+        _ => Node::Paired(Simple::Yield),
     }
 }
 
@@ -332,7 +330,7 @@ fn refuse(number: u16, place: usize) -> Check
 // The fields of node i, of which this is asked.
 fn fields_at(nodes: &[u16], i: usize, asked: Form) -> Fields
     requires i_in_bounds { 3 * i + 2 < length nodes.now }
-    requires asked_value { asked ≡ form (node nodes.now i) }
+    requires asked_is { asked ≡ form (node nodes.now i) }
     ensures { result ≡ fields nodes.now i }
 {
     Fields {
@@ -431,7 +429,7 @@ fn check_node(
     requires i_bound { i < 64 }
     requires marks { Marks nodes.now i marks.old × Sorts nodes.now i sorts.old }
     ensures value { result ≡ first (node_grounds many nodes.now i) }
-    ensures marks_2 { result ≡ Fine → Marks nodes.now (i + 1) marks.new × Sorts nodes.now (i + 1) sorts.new }
+    ensures children_noted { result ≡ Fine → Marks nodes.now (i + 1) marks.new × Sorts nodes.now (i + 1) sorts.new }
 {
     let decoded = node_at(nodes, i);
     let asked = form_of(decoded);

@@ -61,7 +61,7 @@ fn four(t: &[u8], at: usize, n: usize) -> u64
 // The modes from `at` to the last, one a byte: at most eight.
 fn part(t: &[u8], at: usize, n: usize) -> u64
     requires n_bound { (n ≤ 64) × ((n ≤ length t.now) × ((at ≤ n) × (n ≤ at + 8))) }
-    requires n_value { two_bits t.now n ≡ true }
+    requires two_bits_each { two_bits t.now n ≡ true }
     ensures { result ≡ bytes (padded t.now n) at 8 }
 {
     let mut word = 0;
@@ -76,7 +76,7 @@ fn part(t: &[u8], at: usize, n: usize) -> u64
 // Eight modes from `at` on, one a byte; 0 for those behind the last.
 fn eight(t: &[u8], at: usize, n: usize) -> u64
     requires n_bound { (n ≤ 64) × ((n ≤ length t.now) × (at ≤ 64)) }
-    requires n_value { two_bits t.now n ≡ true }
+    requires two_bits_each { two_bits t.now n ≡ true }
     ensures { (result ≡ bytes (padded t.now n) at 8) × (result ≤ most_bytes 8) }
 {
     if at + 8 <= n {
@@ -91,7 +91,7 @@ fn eight(t: &[u8], at: usize, n: usize) -> u64
 // Thirty-two modes from `at` on, two bits each: byte i has those of the nodes i, i + 8, i + 16 and i + 24 from there.
 fn pack(t: &[u8], at: usize, n: usize) -> u64
     requires n_bound { (n ≤ 64) × ((n ≤ length t.now) × (at ≤ 32)) }
-    requires n_value { two_bits t.now n ≡ true }
+    requires two_bits_each { two_bits t.now n ≡ true }
     ensures { result ≡ packed (padded t.now n) at 8 }
 {
     eight(t, at, n)

@@ -2,7 +2,7 @@
 -- are judged by the traces as they are printed (`accepted_printed`): the flows of tables without the new kinds are free of them
 -- (`kinds_free`), and so is all that is judged without sets (`unset_printed`). Which events a set holds (`set_bits`), and that it is asked
 -- for the record's event (`record_looked_up`). And exactly when 22 and 23 are given (`set_absent_exactly`,
--- `sets_wrong_exactly`). What is said of an answer of `judge` is said of `judge_named` too, with `named-` before the name. Assumes nothing.
+-- `sets_wrong_exactly`). What is said of an answer of `judge` is said of `judge_named` too, with `named_` before the name. Assumes nothing.
 use Rattle.std.specs.Prelude.{ℕ, ◌-◌, ◌<◌, ◌≡◌, Bool, false, not, ◌&&◌, cond, List, [], ◌∷◌, ◌++◌, ◌⊎◌, ◌↔◌, ◌≢◌, length, replicate}
 use Rattle.std.proofs.Math.Path.{refl, ap, subst}
 use Rattle.std.proofs.Common.{sym, inl, inr, ⊎_elim, arith, le-leb}

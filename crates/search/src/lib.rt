@@ -421,7 +421,7 @@ fn visit_each(
     requires visit_ready { VisitReady ns.now cues.now work.old role }
     requires truthful { Truthful ns.now cues.now asks.old (memory modes.old marks.old) }
     requires in_bounds { (1 ≤ length cues.now) × (left < most) }
-    requires cues_value { ends role (get_or cues.now 0 0) ≡ false }
+    requires not_an_ending { ends role (get_or cues.now 0 0) ≡ false }
     ensures { Tried (quest ns.now cues.now work.old role asks.old left (memory modes.old marks.old)) work.new asks.new (memory modes.new marks.new) result }
 {
     let mut c = [0u32; 64];
@@ -448,9 +448,9 @@ fn try_each(
     requires visit_ready { VisitReady ns.now cues.now work.old role }
     requires truthful { Truthful ns.now cues.now asks.old (memory modes.old marks.old) }
     requires in_bounds { (1 ≤ length cues.now) × (left < most) }
-    requires cues_value { ends role (get_or cues.now 0 0) ≡ false }
+    requires not_an_ending { ends role (get_or cues.now 0 0) ≡ false }
     requires right_counts { RightCounts ns.now role (get_or cues.now 0 0) work.old c.now d.now }
-    requires many_value { many ≡ successor_count ns.now role (get_or cues.now 0 0) work.old }
+    requires many_is { many ≡ successor_count ns.now role (get_or cues.now 0 0) work.old }
     ensures { Tried (quest ns.now cues.now work.old role asks.old left (memory modes.old marks.old)) work.new asks.new (memory modes.new marks.new) result }
 {
     let mut k = 0;
@@ -513,7 +513,7 @@ fn follow(
     requires visit_ready { VisitReady ns.now cues.now work.old role }
     requires truthful { Truthful ns.now cues.now asks.old (memory modes.old marks.old) }
     requires in_bounds { 1 ≤ length cues.now }
-    requires cues_value { ends role (get_or cues.now 0 0) ≡ false }
+    requires not_an_ending { ends role (get_or cues.now 0 0) ≡ false }
     requires right_counts { RightCounts ns.now role (get_or cues.now 0 0) work.old c.now d.now }
     requires k_bound { k < successor_count ns.now role (get_or cues.now 0 0) work.old }
     ensures { Followed (quest ns.now cues.now work.old role asks.old left (memory modes.old marks.old)) work.new asks.new (memory modes.new marks.new) result k }

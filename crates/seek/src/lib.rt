@@ -54,8 +54,8 @@ fn word_at(d: &[u32], i: usize) -> Word
 // On which of three endings a number falls, and how far into its weight.
 #[derive(Clone, Copy)]
 struct Fall {
-    ending: u8,
     rest: u32,
+    ending: u8,
 }
 
 // Where the first two of them weigh x and y.
@@ -230,12 +230,13 @@ fn second_ending(d: &[u32], i: usize, w: u8, x: u8, g: Weight, j: u32) -> Fall
 
 // The search --------------------------------------------------------------------------------------------------------
 
-// What is asked of a choice among compensations: by which closing, what each weighs, and the number that falls on one.
+// What is asked of a choice among compensations: what each weighs, the number that falls on one, and by which closing. The byte stands last:
+// fields are laid out in this order, and behind a byte the others would be copied across what was written.
 #[derive(Clone, Copy)]
 struct Query {
-    closing: u8,
     weight: Weight,
     number: u32,
+    closing: u8,
 }
 
 // Node i becomes one of its compensations, and the number of its steps takes the place of its own in c.
@@ -335,7 +336,7 @@ fn choose_both(
 // P÷Q has one compensation by each closing. P is passed, by all of them.
 fn seek_pair(ns: &[u16], t: &mut [u8], d: &[u32], i: usize, two: Two, w: u8, j: u32) -> Picked
     requires spot { Spot ns.now t.old i }
-    requires i_value { course_at ns.now t.old i ≡ Pair two }
+    requires stands { course_at ns.now t.old i ≡ Pair two }
     requires i_in_bounds { 9 * i + 8 < length d.now }
     ensures { PairLeft ns.now t.old d.now i two w j t.new result }
 {
@@ -390,7 +391,7 @@ fn seek_second(
 ) -> Picked
     requires second_wanted { SecondWanted (scene ns.now t.old a) i two w g k }
     requires weighed { Weighed (scene ns.now t.old a) (notes c.old d.now) two.second }
-    requires t { T ((noted_at (scene ns.now t.old a) (notes c.old d.now) two.first).std Undoing) }
+    requires first_noted { T ((noted_at (scene ns.now t.old a) (notes c.old d.now) two.first).std Undoing) }
     ensures second_chosen { SecondChosen (scene ns.now t.old a) i two (closing w) g k t.new result }
     ensures counted { UndoneBelow (scene ns.now t.new a) i (notes c.old d.now) (notes c.new d.now) }
 {

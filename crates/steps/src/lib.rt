@@ -145,8 +145,8 @@ fn turn_run(
     k: u32,
 ) -> Turn
     requires ready { Ready (scene ns.now t.old a) Running (notes c.old d.now) i k }
-    requires i_value { course_in (scene ns.now t.old a) i ≡ course.Both operator two }
-    requires operator_value { joint_by a operator ≡ false }
+    requires stands { course_in (scene ns.now t.old a) i ≡ course.Both operator two }
+    requires apart { joint_by a operator ≡ false }
     ensures turned { Turned (scene ns.now t.old a) (notes c.new d.now) (move Running i k) t.new (move Running result.node result.at) }
     ensures noted { Kept ns.now i (entries (notes c.old d.now)) (entries (notes c.new d.now)) }
 {
@@ -182,7 +182,7 @@ fn turn_out(
     k: u32,
 ) -> u32
     requires ready { Ready (scene ns.now t.old a) (Plain Drawn) (notes c.old d.now) i k }
-    requires i_value { stand_in (scene ns.now t.old a) Drawn i ≡ standing.Block child }
+    requires stands { stand_in (scene ns.now t.old a) Drawn i ≡ standing.Block child }
     requires child_bound { counts c.old child ≤ k }
     ensures turned { Turned (scene ns.now t.old a) (notes c.new d.now) (move (Plain Drawn) i k) t.new (move (Plain Undoing) child result) }
     ensures noted { Kept ns.now i (entries (notes c.old d.now)) (entries (notes c.new d.now)) }
@@ -286,7 +286,7 @@ fn step_block(
     k: u32,
 )
     requires ready { Ready (scene ns.now t.old a) (Plain Drawn) (notes c.old d.now) i k }
-    requires i_value { stand_in (scene ns.now t.old a) Drawn i ≡ standing.Block child }
+    requires stands { stand_in (scene ns.now t.old a) Drawn i ≡ standing.Block child }
     ensures stepped { Stepped (scene ns.now t.old a) (Plain Drawn) i k t.new }
     ensures noted { Kept ns.now i (entries (notes c.old d.now)) (entries (notes c.new d.now)) }
 {

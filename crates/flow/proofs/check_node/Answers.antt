@@ -25,7 +25,7 @@ returns-then-not-asked c =
     let of_4 : not c.form_of-asked.result.known ≡ unknown_kind c.args.nodes.now c.args.i = ap (λ (f : Form). not f.known) (asked) in
     let e4 : unknown_kind c.args.nodes.now c.args.i ≡ true = sym (of_4) ∙ c.if-not-asked.true in record {
       value = rw (c.refuse.ensures, e4);
-      marks_2 = not-fine 4 c.args.i c.refuse.ensures;
+      children_noted = not-fine 4 c.args.i c.refuse.ensures;
     }
 
 pub returns-then-no_such_set : goal.returns-then-no_such_set
@@ -38,14 +38,14 @@ returns-then-no_such_set c =
     let e4 : unknown_kind c.args.nodes.now c.args.i ≡ false = sym (of_4) ∙ c.if-not-asked.false in
     let e22 : no_such_set c.args.nodes.now c.args.i c.args.many ≡ true = sym (of_22) ∙ c.if-no_such_set.true in record {
       value = rw (c.refuse-then-no_such_set.ensures, e4, e22);
-      marks_2 = not-fine 22 c.args.i c.refuse-then-no_such_set.ensures;
+      children_noted = not-fine 22 c.args.i c.refuse-then-no_such_set.ensures;
     }
 
 pub fields_at-f-requires : goal.fields_at-f-requires
 fields_at-f-requires c =
     let asked : c.form_of-asked.result ≡ form (node c.args.nodes.now c.args.i) = c.form_of-asked.ensures ∙ ap form c.node_at-decoded.ensures in record {
       i_in_bounds = c.requires.i_in_bounds;
-      asked_value = asked;
+      asked_is = asked;
     }
 
 pub returns-then-wrong_field : goal.returns-then-wrong_field
@@ -62,7 +62,7 @@ returns-then-wrong_field c =
     let e22 : no_such_set c.args.nodes.now c.args.i c.args.many ≡ false = sym (of_22) ∙ c.if-no_such_set.false in
     let e5 : wrong_field c.args.nodes.now c.args.i ≡ true = sym (of_5) ∙ c.if-wrong_field.true in record {
       value = rw (c.refuse-then-wrong_field.ensures, e4, e22, e5);
-      marks_2 = not-fine 5 c.args.i c.refuse-then-wrong_field.ensures;
+      children_noted = not-fine 5 c.args.i c.refuse-then-wrong_field.ensures;
     }
 
 pub returns-then-not_lower : goal.returns-then-not_lower
@@ -81,7 +81,7 @@ returns-then-not_lower c =
     let e5 : wrong_field c.args.nodes.now c.args.i ≡ false = sym (of_5) ∙ c.if-wrong_field.false in
     let e6 : not_lower c.args.nodes.now c.args.i ≡ true = sym (of_6) ∙ c.if-not_lower.true in record {
       value = rw (c.refuse-then-not_lower.ensures, e4, e22, e5, e6);
-      marks_2 = not-fine 6 c.args.i c.refuse-then-not_lower.ensures;
+      children_noted = not-fine 6 c.args.i c.refuse-then-not_lower.ensures;
     }
 
 pub wrong_sort-requires : goal.wrong_sort-requires
@@ -112,7 +112,7 @@ returns-then-wrong_sort c =
     let e6 : not_lower c.args.nodes.now c.args.i ≡ false = sym (of_6) ∙ c.if-not_lower.false in
     let e7 : wrong_sort c.args.nodes.now c.args.i ≡ true = sym (of_7) ∙ c.if-wrong_sort.true in record {
       value = rw (c.refuse-then-wrong_sort.ensures, e4, e22, e5, e6, e7);
-      marks_2 = not-fine 7 c.args.i c.refuse-then-wrong_sort.ensures;
+      children_noted = not-fine 7 c.args.i c.refuse-then-wrong_sort.ensures;
     }
 
 pub child_taken-requires : goal.child_taken-requires
@@ -147,7 +147,7 @@ returns-then-child_taken c =
     let e7 : wrong_sort c.args.nodes.now c.args.i ≡ false = sym (of_7) ∙ c.if-wrong_sort.false in
     let e8 : child_taken c.args.nodes.now c.args.i ≡ true = sym (of_8) ∙ c.if-child_taken.true in record {
       value = rw (c.refuse-then-child_taken.ensures, e4, e22, e5, e6, e7, e8);
-      marks_2 = not-fine 8 c.args.i c.refuse-then-child_taken.ensures;
+      children_noted = not-fine 8 c.args.i c.refuse-then-child_taken.ensures;
     }
 
 pub mark_children-requires : goal.mark_children-requires
@@ -187,5 +187,5 @@ returns c =
     let sorts = sorts_more ns i c.args.sorts.now c.requires.marks.1 c.requires.i_bound _ (ap (λ (f : Form). f.standard) (asked)) in
     let m : c.mark_children.new.marks ≡ with_children c.args.marks.now (fields ns i) = c.mark_children.ensures ∙ ap (with_children c.args.marks.now) c.fields_at-f.ensures in record {
       value = rw (e4, e22, e5, e6, e7, e8);
-      marks_2 = λ f. (subst (Marks ns (i + 1)) (sym m) marks, sorts);
+      children_noted = λ f. (subst (Marks ns (i + 1)) (sym m) marks, sorts);
     }

@@ -45,7 +45,7 @@ loop-i-preserved c =
     let h : l.i < count ns = c.loop-i-test.true in
     let fine = c.in_default.is in
     let e : first (node_grounds many ns l.i) ≡ Fine = sym c.check_node-found.ensures.value ∙ fine in
-    (omega arith, (c.check_node-found.ensures.marks_2 fine, sym (ap (λ (x : Check). or_else_check x (first (each (child_grounds ns) 0 (count ns - 1)))) (each_passed (node_grounds many ns) l.i (count ns) h e)) ∙ l.invariant.1.1))
+    (omega arith, (c.check_node-found.ensures.children_noted fine, sym (ap (λ (x : Check). or_else_check x (first (each (child_grounds ns) 0 (count ns - 1)))) (each_passed (node_grounds many ns) l.i (count ns) h e)) ∙ l.invariant.1.1))
 
 pub check_children-requires : goal.check_children-requires
 check_children-requires c =

@@ -1,6 +1,9 @@
--- `flow::compensable_of` meets its contract: nothing else is left of 10 to 16. Assumes nothing.
+-- `flow::compensable_of` meets its contract: what is left of 10 to 16 is 16. Assumes nothing.
+use mathlib.Core.Path.{◌≡◌}
 use native.Mathlib.Omega.{arith}
 use Rattle.flow.proofs.compensable_of.Goals as goal
 
 pub returns-in_default : goal.returns-in_default
-returns-in_default c = absurd (omega arith)
+returns-in_default c =
+    let last : c.args.kind ≡ 16 = omega arith in
+    rw last

@@ -2,4 +2,4 @@
 use Rattle.flow.proofs.fields_at.Goals as goal
 
 pub returns : goal.returns
-returns c = rw (c.requires.asked_value, c.first_at.ensures, c.second_at.ensures)
+returns c = rw (c.requires.asked_is, c.first_at.ensures, c.second_at.ensures)

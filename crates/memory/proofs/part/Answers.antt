@@ -13,19 +13,19 @@ pub overflow_mul-word : goal.overflow_mul-word
 overflow_mul-word c =
     let a = c.args in
     let l = c.loop-j in
-    let q = part_more a.t.now a.n a.at c.requires.n_value l.j (omega arith) (omega arith) (omega arith) l.invariant.1.1 in
+    let q = part_more a.t.now a.n a.at c.requires.two_bits_each l.j (omega arith) (omega arith) (omega arith) l.invariant.1.1 in
     omega (arith, most_eight)
 
 pub overflow_add-word : goal.overflow_add-word
 overflow_add-word c =
     let a = c.args in
     let l = c.loop-j in
-    let q = part_more a.t.now a.n a.at c.requires.n_value l.j (omega arith) (omega arith) (omega arith) l.invariant.1.1 in
+    let q = part_more a.t.now a.n a.at c.requires.two_bits_each l.j (omega arith) (omega arith) (omega arith) l.invariant.1.1 in
     omega (arith, c.wide.ensures.0, most_eight)
 
 pub loop-j-preserved : goal.loop-j-preserved
 loop-j-preserved c =
     let a = c.args in
     let l = c.loop-j in
-    let q = part_more a.t.now a.n a.at c.requires.n_value l.j (omega arith) (omega arith) (omega arith) l.invariant.1.1 in
+    let q = part_more a.t.now a.n a.at c.requires.two_bits_each l.j (omega arith) (omega arith) (omega arith) l.invariant.1.1 in
     (omega arith, (omega arith, rw c.wide.ensures.0 q.0))

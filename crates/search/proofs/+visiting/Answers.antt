@@ -97,7 +97,7 @@ follow-bounds-cues-0 t c =
 
 pub follow-apply-requires : goal.follow-apply-requires
 follow-apply-requires t c =
-    let whole = apply_asked c.requires.visit_ready c.requires.in_bounds c.copy_down.new.work c.copy_down.ensures c.requires.cues_value c.args.c.now c.args.d.now c.args.k c.requires.right_counts c.requires.k_bound in record {
+    let whole = apply_asked c.requires.visit_ready c.requires.in_bounds c.copy_down.new.work c.copy_down.ensures c.requires.not_an_ending c.args.c.now c.args.d.now c.args.k c.requires.right_counts c.requires.k_bound in record {
       spot = whole.0;
       in_bounds = whole.1.0;
       right_counts = whole.1.1.0;
@@ -169,10 +169,10 @@ try_each-follow-requires t c =
           (
             c.requires.in_bounds.0,
             (
-              c.requires.cues_value,
+              c.requires.not_an_ending,
               (
                 right_still c.requires.visit_ready c.loop-k.work v.used (get_or a.cues.now 0 0) a.c.now a.d.now c.requires.right_counts,
-                count_still c.requires.visit_ready c.loop-k.work v.used c.loop-k.k (get_or a.cues.now 0 0) a.many c.loop-k-test.true c.requires.many_value,
+                count_still c.requires.visit_ready c.loop-k.work v.used c.loop-k.k (get_or a.cues.now 0 0) a.many c.loop-k-test.true c.requires.many_is,
               ),
             ),
           ),
@@ -242,9 +242,9 @@ try_each-returns t c =
     let a = c.args in
     let v = c.loop-k.invariant in
     record {
-      out = turn_over (state a.ns.now a.role a.work.now) (get_or a.cues.now 0 0) (drop 1 a.cues.now) a.left v.turn (omega (arith, c.loop-k-test.false, c.requires.many_value)) c.requires.in_bounds.1;
+      out = turn_over (state a.ns.now a.role a.work.now) (get_or a.cues.now 0 0) (drop 1 a.cues.now) a.left v.turn (omega (arith, c.loop-k-test.false, c.requires.many_is)) c.requires.in_bounds.1;
       used = v.used;
-      asked = tried_over (state a.ns.now a.role a.work.now) a.cues.now c.requires.in_bounds.0 v.struck v.tried (turn_all (state a.ns.now a.role a.work.now) (get_or a.cues.now 0 0) (drop 1 a.cues.now) a.left v.turn (omega (arith, c.loop-k-test.false, c.requires.many_value)) c.requires.in_bounds.1) _;
+      asked = tried_over (state a.ns.now a.role a.work.now) a.cues.now c.requires.in_bounds.0 v.struck v.tried (turn_all (state a.ns.now a.role a.work.now) (get_or a.cues.now 0 0) (drop 1 a.cues.now) a.left v.turn (omega (arith, c.loop-k-test.false, c.requires.many_is)) c.requires.in_bounds.1) _;
       learned = v.learned;
     }
 
@@ -284,7 +284,7 @@ pub visit_each-successors-many-requires : goal.visit_each-successors-many-requir
 visit_each-successors-many-requires t c =
     let a = c.args in record {
       spot = ready_spot c.requires.visit_ready;
-      in_bounds = (c.requires.visit_ready.some, first_inner a.role (get_or a.cues.now 0 0) (first_low c.requires.visit_ready c.requires.in_bounds.0) c.requires.cues_value);
+      in_bounds = (c.requires.visit_ready.some, first_inner a.role (get_or a.cues.now 0 0) (first_low c.requires.visit_ready c.requires.in_bounds.0) c.requires.not_an_ending);
       d_len = refl;
     }
 
@@ -294,7 +294,7 @@ visit_each-slice_bounds-try_each-end t c = sym c.successors-many.ensures.right.l
 pub visit_each-try_each-requires : goal.visit_each-try_each-requires
 visit_each-try_each-requires t c =
     let k = c.successors-many.ensures in
-    (omega (arith, c.decreases), (c.requires.visit_ready, (c.requires.truthful, (c.requires.in_bounds, (c.requires.cues_value, (k.right, k.many))))))
+    (omega (arith, c.decreases), (c.requires.visit_ready, (c.requires.truthful, (c.requires.in_bounds, (c.requires.not_an_ending, (k.right, k.many))))))
 
 pub visit_each-returns : goal.visit_each-returns
 visit_each-returns t c = c.try_each.ensures

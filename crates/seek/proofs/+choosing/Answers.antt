@@ -59,7 +59,7 @@ pub choose_by-seek_pair-requires : goal.choose_by-seek_pair-requires
 choose_by-seek_pair-requires t c =
     record {
       spot = c.requires.spot;
-      i_value = sym c.course_at-course.ensures ∙ c.in-Pair.is;
+      stands = sym c.course_at-course.ensures ∙ c.in-Pair.is;
       i_in_bounds = row_room c.requires.weighed c.requires.spot;
     }
 
@@ -216,5 +216,5 @@ pub seek_second-returns : goal.seek_second-returns
 seek_second-returns t c =
     record {
       second_chosen = rw c.moves_before.ensures (second_chosen c.requires.second_wanted c.weight_inside-inside.ensures c.seek_marked-l.ensures.chosen);
-      counted = second_undone c.requires.second_wanted c.requires.t c.seek_marked-l.ensures.chosen c.seek_marked-l.ensures.counted;
+      counted = second_undone c.requires.second_wanted c.requires.first_noted c.seek_marked-l.ensures.chosen c.seek_marked-l.ensures.counted;
     }

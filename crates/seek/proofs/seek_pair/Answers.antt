@@ -5,7 +5,7 @@ use Rattle.seek.specs.Branches.{pair_first}
 use Rattle.seek.proofs.seek_pair.Goals as goal
 
 pub redraw-requires : goal.redraw-requires
-redraw-requires c = pair_first c.requires.spot c.requires.i_value
+redraw-requires c = pair_first c.requires.spot c.requires.stands
 
 pub lone_at-requires : goal.lone_at-requires
 lone_at-requires c = c.requires.i_in_bounds

@@ -67,19 +67,19 @@ meet_std-returns t c =
     }
 
 pub step_block-count_at-requires : goal.step_block-count_at-requires
-step_block-count_at-requires t c = block_small c.requires.ready c.requires.i_value
+step_block-count_at-requires t c = block_small c.requires.ready c.requires.stands
 
 pub step_block-step_run-requires : goal.step_block-step_run-requires
 step_block-step_run-requires t c =
     let n = c.count_at.ensures in
-    let x = inside_turned c.requires.ready c.requires.i_value (omega (arith, c.if-k-count_at.true)) in
+    let x = inside_turned c.requires.ready c.requires.stands (omega (arith, c.if-k-count_at.true)) in
     (omega (arith, x.lower, c.decreases), x.ready)
 
 pub step_block-turn_out-at-requires : goal.step_block-turn_out-at-requires
 step_block-turn_out-at-requires t c =
     let n = c.count_at.ensures in record {
       ready = c.requires.ready;
-      i_value = c.requires.i_value;
+      stands = c.requires.stands;
       child_bound = omega (arith, c.if-k-count_at.false);
     }
 
@@ -91,7 +91,7 @@ step_block-step_std-requires t c =
 pub step_block-returns-then-k-count_at : goal.step_block-returns-then-k-count_at
 step_block-returns-then-k-count_at t c =
     let n = c.count_at.ensures in
-    let x = inside_turned c.requires.ready c.requires.i_value (omega (arith, c.if-k-count_at.true)) in record {
+    let x = inside_turned c.requires.ready c.requires.stands (omega (arith, c.if-k-count_at.true)) in record {
       stepped = x.back _ c.step_run.ensures.stepped;
       noted = kept_under c.args.ns.now x.under c.step_run.ensures.noted;
     }
@@ -125,8 +125,8 @@ pub step_run-turn_run-x-requires : goal.step_run-turn_run-x-requires
 step_run-turn_run-x-requires t c =
     record {
       ready = c.requires;
-      i_value = sym c.course_at-runs.ensures ∙ c.in-Both.is;
-      operator_value = (sym c.joint_by.ensures ∙ c.if-joint_by.false);
+      stands = sym c.course_at-runs.ensures ∙ c.in-Both.is;
+      apart = (sym c.joint_by.ensures ∙ c.if-joint_by.false);
     }
 
 pub step_run-step_run-requires : goal.step_run-step_run-requires

@@ -6,7 +6,7 @@ use Rattle.steps.specs.TurnLaws.{block_small, block_kept, out_spot, out_weighed,
 use Rattle.steps.proofs.turn_out.Goals as goal
 
 pub count_at-n-requires : goal.count_at-n-requires
-count_at-n-requires c = block_small c.requires.ready c.requires.i_value
+count_at-n-requires c = block_small c.requires.ready c.requires.stands
 
 pub set_mode-requires : goal.set_mode-requires
 set_mode-requires c = c.requires.ready.spot.room
@@ -14,7 +14,7 @@ set_mode-requires c = c.requires.ready.spot.room
 pub choose-x-requires : goal.choose-x-requires
 choose-x-requires c =
     let h = c.requires.ready in
-    let e = c.requires.i_value in
+    let e = c.requires.stands in
     let g = c.requires.child_bound in
     let w = set_sets h.spot.room c.set_mode.ensures in record {
       spot = out_spot h e g w;
@@ -25,7 +25,7 @@ choose-x-requires c =
 pub returns : goal.returns
 returns c =
     let h = c.requires.ready in
-    let e = c.requires.i_value in
+    let e = c.requires.stands in
     let g = c.requires.child_bound in
     let w = set_sets h.spot.room c.set_mode.ensures in
     let x = rw c.count_at-n.ensures at c.choose-x.ensures.chosen in

@@ -7,12 +7,12 @@ pub turn_two-x-requires : goal.turn_two-x-requires
 turn_two-x-requires c =
     record {
       i_in_bounds = c.requires.ready.spot.room;
-      first_bound = (run_small c.requires.ready c.requires.i_value).0;
+      first_bound = (run_small c.requires.ready c.requires.stands).0;
     }
 
 pub hold-held-requires : goal.hold-held-requires
 hold-held-requires c =
-    let h = c.requires.ready in let d = c.in-Sequence.is in let e = rw d at c.requires.i_value in let f = rw d at c.turn_two-x.ensures in let b = c.if-x.true in record {
+    let h = c.requires.ready in let d = c.in-Sequence.is in let e = rw d at c.requires.stands in let f = rw d at c.turn_two-x.ensures in let b = c.if-x.true in record {
       spot = held_spot h e f b;
       second_bound = (run_small h e).1;
       weighed = held_weighed h e f b;
@@ -23,7 +23,7 @@ pub returns-then-x : goal.returns-then-x
 returns-then-x c =
     let h = c.requires.ready in
     let d = c.in-Sequence.is in
-    let e = rw d at c.requires.i_value in
+    let e = rw d at c.requires.stands in
     let f = rw d at c.turn_two-x.ensures in
     let kept = c.hold-held.ensures.noted in record {
       turned = sequence_turned h e f c.if-x.true c.hold-held.ensures.chosen kept refl c.hold-held.auto.t;
@@ -33,20 +33,20 @@ returns-then-x c =
 pub returns-else-x : goal.returns-else-x
 returns-else-x c =
     record {
-      turned = into_first c.requires.ready c.requires.operator_value c.requires.i_value c.turn_two-x.ensures c.if-x.false;
+      turned = into_first c.requires.ready c.requires.apart c.requires.stands c.turn_two-x.ensures c.if-x.false;
       noted = λ j n. refl;
     }
 
 pub returns-in-Choice : goal.returns-in-Choice
 returns-in-Choice c =
-    let d = c.in-Choice.is in let e = rw d at c.requires.i_value in let f = rw d at c.turn_two-x.ensures in record {
-      turned = apart_turned c.requires.ready tt (rw d at c.requires.operator_value) e f;
+    let d = c.in-Choice.is in let e = rw d at c.requires.stands in let f = rw d at c.turn_two-x.ensures in record {
+      turned = apart_turned c.requires.ready tt (rw d at c.requires.apart) e f;
       noted = λ j n. refl;
     }
 
 pub returns-in-Parallel : goal.returns-in-Parallel
 returns-in-Parallel c =
-    let d = c.in-Parallel.is in let e = rw d at c.requires.i_value in let f = rw d at c.turn_two-x.ensures in record {
-      turned = apart_turned c.requires.ready tt (rw d at c.requires.operator_value) e f;
+    let d = c.in-Parallel.is in let e = rw d at c.requires.stands in let f = rw d at c.turn_two-x.ensures in record {
+      turned = apart_turned c.requires.ready tt (rw d at c.requires.apart) e f;
       noted = λ j n. refl;
     }
