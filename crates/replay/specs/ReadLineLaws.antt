@@ -21,7 +21,7 @@ use Rattle.replay.specs.FillerLaws.{kept_exactly, kept_front}
 
 ---- The promise ----
 
--- `clean` is printed exactly if both tables are number-filler behind the file's numbers
+-- `clean` is printed exactly if both tables are `number_filler` behind the file's numbers
 pub tables_clean_exactly : (a : Reading) (nodes records : List ℕ) → (tables_clean a nodes records ≡ true) ↔ TablesKept a nodes records
 unfolding tables_clean
 tables_clean_exactly a nodes records = (λ e. to e, λ k. from k)
