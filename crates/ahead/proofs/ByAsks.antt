@@ -5,7 +5,7 @@
 use Prim.Native.Nat.{ℕ, zero, suc, ◌-◌, ◌<◌, ◌≤◌}
 use Rattle.std.proofs.Math.Path.{◌≡◌, refl, sym, ap, subst}
 use Rattle.std.proofs.Common.{◌∙◌, inl, inr, arith, le-leb, leb-true, ne_eqb}
-use Rattle.std.specs.Prelude.{Bool, ◌⊎◌, replicate}
+use Rattle.std.specs.Prelude.{Bool, ◌⊎◌, replicate, Result, Ok, Err, ⊤}
 use Rattle.std.proofs.Math.Bool.{true, false, cond}
 use mathlib.Core.List.{List, [], ◌∷◌, ◌++◌, map, map-append}
 use Rattle.std.proofs.Math.Decide.{dec_le}
@@ -20,10 +20,7 @@ use Rattle.calculus.proofs.Budget.{visit_left}
 use Rattle.calculus.specs.Ahead.{Begins, passes, may_follow, entered}
 use Rattle.calculus.proofs.AheadLaws.{begins_found, begins_entered}
 use Rattle.flow.specs.declared.Extent.TheVariants.{Beginning}
-use Rattle.flow.specs.declared.Check.{Check}
 use Rattle.flow.specs.declared.Refusal.{Refusal}
-use Rattle.flow.specs.declared.Check.TheVariants.{Fine}
-use Rattle.flow.specs.declared.Check.TheVariants as check
 use Rattle.flow.specs.Records.{done_number, withdrawn_number, failed_number, most_events, is_event_number, is_closing_number, record_of, records, all_numbers}
 use Rattle.flow.specs.Refusals.{count, no_record}
 use Rattle.flow.specs.Drawn.{flow_by}
@@ -225,10 +222,10 @@ module _ {legend : Legend} {other : ℕ → ℕ} {ns rs : List ℕ} (work : List
       ap (λ (l : List ℕ). entered (cue_records l) (flow_by cued ns)) is
       ∙ cued_entered legend other ns rs passed.table each_known Heard (events_heard rs each_known) c.small c.right
 
-  asks_next : {check : Check} → check ≡ Fine → {allowance : ℕ} {list : List ℕ} {r : Next} {list' after : List ℕ} → NextAnswered ns xs qs allowance list work r list' after
+  asks_next : {check : Result ⊤ Refusal} → check ≡ Ok tt → {allowance : ℕ} {list : List ℕ} {r : Next} {list' after : List ℕ} → NextAnswered ns xs qs allowance list work r list' after
       → NextBy check (flow_by legend ns) ns rs allowance list work r list' after
   unfolding next_by list_by unless_refused allowed
-  asks_next {check} e {allowance} {list} {r} {list'} {after} n = subst (λ (k : Check). NextBy k (flow_by legend ns) ns rs allowance list work r list' after) (sym e) (record {
+  asks_next {check} e {allowance} {list} {r} {list'} {after} n = subst (λ (k : Result ⊤ Refusal). NextBy k (flow_by legend ns) ns rs allowance list work r list' after) (sym e) (record {
     answers = n.answers ∙ (λ i. cond (leb (cost_is allowance i) allowance) (Listed (record { length = length (found_is allowance i); count = cost_is allowance i })) (Undecided (record { length = 0; count = allowance })));
     lists = n.lists ∙ (λ i. cond (leb (cost_is allowance i) allowance) (at_front (found_is allowance i) list) list);
     leaves = n.leaves ∙ ap (λ (m : ℕ). cleared (room_of (count ns) m) work) (ap length is ∙ as_long work passed c is) ∙ sym (fine_bytes (room_wanted ns rs) work refl);
@@ -236,12 +233,12 @@ module _ {legend : Legend} {other : ℕ → ℕ} {ns rs : List ℕ} (work : List
 
 ---- As the code comes to it ----
 
-pub next_refuses : {k : Check} (flow : State) (ns rs : List ℕ) (allowance : ℕ) (list work : List ℕ) (r : Refusal) → k ≡ check.Refused r
+pub next_refuses : {k : Result ⊤ Refusal} (flow : State) (ns rs : List ℕ) (allowance : ℕ) (list work : List ℕ) (r : Refusal) → k ≡ Err r
     → NextBy k flow ns rs allowance list work (Refused r) list work
 unfolding next_by list_by unless_refused
 next_refuses flow ns rs allowance list work r e = record {
-  answers = sym (ap (λ (x : Check). next_by x flow rs allowance) e);
-  lists = sym (ap (λ (x : Check). list_by x flow rs allowance list) e);
+  answers = sym (ap (λ (x : Result ⊤ Refusal). next_by x flow rs allowance) e);
+  lists = sym (ap (λ (x : Result ⊤ Refusal). list_by x flow rs allowance list) e);
   leaves = sym (refused_bytes (room_wanted ns rs) work r e);
 }
 
@@ -256,14 +253,14 @@ named_all s sets ns rs lists = record {
 }
 
 module _ (sets ns rs list work : List ℕ) {xs qs : List ℕ} where
-  module _ (e : next_check sets ns rs (length list) (length work) ≡ Fine) (is : xs ≡ map (cue_of (masked (in_set sets)) itself) rs) (asked : qs ≡ asks (masked (in_set sets)) itself ns) where
+  module _ (e : next_check sets ns rs (length list) (length work) ≡ Ok tt) (is : xs ≡ map (cue_of (masked (in_set sets)) itself) rs) (asked : qs ≡ asks (masked (in_set sets)) itself ns) where
     pub plain_next_ready : NextReady ns xs qs list work
     plain_next_ready = let p = next_passed sets ns rs (length list) (length work) e in asks_ready work p.0 (plain_all sets ns) is asked p.1
 
     pub plain_next : {allowance : ℕ} {r : Next} {list' after : List ℕ} → NextAnswered ns xs qs allowance list work r list' after → NextOf sets ns rs allowance list work r list' after
     plain_next n = let p = next_passed sets ns rs (length list) (length work) e in asks_next work p.0 (plain_all sets ns) is asked e n
 
-  module _ (s : List ℕ) (e : named_next_check s sets ns rs (length list) (length work) ≡ Fine) (is : xs ≡ map (cue_of (masked (in_set sets)) (other (entries_in s))) rs) (asked : qs ≡ asks (masked (in_set sets)) (other (entries_in s)) ns) where
+  module _ (s : List ℕ) (e : named_next_check s sets ns rs (length list) (length work) ≡ Ok tt) (is : xs ≡ map (cue_of (masked (in_set sets)) (other (entries_in s))) rs) (asked : qs ≡ asks (masked (in_set sets)) (other (entries_in s)) ns) where
     lists : ListsPassed Beginning s sets ns rs
     lists = named_next_lists s sets ns rs (length list) (length work) e
 

@@ -1,8 +1,8 @@
 -- What the helpers of `next` and `next_named` promise: 14, the numbers whose asks are answered, and what comes of a search by cues with the
 -- asks of all numbers. Definitions only. Assumes nothing.
-use Rattle.std.specs.Prelude.{ℕ, ◌≤◌, cond, ◌≡◌, List, [], ◌∷◌, map, eqb, leb, length, take}
+use Rattle.std.specs.Prelude.{ℕ, ◌≤◌, cond, ◌≡◌, List, [], ◌∷◌, map, eqb, leb, length, take, Result, ⊤}
 use Rattle.calculus.specs.Ahead.{Begins, entered}
-use Rattle.flow.specs.declared.Check.{Check}
+use Rattle.flow.specs.declared.Refusal.{Refusal}
 use Rattle.flow.specs.Records.{all_numbers}
 use Rattle.flow.specs.Refusals.{count}
 use Rattle.flow.specs.Checks.{first, grounds}
@@ -17,7 +17,7 @@ use Rattle.ahead.specs.declared.answer.Next.TheVariants.{Listed, Undecided}
 use Rattle.ahead.specs.Told.{numbers_wanted, next_room_order}
 
 -- 14
-abbrev pub next_room_check : List ℕ → List ℕ → ℕ → ℕ → Check
+abbrev pub next_room_check : List ℕ → List ℕ → ℕ → ℕ → Result ⊤ Refusal
 next_room_check ns rs numbers room = first (grounds (next_room_order ns rs numbers room))
 
 -- the numbers whose asks are answered

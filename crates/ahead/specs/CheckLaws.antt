@@ -1,13 +1,11 @@
 -- The checks of `next` and `next_named` as the code comes to them, one after the other, and what is known where nothing is refused
 -- (`next_passed`, `named_next_lists`, `named_next_passed`). Assumes nothing.
-use Rattle.std.specs.Prelude.{ℕ, ◌≤◌, true, false, ◌||◌, ◌≡◌, List, [], ◌∷◌}
+use Rattle.std.specs.Prelude.{ℕ, ◌≤◌, true, false, ◌||◌, ◌≡◌, List, [], ◌∷◌, Result, Ok, Err, ⊤}
 use Rattle.std.proofs.Common.{sym, ◌∙◌}
 use Rattle.std.proofs.Math.Path.{ap}
 use borrow.Author.Tests.{ltb-false}
 use Rattle.std.proofs.Math.Dec.{ltb}
 use Rattle.flow.specs.declared.Refusal.{Refusal}
-use Rattle.flow.specs.declared.Check.{Check}
-use Rattle.flow.specs.declared.Check.TheVariants.{Fine, Refused}
 use Rattle.flow.specs.declared.Extent.TheVariants.{Beginning}
 use Rattle.flow.specs.Tests.{is_false, neither_one, neither_two}
 use Rattle.flow.specs.Refusals.{ground_of}
@@ -33,10 +31,10 @@ module _ (ns rs : List ℕ) (numbers room : ℕ) where
     pub next_room_refuses : (ltb numbers numbers_wanted || ltb room wanted) ≡ true → refused 14 0 ≡ next_room_check ns rs numbers room
     next_room_refuses t = sym (single_held 14 0 (no_room ns rs numbers room) (no_room_is ∙ t))
 
-    pub next_room_passes : (ltb numbers numbers_wanted || ltb room wanted) ≡ false → Fine ≡ next_room_check ns rs numbers room
+    pub next_room_passes : (ltb numbers numbers_wanted || ltb room wanted) ≡ false → Ok tt ≡ next_room_check ns rs numbers room
     next_room_passes t = sym (single_passed 14 0 (no_room ns rs numbers room) (no_room_is ∙ t))
 
-  next_room_enough : next_room_check ns rs numbers room ≡ Fine → (room_wanted ns rs ≤ room) × (numbers_wanted ≤ numbers)
+  next_room_enough : next_room_check ns rs numbers room ≡ Ok tt → (room_wanted ns rs ≤ room) × (numbers_wanted ≤ numbers)
   unfolding no_room too_short
   next_room_enough e = by ((fine_exactly (ground_of 14 0 (no_room ns rs numbers room) ∷ [])).0 e)
     where
@@ -54,14 +52,14 @@ module _ (sets ns rs : List ℕ) (numbers room : ℕ) where
   unfolding next_check
   next_parts = plain_then Beginning sets ns rs (next_room_order ns rs numbers room)
 
-  pub next_table_refuses : {c : Check} {r : Refusal} → c ≡ table_check sets ns → c ≡ Refused r → c ≡ next_check sets ns rs numbers room
+  pub next_table_refuses : {c : Result ⊤ Refusal} {r : Refusal} → c ≡ table_check sets ns → c ≡ Err r → c ≡ next_check sets ns rs numbers room
   next_table_refuses q h = q ∙ or_else_refused _ (sym q ∙ h) ∙ sym next_parts
 
-  module _ (table : table_check sets ns ≡ Fine) where
-    pub next_records_refuse : {c : Check} {r : Refusal} → c ≡ records_check Beginning ns rs → c ≡ Refused r → c ≡ next_check sets ns rs numbers room
+  module _ (table : table_check sets ns ≡ Ok tt) where
+    pub next_records_refuse : {c : Result ⊤ Refusal} {r : Refusal} → c ≡ records_check Beginning ns rs → c ≡ Err r → c ≡ next_check sets ns rs numbers room
     next_records_refuse q h = q ∙ or_else_refused _ (sym q ∙ h) ∙ or_else_fine _ table ∙ sym next_parts
 
-    pub next_room_last : {c : Check} → records_check Beginning ns rs ≡ Fine → c ≡ next_room_check ns rs numbers room → c ≡ next_check sets ns rs numbers room
+    pub next_room_last : {c : Result ⊤ Refusal} → records_check Beginning ns rs ≡ Ok tt → c ≡ next_room_check ns rs numbers room → c ≡ next_check sets ns rs numbers room
     next_room_last list q = q ∙ or_else_fine _ list ∙ or_else_fine _ table ∙ sym next_parts
 
   -- with names
@@ -70,15 +68,15 @@ module _ (sets ns rs : List ℕ) (numbers room : ℕ) where
     unfolding named_next_check
     named_next_parts = lists_then Beginning s sets ns rs (next_room_order ns rs numbers room)
 
-    pub next_lists_refuse : {c : Check} {r : Refusal} → c ≡ lists_check Beginning s sets ns rs → c ≡ Refused r → c ≡ named_next_check s sets ns rs numbers room
+    pub next_lists_refuse : {c : Result ⊤ Refusal} {r : Refusal} → c ≡ lists_check Beginning s sets ns rs → c ≡ Err r → c ≡ named_next_check s sets ns rs numbers room
     next_lists_refuse q h = q ∙ or_else_refused _ (sym q ∙ h) ∙ sym named_next_parts
 
-    pub named_next_room_last : {c : Check} → lists_check Beginning s sets ns rs ≡ Fine → c ≡ next_room_check ns rs numbers room → c ≡ named_next_check s sets ns rs numbers room
+    pub named_next_room_last : {c : Result ⊤ Refusal} → lists_check Beginning s sets ns rs ≡ Ok tt → c ≡ next_room_check ns rs numbers room → c ≡ named_next_check s sets ns rs numbers room
     named_next_room_last lists q = q ∙ or_else_fine _ lists ∙ sym named_next_parts
 
 ---- Nothing is refused ----
 
-pub next_passed : (sets ns rs : List ℕ) (numbers room : ℕ) → next_check sets ns rs numbers room ≡ Fine → Passed Beginning ns rs room × (259 ≤ numbers)
+pub next_passed : (sets ns rs : List ℕ) (numbers room : ℕ) → next_check sets ns rs numbers room ≡ Ok tt → Passed Beginning ns rs room × (259 ≤ numbers)
 next_passed sets ns rs numbers room e =
     let last = next_room_check ns rs numbers room in
     let a = both_fine (table_check sets ns) (or_else_check (records_check Beginning ns rs) last) (sym (next_parts sets ns rs numbers room) ∙ e) in
@@ -86,8 +84,8 @@ next_passed sets ns rs numbers room e =
     let enough = next_room_enough ns rs numbers room b.1 in
     (record { table = fine_table ns sets a.0; records = b.0; enough = enough.0 }, enough.1)
 
-module _ (s sets ns rs : List ℕ) (numbers room : ℕ) (e : named_next_check s sets ns rs numbers room ≡ Fine) where
-  parts : (lists_check Beginning s sets ns rs ≡ Fine) × (next_room_check ns rs numbers room ≡ Fine)
+module _ (s sets ns rs : List ℕ) (numbers room : ℕ) (e : named_next_check s sets ns rs numbers room ≡ Ok tt) where
+  parts : (lists_check Beginning s sets ns rs ≡ Ok tt) × (next_room_check ns rs numbers room ≡ Ok tt)
   parts = both_fine (lists_check Beginning s sets ns rs) (next_room_check ns rs numbers room) (sym (named_next_parts sets ns rs numbers room s) ∙ e)
 
   pub named_next_lists : ListsPassed Beginning s sets ns rs

@@ -11,37 +11,42 @@ ghost use Rattle.ahead.specs.Outcome.{next_check, named_next_check, NextOf, Name
 ghost use Rattle.ahead.specs.Answering.{next_room_check, picked, NextReady, NextAnswered};
 
 use answer::{Found, Next};
-use flow::{Check, Extent, Refusal};
+use flow::{Extent, Refusal};
 use search::Out;
 
 // 14, with so many numbers and so many work bytes lent.
-fn check_next_room(nodes: &[u16], beginning: &[u16], numbers: usize, room: usize) -> Check
+fn check_next_room(
+    nodes: &[u16],
+    beginning: &[u16],
+    numbers: usize,
+    room: usize,
+) -> Result<(), Refusal>
     requires { (length nodes.now ≤ 192) × (length beginning.now ≤ 256) }
     ensures { result ≡ next_room_check nodes.now beginning.now numbers room }
 {
     if (numbers < matching::NUMBERS)
         | (room < search::room_wanted(nodes.len() / 3, beginning.len()))
     {
-        return Check::Refused(Refusal {
+        return Err(Refusal {
             number: flow::NO_ROOM,
             place: 0,
         });
     }
-    Check::Fine
+    Ok(())
 }
 
 // 1 to 9, 11 to 14, with 22 and 23.
-fn check_next(nodes: &[u16], beginning: &[u16], sets: &[u8], numbers: usize, room: usize) -> Check
+fn check_next(
+    nodes: &[u16],
+    beginning: &[u16],
+    sets: &[u8],
+    numbers: usize,
+    room: usize,
+) -> Result<(), Refusal>
     ensures { result ≡ next_check sets.now nodes.now beginning.now numbers room }
 {
-    let table = flow::check_table(nodes, sets);
-    let Check::Fine = table else {
-        return table;
-    };
-    let list = flow::check_records(nodes, beginning, Extent::Beginning);
-    let Check::Fine = list else {
-        return list;
-    };
+    flow::check_table(nodes, sets)?;
+    flow::check_records(nodes, beginning, Extent::Beginning)?;
     check_next_room(nodes, beginning, numbers, room)
 }
 
@@ -53,13 +58,10 @@ fn check_next_named(
     sets: &[u8],
     numbers: usize,
     room: usize,
-) -> Check
+) -> Result<(), Refusal>
     ensures { result ≡ named_next_check names.now sets.now nodes.now beginning.now numbers room }
 {
-    let lists = format::check_lists(names, nodes, beginning, sets, Extent::Beginning);
-    let Check::Fine = lists else {
-        return lists;
-    };
+    format::check_lists(names, nodes, beginning, sets, Extent::Beginning)?;
     check_next_room(nodes, beginning, numbers, room)
 }
 
@@ -101,7 +103,7 @@ fn next_by(
         Out::Back(trip) => {
             let length = write_listed(asks, list);
             Next::Listed(Found {
-                length: length,
+                length,
                 count: allowance - trip.left,
             })
         }
@@ -120,8 +122,7 @@ pub fn next(
 ) -> Next
     ensures { NextOf sets.now nodes.now beginning.now allowance list.old work.old result list.new work.new }
 {
-    let found = check_next(nodes, beginning, sets, list.len(), work.len());
-    if let Check::Refused(refusal) = found {
+    if let Err(refusal) = check_next(nodes, beginning, sets, list.len(), work.len()) {
         return Next::Refused(refusal);
     }
     let mut cues = [0u64; 256];
@@ -145,8 +146,7 @@ pub fn next_named(
 ) -> Next
     ensures { NamedNextOf names.now sets.now nodes.now beginning.now allowance list.old work.old result list.new work.new }
 {
-    let found = check_next_named(names, nodes, beginning, sets, list.len(), work.len());
-    if let Check::Refused(refusal) = found {
+    if let Err(refusal) = check_next_named(names, nodes, beginning, sets, list.len(), work.len()) {
         return Next::Refused(refusal);
     }
     let mut cues = [0u64; 256];

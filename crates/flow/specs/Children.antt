@@ -1,5 +1,5 @@
 -- What the conditions 6 to 8 say of each child where they do not hold, and how marks of taken children and the sorts of the nodes passed grow. Assumes nothing.
-use Rattle.std.specs.Prelude.{ℕ, suc, ◌+◌, ◌<◌, ◌≡◌, true, ◌&&◌, ◌||◌, List, T, set, replicate}
+use Rattle.std.specs.Prelude.{ℕ, suc, ◌+◌, ◌<◌, ◌≡◌, true, ◌&&◌, ◌||◌, List, T, set, replicate, Ok}
 use Rattle.std.proofs.Math.Path.{refl, ap, ap₂}
 use Rattle.std.proofs.Common.{sym, ◌∙◌, ⊎_elim, arith, eq-or-lt_of_le, add-one, length-set, get_or-set_same, get_or-set_other}
 use Rattle.std.proofs.Math.Bool.{Bool, false, not, xor, or-true, or-false, or_assoc}
@@ -11,7 +11,6 @@ use Rattle.flow.specs.Tests.{is_false, not_not, neither_one, neither_two, then_f
 use Rattle.flow.specs.Kinds.{node, form, is_standard, one_of, two_of}
 use Rattle.flow.specs.Refusals.{has_one, has_two, not_lower, wrong_sort, child_taken, taken, is_child, count, unknown_kind, wrong_field, node_grounds, nobodys_child, child_grounds}
 use Rattle.flow.specs.Checks.{refused, first}
-use Rattle.flow.specs.declared.Check.TheVariants.{Fine}
 use Rattle.flow.specs.FirstRefusal.{None, more, single_held, single_passed}
 use Rattle.flow.specs.Forms.{fields, field_fault, low_fault, sort_fault, taken_fault, with_child, with_children, Within, Marks, Sorts}
 pub use Rattle.flow.specs.Fine.{FineNode}
@@ -106,7 +105,7 @@ module _ (ns : List ℕ) (m : List Bool) (marks : Marks ns (count ns) m) (i : �
   unfolding child_grounds
   nobody_held b e t = single_held 9 i (nobodys_child ns i) (nobody_is b e ∙ t)
 
-  pub nobody_passed : (b : Bool) → b ≡ get_or m i false → not b ≡ false → first (child_grounds ns i) ≡ Fine
+  pub nobody_passed : (b : Bool) → b ≡ get_or m i false → not b ≡ false → first (child_grounds ns i) ≡ Ok tt
   unfolding child_grounds
   nobody_passed b e t = single_passed 9 i (nobodys_child ns i) (nobody_is b e ∙ t)
 

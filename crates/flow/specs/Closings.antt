@@ -1,12 +1,11 @@
 -- Check 13 while the records are gone through: how many closings are still to come (`Passed`), or may still come in a beginning
 -- (`PassedOpen`). Assumes nothing.
 use Prim.Native.Nat.{ℕ, zero, suc, ◌+◌, ◌-◌, ◌<◌, ◌≤◌}
-use Rattle.std.specs.Prelude.{◌≡◌, refl, Bool, true, false, cond, List, [], ◌∷◌, ◌≢◌, length, get_or, drop}
+use Rattle.std.specs.Prelude.{◌≡◌, refl, Bool, true, false, cond, List, [], ◌∷◌, ◌≢◌, length, get_or, drop, Ok}
 use Rattle.std.proofs.Common.{sym, ◌∙◌, add-one, drop_of_length-le, length-drop, drop-cons}
 use Rattle.std.proofs.Math.Path.{ap}
 use Rattle.std.proofs.Math.Bool.{not}
 use native.Mathlib.Omega.{arith}
-use Rattle.flow.specs.declared.Check.TheVariants.{Fine}
 use Rattle.flow.specs.declared.Extent.{Extent}
 use Rattle.flow.specs.declared.Extent.TheVariants.{Whole, Beginning}
 use Rattle.flow.specs.Kinds.{node, is_standard}
@@ -218,7 +217,7 @@ module _ (rs : List ℕ) (allowed : ℕ) where
 
 -- by whether the closings are wrong
 module _ (extent : Extent) (ns rs : List ℕ) where
-  closings_pass : wrong_closings extent ns rs ≡ false → closings_check extent ns rs ≡ Fine
+  closings_pass : wrong_closings extent ns rs ≡ false → closings_check extent ns rs ≡ Ok tt
   unfolding closings_check
   closings_pass = single_passed 13 (closings_place extent ns rs) (wrong_closings extent ns rs)
 
@@ -227,7 +226,7 @@ module _ (extent : Extent) (ns rs : List ℕ) where
   closings_refuse place e q = single_held 13 (closings_place extent ns rs) (wrong_closings extent ns rs) e ∙ ap (refused 13) (sym q)
 
 module _ (ns rs : List ℕ) where
-  pub closings_fine : closed rs (closings_wanted ns) ≡ true → closings_check Whole ns rs ≡ Fine
+  pub closings_fine : closed rs (closings_wanted ns) ≡ true → closings_check Whole ns rs ≡ Ok tt
   unfolding wrong_closings
   closings_fine e = closings_pass Whole ns rs (ap not e)
 
@@ -235,7 +234,7 @@ module _ (ns rs : List ℕ) where
   unfolding wrong_closings closings_place
   closings_refused place e q = closings_refuse Whole ns rs place (ap not e) q
 
-  pub open_fine : too_many_closings rs (closings_allowed ns) ≡ false → closings_check Beginning ns rs ≡ Fine
+  pub open_fine : too_many_closings rs (closings_allowed ns) ≡ false → closings_check Beginning ns rs ≡ Ok tt
   unfolding wrong_closings
   open_fine e = closings_pass Beginning ns rs e
 

@@ -1,7 +1,7 @@
 -- What is known of a table that is not refused: how many nodes it has, that children are lower and of the right sort, that each
 -- node but the last is a child exactly once; so the table is a tree. Assumes nothing.
 use Prim.Native.Nat.{ℕ, zero, suc, ◌+◌, ◌-◌, ◌%◌, ◌<◌, ◌≤◌}
-use Rattle.std.specs.Prelude.{◌≡◌, not, ◌&&◌, ◌||◌, List, ◌≢◌, ltb, length}
+use Rattle.std.specs.Prelude.{◌≡◌, not, ◌&&◌, ◌||◌, List, ◌≢◌, ltb, length, Ok}
 use Rattle.std.proofs.Math.Path.{refl, ap}
 use Rattle.std.proofs.Common.{sym, ◌∙◌, subst, eqb→eq}
 use Rattle.std.proofs.Math.Bool.{Bool, true, false, xor}
@@ -10,7 +10,6 @@ use Rattle.std.proofs.Math.Dec.{T, eqb, eqb_refl}
 use Rattle.std.proofs.Math.ListN.{get_or-eq_default}
 use borrow.Author.Tests.{eqb-true, eqb-false, ltb-true, ltb-false, not-false}
 use Rattle.calculus.proofs.Members.{or_in_left, or_in_right, and_in, and_left, and_right}
-use Rattle.flow.specs.declared.Check.TheVariants.{Fine}
 use Rattle.flow.specs.Shapes.{Kid, kid1, kid2}
 use Rattle.flow.specs.Trees.{Tree}
 use Rattle.flow.specs.declared.Node.{Node}
@@ -45,7 +44,7 @@ module _ (ns : List ℕ) where
         child = λ i h. fine_child i (none_each (child_grounds ns) 0 (count ns - 1) i m.1 (omega arith) (omega arith));
       }
 
-  pub fine_table : (sets : List ℕ) → table_check sets ns ≡ Fine → FineTable ns
+  pub fine_table : (sets : List ℕ) → table_check sets ns ≡ Ok tt → FineTable ns
   unfolding table_check
   fine_table sets e = parts_fine sets ((fine_exactly (grounds (table_order sets ns))).0 e)
 

@@ -2,7 +2,8 @@
 -- refused exactly if no ground holds. Said once, of any list of grounds; then what code needs to know of lists in parts and of
 -- orders. What a check answers of any order of rounds is in the crate above (ExactlyWhen). Assumes nothing.
 use Prim.Native.Nat.{ℕ, zero, suc, ◌+◌, ◌-◌, ◌%◌, ◌<◌, ◌≤◌}
-use Rattle.std.specs.Prelude.{◌≡◌, Bool, not, ◌↔◌, T, eqb, length}
+use Rattle.std.proofs.lemmas.Result.{err_from_is_err_and}
+use Rattle.std.specs.Prelude.{IsErrAnd, ◌≡◌, Bool, not, ◌↔◌, T, eqb, length, Result, Ok, Err, ⊤}
 use Rattle.std.proofs.Math.Path.{refl, ap}
 use Rattle.std.proofs.Common.{sym, ◌∙◌, subst, add-one, eq-or-lt_of_le, ⊎_elim, eqb-true, ltb-false}
 use Rattle.std.proofs.Math.Bool.{true, false}
@@ -11,8 +12,6 @@ use native.Mathlib.Omega.{arith}
 use Rattle.std.proofs.lemmas.Bool.{eqb-false, not-false}
 use Rattle.flow.specs.Tests.{is_true, is_false}
 use Rattle.flow.specs.declared.Refusal.{Refusal}
-use Rattle.flow.specs.declared.Check.{Check}
-use Rattle.flow.specs.declared.Check.TheVariants.{Fine, Refused}
 use Rattle.flow.specs.declared.Extent.{Extent}
 use Rattle.flow.specs.declared.Extent.TheVariants.{Whole, Beginning}
 use Rattle.flow.specs.Legends.{set_count}
@@ -22,13 +21,13 @@ use Rattle.flow.specs.Earliest.{Nowhere, end, not_lone, not_sweep}
 use Rattle.flow.specs.Fine.{FineLength}
 pub use Rattle.flow.specs.Earliest.{First, here, later, None, none, more}
 
-abbrev pub IsFine : Check → Type 0
-IsFine Fine = Unit {0}
-IsFine (Refused r) = ⊥
+abbrev pub IsFine : Result ⊤ Refusal → Type 0
+IsFine (Ok tt) = Unit {0}
+IsFine (Err r) = ⊥
 
-abbrev refusal_or : Refusal → Check → Refusal
-refusal_or q Fine = q
-refusal_or q (Refused r) = r
+abbrev refusal_or : Refusal → Result ⊤ Refusal → Refusal
+refusal_or q (Ok tt) = q
+refusal_or q (Err r) = r
 
 not_held : {b : Bool} → b ≡ false → T (not b)
 not_held e = subst (λ (x : Bool). T (not x)) (sym e) tt
@@ -38,7 +37,7 @@ is_held e = subst T (sym e) tt
 
 -- the check of one ground more, by what the ground says
 module _ (g : Ground) (gs : List Ground) where
-  pub first_held : g.holds ≡ true → first (g ∷ gs) ≡ Refused g.refusal
+  pub first_held : g.holds ≡ true → first (g ∷ gs) ≡ Err g.refusal
   unfolding first answer or_else_check
   first_held e = rw e
 
@@ -47,46 +46,46 @@ module _ (g : Ground) (gs : List Ground) where
   first_passed e = rw e
 
 module _ (r : Refusal) where
-  answers : (gs : List Ground) → first gs ≡ Refused r → First r gs
+  answers : (gs : List Ground) → first gs ≡ Err r → First r gs
   unfolding first
   answers [] e = absurd (subst IsFine e tt)
   answers (g ∷ gs) e = by g.holds refl (answers gs)
     where
-      by : (b : Bool) → g.holds ≡ b → (first gs ≡ Refused r → First r gs) → First r (g ∷ gs)
+      by : (b : Bool) → g.holds ≡ b → (first gs ≡ Err r → First r gs) → First r (g ∷ gs)
       by true h next = here (ap (refusal_or r) (sym e ∙ first_held g gs h)) (is_held h)
       by false h next = later (not_held h) (next (sym (first_passed g gs h) ∙ e))
 
-  answered : (gs : List Ground) → First r gs → first gs ≡ Refused r
-  answered gs (here {g} {gs = hs} e t) = first_held g hs (is_true g.holds t) ∙ ap Refused (sym e)
+  answered : (gs : List Ground) → First r gs → first gs ≡ Err r
+  answered gs (here {g} {gs = hs} e t) = first_held g hs (is_true g.holds t) ∙ ap Err (sym e)
   answered gs (later {g} {gs = hs} t f) = first_passed g hs (is_false g.holds t) ∙ answered hs f
 
-passes : (gs : List Ground) → first gs ≡ Fine → None gs
+passes : (gs : List Ground) → first gs ≡ Ok tt → None gs
 passes [] e = none
 passes (g ∷ gs) e = by g.holds refl (passes gs)
   where
-    by : (b : Bool) → g.holds ≡ b → (first gs ≡ Fine → None gs) → None (g ∷ gs)
+    by : (b : Bool) → g.holds ≡ b → (first gs ≡ Ok tt → None gs) → None (g ∷ gs)
     by true h next = absurd (subst IsFine (sym e ∙ first_held g gs h) tt)
     by false h next = more (not_held h) (next (sym (first_passed g gs h) ∙ e))
 
-passed : (gs : List Ground) → None gs → first gs ≡ Fine
+passed : (gs : List Ground) → None gs → first gs ≡ Ok tt
 unfolding first
 passed gs none = refl
 passed gs (more {g} {gs = hs} t n) = first_passed g hs (is_false g.holds t) ∙ passed hs n
 
 ---- Exactly when ----
 
-pub refused_exactly : (gs : List Ground) (r : Refusal) → (first gs ≡ Refused r) ↔ First r gs
+pub refused_exactly : (gs : List Ground) (r : Refusal) → (first gs ≡ Err r) ↔ First r gs
 refused_exactly gs r = (answers r gs, answered r gs)
 
-pub fine_exactly : (gs : List Ground) → (first gs ≡ Fine) ↔ None gs
+pub fine_exactly : (gs : List Ground) → (first gs ≡ Ok tt) ↔ None gs
 fine_exactly gs = (passes gs, passed gs)
 
 ---- Parts of a list of grounds ----
 
-or_else_after : (a b c : Check) → or_else_check (or_else_check a b) c ≡ or_else_check a (or_else_check b c)
+or_else_after : (a b c : Result ⊤ Refusal) → or_else_check (or_else_check a b) c ≡ or_else_check a (or_else_check b c)
 unfolding or_else_check
-or_else_after Fine b c = refl
-or_else_after (Refused r) b c = refl
+or_else_after (Ok tt) b c = refl
+or_else_after (Err r) b c = refl
 
 pub first_append : (gs hs : List Ground) → first (gs ++ hs) ≡ or_else_check (first gs) (first hs)
 unfolding first or_else_check
@@ -120,15 +119,15 @@ module _ (f : ℕ → List Ground) (i n : ℕ) where
   each_first : i < n → first (each f i (n - i)) ≡ or_else_check (first (f i)) (first (each f (i + 1) (n - (i + 1))))
   each_first h = ap first (each_next f i n h) ∙ first_append (f i) (each f (i + 1) (n - (i + 1)))
 
-  pub each_held : i < n → (r : Refusal) → first (f i) ≡ Refused r → first (each f i (n - i)) ≡ Refused r
+  pub each_held : i < n → (r : Refusal) → first (f i) ≡ Err r → first (each f i (n - i)) ≡ Err r
   unfolding or_else_check
-  each_held h r e = each_first h ∙ ap (λ (c : Check). or_else_check c (first (each f (i + 1) (n - (i + 1))))) e
+  each_held h r e = each_first h ∙ ap (λ (c : Result ⊤ Refusal). or_else_check c (first (each f (i + 1) (n - (i + 1))))) e
 
-  pub each_passed : i < n → first (f i) ≡ Fine → first (each f i (n - i)) ≡ first (each f (i + 1) (n - (i + 1)))
+  pub each_passed : i < n → first (f i) ≡ Ok tt → first (each f i (n - i)) ≡ first (each f (i + 1) (n - (i + 1)))
   unfolding or_else_check
-  each_passed h e = each_first h ∙ ap (λ (c : Check). or_else_check c (first (each f (i + 1) (n - (i + 1))))) e
+  each_passed h e = each_first h ∙ ap (λ (c : Result ⊤ Refusal). or_else_check c (first (each f (i + 1) (n - (i + 1))))) e
 
-  pub each_over : n ≤ i → first (each f i (n - i)) ≡ Fine
+  pub each_over : n ≤ i → first (each f i (n - i)) ≡ Ok tt
   unfolding each first
   each_over h = let e : n - i ≡ zero = omega arith in rw e
 
@@ -140,7 +139,7 @@ module _ (number place : ℕ) (b : Bool) where
   pub single_held : b ≡ true → first (ground_of number place b ∷ []) ≡ refused number place
   single_held e = first_held (ground_of number place b) [] e
 
-  pub single_passed : b ≡ false → first (ground_of number place b ∷ []) ≡ Fine
+  pub single_passed : b ≡ false → first (ground_of number place b ∷ []) ≡ Ok tt
   unfolding first
   single_passed e = first_passed (ground_of number place b) [] e
 
@@ -173,21 +172,25 @@ none_nowhere (sweep m f ∷ order) n =
     let each_none : (j : ℕ) → j < m → None (f j) = λ j h. none_each f 0 m j p.0 (omega arith) (omega arith) in
     not_sweep each_none (none_nowhere order p.1)
 
-pub fine_nowhere : (order : List Round) → first (grounds order) ≡ Fine → Nowhere order
+pub fine_nowhere : (order : List Round) → first (grounds order) ≡ Ok tt → Nowhere order
 fine_nowhere order e = none_nowhere order ((fine_exactly (grounds order)).0 e)
 
-pub both_fine : (a b : Check) → or_else_check a b ≡ Fine → (a ≡ Fine) × (b ≡ Fine)
+pub both_fine : (a b : Result ⊤ Refusal) → or_else_check a b ≡ Ok tt → (a ≡ Ok tt) × (b ≡ Ok tt)
 unfolding or_else_check
-both_fine Fine b e = (refl, e)
-both_fine (Refused r) b e = absurd (subst IsFine (sym e) tt)
+both_fine (Ok tt) b e = (refl, e)
+both_fine (Err r) b e = absurd (subst IsFine (sym e) tt)
 
-pub or_else_refused : {a : Check} {r : Refusal} (b : Check) → a ≡ Refused r → a ≡ or_else_check a b
+pub or_else_refused : {a : Result ⊤ Refusal} {r : Refusal} (b : Result ⊤ Refusal) → a ≡ Err r → a ≡ or_else_check a b
 unfolding or_else_check
-or_else_refused {a} {r} b e = e ∙ sym (ap (λ (x : Check). or_else_check x b) e)
+or_else_refused {a} {r} b e = e ∙ sym (ap (λ (x : Result ⊤ Refusal). or_else_check x b) e)
 
-pub or_else_fine : {a : Check} (b : Check) → a ≡ Fine → b ≡ or_else_check a b
+pub or_else_fine : {a : Result ⊤ Refusal} (b : Result ⊤ Refusal) → a ≡ Ok tt → b ≡ or_else_check a b
 unfolding or_else_check
-or_else_fine b e = sym (ap (λ (x : Check). or_else_check x b) e)
+or_else_fine b e = sym (ap (λ (x : Result ⊤ Refusal). or_else_check x b) e)
+
+-- what `?` hands on is the refusal that came
+pub handed_on : (x r : Result ⊤ Refusal) {e : Refusal} → x ≡ Err e → IsErrAnd r (λ y. y ≡ e) → r ≡ x
+handed_on x r p q = let (y, is, same) = err_from_is_err_and r q in is ∙ ap Err same ∙ sym p
 
 pub table_parts : (sets ns : List ℕ) → table_check sets ns ≡ or_else_check (table_length_check ns) (or_else_check (sets_check sets) (nodes_check (set_count sets) ns))
 unfolding table_check table_length_check sets_check nodes_check
@@ -204,7 +207,7 @@ records_parts extent ns rs =
 ---- Lengths ----
 
 -- 1 to 3 do not hold
-pub fine_length : (ns : List ℕ) → table_length_check ns ≡ Fine → FineLength ns
+pub fine_length : (ns : List ℕ) → table_length_check ns ≡ Ok tt → FineLength ns
 unfolding table_length_check no_nodes not_whole too_many_nodes
 fine_length ns e = by (fine_nowhere (table_length_order ns) e)
   where
@@ -216,7 +219,7 @@ fine_length ns e = by (fine_nowhere (table_length_order ns) e)
         record { some = omega (arith, na, nb); few = omega (arith, nb, nc); whole = omega (arith, nb) }
 
 -- 10 and 11 do not hold
-pub fine_records_length : (rs : List ℕ) → records_length_check Whole rs ≡ Fine → (1 ≤ length rs) × (length rs ≤ 256)
+pub fine_records_length : (rs : List ℕ) → records_length_check Whole rs ≡ Ok tt → (1 ≤ length rs) × (length rs ≤ 256)
 unfolding records_length_check no_records too_many_records
 fine_records_length rs e = by (fine_nowhere (records_length_order Whole rs) e)
   where
@@ -226,7 +229,7 @@ fine_records_length rs e = by (fine_nowhere (records_length_order Whole rs) e)
         (omega (arith, na), ltb-false 256 (length rs) (is_false (too_many_records rs) b))
 
 -- 11 does not hold
-pub few_records : (extent : Extent) (rs : List ℕ) → records_length_check extent rs ≡ Fine → length rs ≤ 256
+pub few_records : (extent : Extent) (rs : List ℕ) → records_length_check extent rs ≡ Ok tt → length rs ≤ 256
 unfolding records_length_check too_many_records
 few_records Whole rs e = (fine_records_length rs e).1
 few_records Beginning rs e = by (fine_nowhere (records_length_order Beginning rs) e)

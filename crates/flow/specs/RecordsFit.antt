@@ -1,7 +1,7 @@
 -- What is known of records that are not refused: how many they are and that each is an event or a closing (`fine_records`); and that they
 -- have the closings that the table's flow takes (`records_fit`), or as a beginning no closing too many (`records_begin`). So a search can go
 -- through them, whatever their extent (`records_within`). Assumes nothing.
-use Rattle.std.specs.Prelude.{ℕ, suc, ◌<◌, ◌-◌, ◌≡◌, Bool, not, ◌||◌, cond, eqb, length, get_or}
+use Rattle.std.specs.Prelude.{ℕ, suc, ◌<◌, ◌-◌, ◌≡◌, Bool, not, ◌||◌, cond, eqb, length, get_or, Ok}
 use Rattle.std.proofs.Math.Path.{refl}
 use Rattle.std.proofs.Common.{sym, ap, ◌∙◌, subst, arith}
 use Rattle.std.proofs.Math.Bool.{true, false}
@@ -13,7 +13,6 @@ use Rattle.calculus.specs.Records.{Record, event, close, State, std, cmp, Closed
 use Rattle.calculus.specs.Ahead.{Open, OpenTwice, Begins}
 use Rattle.calculus.specs.Within.{Within}
 use Rattle.calculus.proofs.WithinLaws.{fits_within, begins_within}
-use Rattle.flow.specs.declared.Check.TheVariants.{Fine}
 use Rattle.flow.specs.declared.Extent.{Extent}
 use Rattle.flow.specs.declared.Extent.TheVariants.{Whole, Beginning}
 use Rattle.flow.specs.Kinds.{node, is_standard}
@@ -99,7 +98,7 @@ open_twice = open_up 1 OpenTwice OpenTwice.none (λ a rs c. OpenTwice.more c) (�
 ---- Records that pass ----
 
 module _ (extent : Extent) (ns rs : List ℕ) where
-  pub fine_records : records_check extent ns rs ≡ Fine → FineRecords extent ns rs
+  pub fine_records : records_check extent ns rs ≡ Ok tt → FineRecords extent ns rs
   unfolding value_grounds values_check closings_check
   fine_records e =
       let a = both_fine (records_length_check extent rs) (or_else_check (values_check rs) (closings_check extent ns rs)) (sym (records_parts extent ns rs) ∙ e) in
@@ -130,7 +129,7 @@ module _ (legend : Legend) (ns : List ℕ) (fine : FineTable ns) (R : State → 
 
 module _ (ns rs : List ℕ) (legend : Legend) (fine : FineTable ns) where
   -- 13 legend the closings that the root needs
-  pub records_fit : records_check Whole ns rs ≡ Fine → Fits (flow_by legend ns) (records rs)
+  pub records_fit : records_check Whole ns rs ≡ Ok tt → Fits (flow_by legend ns) (records rs)
   unfolding closings_wanted wrong_closings
   records_fit f =
       let c : closed rs (closings_wanted ns) ≡ true = not-false (closed rs (closings_wanted ns)) (fine_records Whole ns rs f).closings in
@@ -139,7 +138,7 @@ module _ (ns rs : List ℕ) (legend : Legend) (fine : FineTable ns) where
       (λ pp h. closed_twice rs (ap (λ (b : Bool). closed rs (cond b 1 2)) (sym h) ∙ c))
 
   -- and in a beginning no closing too many
-  pub records_begin : records_check Beginning ns rs ≡ Fine → Begins (flow_by legend ns) (records rs)
+  pub records_begin : records_check Beginning ns rs ≡ Ok tt → Begins (flow_by legend ns) (records rs)
   unfolding closings_wanted closings_allowed wrong_closings
   records_begin f =
       let c : too_many_closings rs (closings_allowed ns) ≡ false = (fine_records Beginning ns rs f).closings in
@@ -148,6 +147,6 @@ module _ (ns rs : List ℕ) (legend : Legend) (fine : FineTable ns) where
       (λ pp h. open_twice rs (ap (λ (b : Bool). too_many_closings rs (cond b 1 2 - 1)) (sym h) ∙ c))
 
 -- a search can go through records that pass
-pub records_within : (extent : Extent) (ns rs : List ℕ) (legend : Legend) → FineTable ns → records_check extent ns rs ≡ Fine → Within (flow_by legend ns) (records rs)
+pub records_within : (extent : Extent) (ns rs : List ℕ) (legend : Legend) → FineTable ns → records_check extent ns rs ≡ Ok tt → Within (flow_by legend ns) (records rs)
 records_within Whole ns rs legend fine f = fits_within (flow_by legend ns) (records rs) (records_fit ns rs legend fine f)
 records_within Beginning ns rs legend fine f = begins_within (flow_by legend ns) (records rs) (records_begin ns rs legend fine f)

@@ -4,9 +4,8 @@
 // the contracts cite are in specs/. Nothing is written here but marks of the function's own, and no lent slice is changed.
 #![tactic(auto)]
 
-ghost use Rattle.std.specs.Prelude.{◌≡◌, true, false, cond, ◌&&◌, ◌+◌, ◌*◌, ◌-◌, ◌<◌, ◌≤◌, T, ltb, leb, length, get_or, set};
+ghost use Rattle.std.specs.Prelude.{◌≡◌, Ok, true, false, cond, ◌&&◌, ◌+◌, ◌*◌, ◌-◌, ◌<◌, ◌≤◌, T, ltb, leb, length, get_or, set};
 ghost use Rattle.std.specs.Bool.{xor};
-ghost use Rattle.flow.specs.declared.Check.TheVariants.{Fine};
 ghost use Rattle.flow.specs.declared.Extent.TheVariants.{Whole, Beginning};
 ghost use Rattle.flow.specs.Kinds.{node_of, node, one_of, two_of, form, most_sets, operator_set, set_number};
 ghost use Rattle.flow.specs.Forms.{leaf_form, branch_form, fields, field_fault, low_fault, sort_fault, taken_fault, with_child, with_children, Within, Marks, Sorts};
@@ -19,12 +18,6 @@ ghost use Rattle.flow.specs.Checks.{refused, first, each, table_length_check, se
 pub struct Refusal {
     pub number: u16,
     pub place: u32,
-}
-
-#[derive(Clone, Copy)]
-pub enum Check {
-    Fine,
-    Refused(Refusal),
 }
 
 // A record list as it is closed, or a beginning of one: not yet closed, and perhaps empty.
@@ -317,12 +310,12 @@ fn no_record(number: u16) -> bool
     !(is_event(number) | is_closing(number))
 }
 
-fn refuse(number: u16, place: usize) -> Check
+fn refuse(number: u16, place: usize) -> Result<(), Refusal>
     requires { place < 4294967296 }
     ensures { result ≡ refused number place }
 {
-    Check::Refused(Refusal {
-        number: number,
+    Err(Refusal {
+        number,
         place: place as u32,
     })
 }
@@ -424,12 +417,12 @@ fn check_node(
     many: usize,
     marks: &mut [bool; 64],
     sorts: &mut [bool; 64],
-) -> Check
+) -> Result<(), Refusal>
     requires i_in_bounds { 3 * i + 2 < length nodes.now }
     requires i_bound { i < 64 }
     requires marks { Marks nodes.now i marks.old × Sorts nodes.now i sorts.old }
     ensures value { result ≡ first (node_grounds many nodes.now i) }
-    ensures children_noted { result ≡ Fine → Marks nodes.now (i + 1) marks.new × Sorts nodes.now (i + 1) sorts.new }
+    ensures children_noted { result ≡ Ok tt → Marks nodes.now (i + 1) marks.new × Sorts nodes.now (i + 1) sorts.new }
 {
     let decoded = node_at(nodes, i);
     let asked = form_of(decoded);
@@ -454,11 +447,11 @@ fn check_node(
     }
     mark_children(marks, f);
     sorts[i] = asked.standard;
-    Check::Fine
+    Ok(())
 }
 
 // 9: the lowest node that is nobody's child, the last one aside. The marks are those of all nodes.
-fn check_children(nodes: &[u16], marks: &[bool; 64]) -> Check
+fn check_children(nodes: &[u16], marks: &[bool; 64]) -> Result<(), Refusal>
     requires nodes_len_bound { length nodes.now ≤ 192 }
     requires marks { Marks nodes.now (count nodes.now) marks.now }
     ensures { result ≡ first (each (child_grounds nodes.now) 0 (count nodes.now - 1)) }
@@ -471,11 +464,11 @@ fn check_children(nodes: &[u16], marks: &[bool; 64]) -> Check
         }
         i += 1;
     }
-    Check::Fine
+    Ok(())
 }
 
 // 4 to 9, with 22, of at most 64 whole nodes, where so many sets are present.
-pub fn check_nodes(nodes: &[u16], many: usize) -> Check
+pub fn check_nodes(nodes: &[u16], many: usize) -> Result<(), Refusal>
     requires { length nodes.now ≤ 192 }
     ensures { result ≡ nodes_check many nodes.now }
 {
@@ -484,17 +477,14 @@ pub fn check_nodes(nodes: &[u16], many: usize) -> Check
     let mut sorts = [false; 64];
     let mut i = 0;
     while i < n {
-        let found = check_node(nodes, i, many, &mut marks, &mut sorts);
-        if let Check::Refused(refusal) = found {
-            return Check::Refused(refusal);
-        }
+        check_node(nodes, i, many, &mut marks, &mut sorts)?;
         i += 1;
     }
     check_children(nodes, &marks)
 }
 
 // 1 to 3.
-pub fn check_table_length(nodes: &[u16]) -> Check
+pub fn check_table_length(nodes: &[u16]) -> Result<(), Refusal>
     ensures { result ≡ table_length_check nodes.now }
 {
     if nodes.len() == 0 {
@@ -506,36 +496,30 @@ pub fn check_table_length(nodes: &[u16]) -> Check
     if nodes.len() / 3 > MOST_NODES {
         return refuse(TOO_MANY_NODES, 0);
     }
-    Check::Fine
+    Ok(())
 }
 
 // 23 of lent sets.
-pub fn check_sets(sets: &[u8]) -> Check
+pub fn check_sets(sets: &[u8]) -> Result<(), Refusal>
     ensures { result ≡ sets_check sets.now }
 {
     if (sets.len() % SET_BYTES != 0) | (sets.len() > SET_BYTES * MOST_SETS) {
         return refuse(WRONG_SETS, 0);
     }
-    Check::Fine
+    Ok(())
 }
 
 // 1 to 9, with 23 and 22.
-pub fn check_table(nodes: &[u16], sets: &[u8]) -> Check
+pub fn check_table(nodes: &[u16], sets: &[u8]) -> Result<(), Refusal>
     ensures { result ≡ table_check sets.now nodes.now }
 {
-    let length = check_table_length(nodes);
-    let Check::Fine = length else {
-        return length;
-    };
-    let lent = check_sets(sets);
-    let Check::Fine = lent else {
-        return lent;
-    };
+    check_table_length(nodes)?;
+    check_sets(sets)?;
     check_nodes(nodes, sets.len() / SET_BYTES)
 }
 
 // 12, of at most 256 records.
-pub fn check_values(records: &[u16]) -> Check
+pub fn check_values(records: &[u16]) -> Result<(), Refusal>
     requires { length records.now ≤ 256 }
     ensures { result ≡ values_check records.now }
 {
@@ -546,7 +530,7 @@ pub fn check_values(records: &[u16]) -> Check
         }
         i += 1;
     }
-    Check::Fine
+    Ok(())
 }
 
 // How many closings the root takes.
@@ -559,7 +543,7 @@ fn closings_wanted(nodes: &[u16]) -> u16
 }
 
 // 13 of a whole list, of at most 256 records.
-fn check_whole_closings(nodes: &[u16], records: &[u16]) -> Check
+fn check_whole_closings(nodes: &[u16], records: &[u16]) -> Result<(), Refusal>
     requires in_bounds { 3 ≤ length nodes.now }
     requires records_len_bound { length records.now ≤ 256 }
     ensures { result ≡ closings_check Whole nodes.now records.now }
@@ -570,7 +554,7 @@ fn check_whole_closings(nodes: &[u16], records: &[u16]) -> Check
         if is_closing(records[i]) {
             if left == 1 {
                 if i + 1 == records.len() {
-                    return Check::Fine;
+                    return Ok(());
                 }
                 return refuse(13, i + 1);
             }
@@ -582,7 +566,7 @@ fn check_whole_closings(nodes: &[u16], records: &[u16]) -> Check
 }
 
 // 13 of a beginning, of at most 256 records: the last closing that the root wants is one too many.
-fn check_open(nodes: &[u16], records: &[u16]) -> Check
+fn check_open(nodes: &[u16], records: &[u16]) -> Result<(), Refusal>
     requires in_bounds { 3 ≤ length nodes.now }
     requires records_len_bound { length records.now ≤ 256 }
     ensures { result ≡ closings_check Beginning nodes.now records.now }
@@ -598,11 +582,11 @@ fn check_open(nodes: &[u16], records: &[u16]) -> Check
         }
         i += 1;
     }
-    Check::Fine
+    Ok(())
 }
 
 // 13, of at most 256 records.
-pub fn check_closings(nodes: &[u16], records: &[u16], extent: Extent) -> Check
+pub fn check_closings(nodes: &[u16], records: &[u16], extent: Extent) -> Result<(), Refusal>
     requires in_bounds { 3 ≤ length nodes.now }
     requires records_len_bound { length records.now ≤ 256 }
     ensures { result ≡ closings_check extent nodes.now records.now }
@@ -614,7 +598,7 @@ pub fn check_closings(nodes: &[u16], records: &[u16], extent: Extent) -> Check
 }
 
 // 10, of a whole list, and 11.
-pub fn check_records_length(records: &[u16], extent: Extent) -> Check
+pub fn check_records_length(records: &[u16], extent: Extent) -> Result<(), Refusal>
     ensures { result ≡ records_length_check extent records.now }
 {
     if let Extent::Whole = extent {
@@ -625,21 +609,15 @@ pub fn check_records_length(records: &[u16], extent: Extent) -> Check
     if records.len() > MOST_RECORDS {
         return refuse(TOO_MANY_RECORDS, 0);
     }
-    Check::Fine
+    Ok(())
 }
 
 // 10 to 13.
-pub fn check_records(nodes: &[u16], records: &[u16], extent: Extent) -> Check
+pub fn check_records(nodes: &[u16], records: &[u16], extent: Extent) -> Result<(), Refusal>
     requires { 3 ≤ length nodes.now }
     ensures { result ≡ records_check extent nodes.now records.now }
 {
-    let length = check_records_length(records, extent);
-    let Check::Fine = length else {
-        return length;
-    };
-    let values = check_values(records);
-    let Check::Fine = values else {
-        return values;
-    };
+    check_records_length(records, extent)?;
+    check_values(records)?;
     check_closings(nodes, records, extent)
 }

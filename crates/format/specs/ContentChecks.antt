@@ -1,8 +1,8 @@
 -- The first ground of a file's contents that holds, computed: what the checks of src/ answer.
 -- A reader need not believe this file: `contents_exactly` (promises, ContentRefusals) proves that the check answers a refusal exactly
 -- if it is the `Earliest` of `file_order`. Definitions only. Assumes nothing.
-use Rattle.std.specs.Prelude.{ℕ, List, length}
-use Rattle.flow.specs.declared.Check.{Check}
+use Rattle.std.specs.Prelude.{ℕ, List, length, Result, ⊤}
+use Rattle.flow.specs.declared.Refusal.{Refusal}
 use Rattle.flow.specs.declared.Extent.{Extent}
 use Rattle.flow.specs.declared.Extent.TheVariants.{Whole}
 use Rattle.flow.specs.Legends.{set_count}
@@ -23,5 +23,5 @@ events_grounds names rs = each (event_grounds names rs) 0 (length rs)
 unfoldable pub grounds_of : Extent → ℕ → ℕ → List ℕ → List ℕ → List Ground
 grounds_of extent names many ns rs = grounds (content_order extent names many ns rs)
 
-abbrev pub content_check : File → Check
+abbrev pub content_check : File → Result ⊤ Refusal
 content_check f = first (grounds_of Whole (length f.names) (set_count f.sets) f.nodes f.records)

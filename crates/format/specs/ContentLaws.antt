@@ -1,11 +1,9 @@
 -- The checks of a file's contents one after the other: the first that refuses gives the answer; and what is known where none does
 -- (`contents_passed`). Then every event leaf has an entry (`leaf_named`). Assumes nothing.
-use Rattle.std.specs.Prelude.{ℕ, ◌<◌, ◌≤◌, Bool, false, List, [], ◌∷◌, ◌++◌, length, get_or, ◌≡◌}
+use Rattle.std.specs.Prelude.{ℕ, ◌<◌, ◌≤◌, Bool, false, List, [], ◌∷◌, ◌++◌, length, get_or, ◌≡◌, Result, Ok, Err, ⊤}
 use Rattle.std.proofs.Common.{arith, sym, ◌∙◌, ltb-false}
 use Rattle.std.proofs.Math.Path.{ap}
 use Rattle.flow.specs.declared.Refusal.{Refusal}
-use Rattle.flow.specs.declared.Check.{Check}
-use Rattle.flow.specs.declared.Check.TheVariants.{Fine, Refused}
 use Rattle.flow.specs.declared.Extent.{Extent}
 use Rattle.flow.specs.declared.Node.TheVariants.{Event}
 use Rattle.flow.specs.Tests.{is_false, then_false}
@@ -20,13 +18,13 @@ use Rattle.format.specs.ContentChecks.{leaves_grounds, events_grounds, grounds_o
 
 module _ (extent : Extent) (names many : ℕ) (ns rs : List ℕ) where
   -- from each check on
-  abbrev pub leaves_on : Check
+  abbrev pub leaves_on : Result ⊤ Refusal
   leaves_on = or_else_check (first (leaves_grounds names ns)) (first (events_grounds names rs))
 
-  abbrev pub closings_on : Check
+  abbrev pub closings_on : Result ⊤ Refusal
   closings_on = or_else_check (closings_check extent ns rs) leaves_on
 
-  abbrev pub values_on : Check
+  abbrev pub values_on : Result ⊤ Refusal
   values_on = or_else_check (values_check rs) closings_on
 
   pub contents_is : first (grounds_of extent names many ns rs) ≡ or_else_check (nodes_check many ns) values_on
@@ -37,25 +35,25 @@ module _ (extent : Extent) (names many : ℕ) (ns rs : List ℕ) where
       ∙ ap (or_else_check (values_check rs)) (orders_append (closing_order extent ns rs) (names_order names ns rs)
       ∙ ap (or_else_check (closings_check extent ns rs)) (first_append (leaves_grounds names ns) (events_grounds names rs))))
 
-  pub nodes_refused : {c : Check} {r : Refusal} → c ≡ nodes_check many ns → c ≡ Refused r → c ≡ first (grounds_of extent names many ns rs)
+  pub nodes_refused : {c : Result ⊤ Refusal} {r : Refusal} → c ≡ nodes_check many ns → c ≡ Err r → c ≡ first (grounds_of extent names many ns rs)
   nodes_refused e h = e ∙ or_else_refused values_on (sym e ∙ h) ∙ sym contents_is
 
-  module _ (a : nodes_check many ns ≡ Fine) where
-    pub values_refused : {c : Check} {r : Refusal} → c ≡ values_check rs → c ≡ Refused r → c ≡ first (grounds_of extent names many ns rs)
+  module _ (a : nodes_check many ns ≡ Ok tt) where
+    pub values_refused : {c : Result ⊤ Refusal} {r : Refusal} → c ≡ values_check rs → c ≡ Err r → c ≡ first (grounds_of extent names many ns rs)
     values_refused e h = e ∙ or_else_refused closings_on (sym e ∙ h) ∙ or_else_fine values_on a ∙ sym contents_is
 
-    module _ (b : values_check rs ≡ Fine) where
-      pub closings_refused : {c : Check} {r : Refusal} → c ≡ closings_check extent ns rs → c ≡ Refused r → c ≡ first (grounds_of extent names many ns rs)
+    module _ (b : values_check rs ≡ Ok tt) where
+      pub closings_refused : {c : Result ⊤ Refusal} {r : Refusal} → c ≡ closings_check extent ns rs → c ≡ Err r → c ≡ first (grounds_of extent names many ns rs)
       closings_refused e h = e ∙ or_else_refused leaves_on (sym e ∙ h) ∙ or_else_fine closings_on b ∙ or_else_fine values_on a ∙ sym contents_is
 
-      module _ (c : closings_check extent ns rs ≡ Fine) where
+      module _ (c : closings_check extent ns rs ≡ Ok tt) where
         leaves_last : leaves_on ≡ first (grounds_of extent names many ns rs)
         leaves_last = or_else_fine leaves_on c ∙ or_else_fine closings_on b ∙ or_else_fine values_on a ∙ sym contents_is
 
-        pub leaves_refused : {x : Check} {r : Refusal} → x ≡ first (leaves_grounds names ns) → x ≡ Refused r → x ≡ first (grounds_of extent names many ns rs)
+        pub leaves_refused : {x : Result ⊤ Refusal} {r : Refusal} → x ≡ first (leaves_grounds names ns) → x ≡ Err r → x ≡ first (grounds_of extent names many ns rs)
         leaves_refused e h = e ∙ or_else_refused (first (events_grounds names rs)) (sym e ∙ h) ∙ leaves_last
 
-        pub events_last : {x : Check} → first (leaves_grounds names ns) ≡ Fine → x ≡ first (events_grounds names rs) → x ≡ first (grounds_of extent names many ns rs)
+        pub events_last : {x : Result ⊤ Refusal} → first (leaves_grounds names ns) ≡ Ok tt → x ≡ first (events_grounds names rs) → x ≡ first (grounds_of extent names many ns rs)
         events_last d e = e ∙ or_else_fine (first (events_grounds names rs)) d ∙ leaves_last
 
 ---- Nothing is refused ----
@@ -66,13 +64,13 @@ none_single number place b (more t n) = is_false b t
 
 -- the parts of the check, all passed
 pub record ContentsPassed (extent : Extent) (names many : ℕ) (ns rs : List ℕ) : Type 0 where
-  pub nodes : nodes_check many ns ≡ Fine
-  pub values : values_check rs ≡ Fine
-  pub closings : closings_check extent ns rs ≡ Fine
+  pub nodes : nodes_check many ns ≡ Ok tt
+  pub values : values_check rs ≡ Ok tt
+  pub closings : closings_check extent ns rs ≡ Ok tt
   pub leaves : (i : ℕ) → i < count ns → unnamed_leaf names ns i ≡ false
   pub events : (i : ℕ) → i < length rs → unnamed_event names (get_or rs i 0) ≡ false
 
-pub contents_passed : (extent : Extent) (names many : ℕ) (ns rs : List ℕ) → first (grounds_of extent names many ns rs) ≡ Fine → ContentsPassed extent names many ns rs
+pub contents_passed : (extent : Extent) (names many : ℕ) (ns rs : List ℕ) → first (grounds_of extent names many ns rs) ≡ Ok tt → ContentsPassed extent names many ns rs
 unfolding leaves_grounds events_grounds
 contents_passed extent names many ns rs e =
     let a = both_fine (nodes_check many ns) (values_on extent names many ns rs) (sym (contents_is extent names many ns rs) ∙ e) in

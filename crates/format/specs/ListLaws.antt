@@ -1,12 +1,10 @@
 -- A names section by itself, by what a scan of it found; the checks of lent lists one after the other, and what is known where none
 -- refuses (`fine_sets`, `lists_passed`); and an order with rounds behind theirs (`lists_then`). Assumes nothing.
-use Rattle.std.specs.Prelude.{ℕ, ◌*◌, ◌%◌, ◌<◌, ◌≤◌, not, List, ◌++◌, ◌⊎◌, ◌≡◌, eqb, ltb, length}
+use Rattle.std.specs.Prelude.{ℕ, ◌*◌, ◌%◌, ◌<◌, ◌≤◌, not, List, ◌++◌, ◌⊎◌, ◌≡◌, eqb, ltb, length, Result, Ok, Err, ⊤}
 use Rattle.std.proofs.Common.{inl, inr, sym, ◌∙◌, subst, arith, lt-ltb, le-ltb, ltb-false, eqb-true}
 use Rattle.std.proofs.Math.Path.{refl, ap}
 use Rattle.std.proofs.lemmas.Bool.{not-false}
 use Rattle.flow.specs.declared.Refusal.{Refusal}
-use Rattle.flow.specs.declared.Check.{Check}
-use Rattle.flow.specs.declared.Check.TheVariants.{Fine, Refused}
 use Rattle.flow.specs.declared.Extent.{Extent}
 use Rattle.flow.specs.Tests.{is_false, neither_one, neither_two}
 use Rattle.flow.specs.Kinds.{most_sets}
@@ -69,13 +67,13 @@ module _ (extent : Extent) (s sets ns rs : List ℕ) where
 
   module _ {es : List Entry} {at : ℕ} (e : section_alone s ≡ got es at) where
     -- from each check on
-    abbrev pub contents : Check
+    abbrev pub contents : Result ⊤ Refusal
     contents = first (grounds_of extent (length es) (set_count sets) ns rs)
 
-    abbrev pub sets_on : Check
+    abbrev pub sets_on : Result ⊤ Refusal
     sets_on = or_else_check (sets_check sets) contents
 
-    abbrev pub records_on : Check
+    abbrev pub records_on : Result ⊤ Refusal
     records_on = or_else_check (records_length_check extent rs) sets_on
 
     pub lists_is : lists_check extent s sets ns rs ≡ or_else_check (table_length_check ns) records_on
@@ -87,18 +85,18 @@ module _ (extent : Extent) (s sets ns rs : List ℕ) where
         ∙ ap (or_else_check (table_length_check ns)) (orders_append (records_length_order extent rs) (sets_order sets ++ inner)
         ∙ ap (or_else_check (records_length_check extent rs)) (orders_append (sets_order sets) inner))
 
-    pub table_length_refused : {c : Check} {r : Refusal} → c ≡ table_length_check ns → c ≡ Refused r → c ≡ lists_check extent s sets ns rs
+    pub table_length_refused : {c : Result ⊤ Refusal} {r : Refusal} → c ≡ table_length_check ns → c ≡ Err r → c ≡ lists_check extent s sets ns rs
     table_length_refused q h = q ∙ or_else_refused records_on (sym q ∙ h) ∙ sym lists_is
 
-    module _ (a : table_length_check ns ≡ Fine) where
-      pub records_length_refused : {c : Check} {r : Refusal} → c ≡ records_length_check extent rs → c ≡ Refused r → c ≡ lists_check extent s sets ns rs
+    module _ (a : table_length_check ns ≡ Ok tt) where
+      pub records_length_refused : {c : Result ⊤ Refusal} {r : Refusal} → c ≡ records_length_check extent rs → c ≡ Err r → c ≡ lists_check extent s sets ns rs
       records_length_refused q h = q ∙ or_else_refused sets_on (sym q ∙ h) ∙ or_else_fine records_on a ∙ sym lists_is
 
-      module _ (b : records_length_check extent rs ≡ Fine) where
-        pub sets_refused : {c : Check} {r : Refusal} → c ≡ sets_check sets → c ≡ Refused r → c ≡ lists_check extent s sets ns rs
+      module _ (b : records_length_check extent rs ≡ Ok tt) where
+        pub sets_refused : {c : Result ⊤ Refusal} {r : Refusal} → c ≡ sets_check sets → c ≡ Err r → c ≡ lists_check extent s sets ns rs
         sets_refused q h = q ∙ or_else_refused contents (sym q ∙ h) ∙ or_else_fine sets_on b ∙ or_else_fine records_on a ∙ sym lists_is
 
-        pub contents_last : {c : Check} {n : ℕ} → sets_check sets ≡ Fine → n ≡ length es → c ≡ first (grounds_of extent n (set_count sets) ns rs)
+        pub contents_last : {c : Result ⊤ Refusal} {n : ℕ} → sets_check sets ≡ Ok tt → n ≡ length es → c ≡ first (grounds_of extent n (set_count sets) ns rs)
             → c ≡ lists_check extent s sets ns rs
         contents_last f d q =
             q ∙ ap (λ (k : ℕ). first (grounds_of extent k (set_count sets) ns rs)) d
@@ -107,7 +105,7 @@ module _ (extent : Extent) (s sets ns rs : List ℕ) where
 ---- Nothing is refused ----
 
 -- of lent sets 23 does not hold
-pub fine_sets : (sets : List ℕ) → sets_check sets ≡ Fine → (length sets ≡ 32 * set_count sets) × (length sets ≤ 512)
+pub fine_sets : (sets : List ℕ) → sets_check sets ≡ Ok tt → (length sets ≡ 32 * set_count sets) × (length sets ≤ 512)
 unfolding sets_check wrong_sets
 fine_sets sets e = by (fine_nowhere (sets_order sets) e)
   where
@@ -121,13 +119,13 @@ fine_sets sets e = by (fine_nowhere (sets_order sets) e)
 -- the section is found whole, and the parts of the check have passed
 pub record ListsPassed (extent : Extent) (s sets ns rs : List ℕ) : Type 0 where
   pub section : Whole s
-  pub table : table_check sets ns ≡ Fine
-  pub sets_lent : sets_check sets ≡ Fine
-  pub records : records_check extent ns rs ≡ Fine
+  pub table : table_check sets ns ≡ Ok tt
+  pub sets_lent : sets_check sets ≡ Ok tt
+  pub records : records_check extent ns rs ≡ Ok tt
   pub contents : ContentsPassed extent (length (entries_in s)) (set_count sets) ns rs
 
 module _ (extent : Extent) (s sets ns rs : List ℕ) where
-  pub lists_passed : lists_check extent s sets ns rs ≡ Fine → ListsPassed extent s sets ns rs
+  pub lists_passed : lists_check extent s sets ns rs ≡ Ok tt → ListsPassed extent s sets ns rs
   lists_passed f = by (section_alone s) refl
     where
       by : (x : Ran (List Entry)) → section_alone s ≡ x → ListsPassed extent s sets ns rs

@@ -14,7 +14,7 @@ ghost use Rattle.format.specs.ContentChecks.{leaves_grounds, events_grounds, gro
 ghost use Rattle.format.specs.ListChecks.{section_alone, lists_check};
 ghost use Rattle.format.specs.Items.{refusal_of, refusal_in, has, as_item, item_in_range, numbers_at, at_front, name_at, name_end, entry_at, entry_end, entries_at, entries_end, Behind};
 
-use flow::{Check, Extent, Refusal};
+use flow::{Extent, Refusal};
 
 // The refusals of the items, names and numbers, by document 01's numbers.
 const CUT: u16 = 15;
@@ -432,7 +432,7 @@ fn unnamed_event(number: u16, names: u16) -> bool
 }
 
 // 19: the lowest event leaf above the number of names, of at most 64 whole nodes.
-fn check_leaves(nodes: &[u16], names: u16) -> Check
+fn check_leaves(nodes: &[u16], names: u16) -> Result<(), Refusal>
     requires { length nodes.now ≤ 192 }
     ensures { result ≡ first (leaves_grounds names nodes.now) }
 {
@@ -440,26 +440,26 @@ fn check_leaves(nodes: &[u16], names: u16) -> Check
     let mut i: usize = 0;
     while i < n {
         if unnamed_leaf(nodes, i, names) {
-            return Check::Refused(refusal(NO_NAME_FOR_NODE, i));
+            return Err(refusal(NO_NAME_FOR_NODE, i));
         }
         i += 1;
     }
-    Check::Fine
+    Ok(())
 }
 
 // 20: the lowest event record above the number of names, of at most 256 records.
-fn check_events(records: &[u16], names: u16) -> Check
+fn check_events(records: &[u16], names: u16) -> Result<(), Refusal>
     requires { length records.now ≤ 256 }
     ensures { result ≡ first (events_grounds names records.now) }
 {
     let mut i: usize = 0;
     while i < records.len() {
         if unnamed_event(records[i], names) {
-            return Check::Refused(refusal(NO_NAME_FOR_RECORD, i));
+            return Err(refusal(NO_NAME_FOR_RECORD, i));
         }
         i += 1;
     }
-    Check::Fine
+    Ok(())
 }
 
 // 4 to 9, with 22, 12, 13, 19 and 20, of the nodes, records, number of names and number of sets that stand in a file.
@@ -469,26 +469,14 @@ pub fn check_contents(
     names: u16,
     many: usize,
     extent: Extent,
-) -> Check
+) -> Result<(), Refusal>
     requires { (3 ≤ length nodes.now) × (length nodes.now ≤ 192) × (length records.now ≤ 256) }
     ensures { result ≡ first (grounds_of extent names many nodes.now records.now) }
 {
-    let table = flow::check_nodes(nodes, many);
-    let Check::Fine = table else {
-        return table;
-    };
-    let values = flow::check_values(records);
-    let Check::Fine = values else {
-        return values;
-    };
-    let closings = flow::check_closings(nodes, records, extent);
-    let Check::Fine = closings else {
-        return closings;
-    };
-    let leaves = check_leaves(nodes, names);
-    let Check::Fine = leaves else {
-        return leaves;
-    };
+    flow::check_nodes(nodes, many)?;
+    flow::check_values(records)?;
+    flow::check_closings(nodes, records, extent)?;
+    check_leaves(nodes, names)?;
     check_events(records, names)
 }
 
@@ -500,25 +488,16 @@ pub fn check_lists(
     records: &[u16],
     sets: &[u8],
     extent: Extent,
-) -> Check
+) -> Result<(), Refusal>
     ensures { result ≡ lists_check extent names.now sets.now nodes.now records.now }
 {
     let section = scan_alone(names);
     let Item::Has(got) = section else {
-        return Check::Refused(refusal_in(section));
+        return Err(refusal_in(section));
     };
-    let table = flow::check_table_length(nodes);
-    let Check::Fine = table else {
-        return table;
-    };
-    let list = flow::check_records_length(records, extent);
-    let Check::Fine = list else {
-        return list;
-    };
-    let lent = flow::check_sets(sets);
-    let Check::Fine = lent else {
-        return lent;
-    };
+    flow::check_table_length(nodes)?;
+    flow::check_records_length(records, extent)?;
+    flow::check_sets(sets)?;
     check_contents(
         nodes,
         records,

@@ -2,14 +2,13 @@
 -- and by those that a names section makes (`named_ready`, `named_judged`). What both share is said once, of any legend (`Cueing`), and
 -- of records of any extent where they need not be whole. The cues of all events are known to be right, not only those of a call's records
 -- (`plain_cueing`, `named_cueing`, and `events_heard` of any known numbers). Assumes nothing.
-use Rattle.std.specs.Prelude.{ℕ, zero, suc, ◌<◌, ◌≤◌, ◌≡◌, refl, Bool, true, false, ◌||◌, List, map, T, eqb, length, get_or, take, drop}
+use Rattle.std.specs.Prelude.{ℕ, zero, suc, ◌<◌, ◌≤◌, ◌≡◌, refl, Bool, true, false, ◌||◌, List, map, T, eqb, length, get_or, take, drop, Ok}
 use Rattle.std.proofs.Common.{sym, ap, ◌∙◌, subst, arith, take_at}
 use Rattle.std.proofs.lemmas.List.{length-map}
 use Rattle.calculus.specs.Search as search
 use Rattle.calculus.specs.Spending.{Out as Found, spent, back, visit_b}
 use Rattle.calculus.proofs.Budget.{answer, budgeted}
 use Rattle.calculus.specs.Records.{Record}
-use Rattle.flow.specs.declared.Check.TheVariants.{Fine}
 use Rattle.flow.specs.declared.Extent.{Extent}
 use Rattle.flow.specs.declared.Extent.TheVariants.{Whole}
 use Rattle.flow.specs.declared.Node.TheVariants.{Event}
@@ -143,7 +142,7 @@ module _ (extent : Extent) (s sets ns rs : List ℕ) (lists : ListsPassed extent
 
 -- xs are the cues of the records, as they stand at the front of the code's own table
 module _ (sets ns rs work : List ℕ) {xs : List ℕ} where
-  module _ (e : judge_check sets ns rs (length work) ≡ Fine) (is : xs ≡ map (cue_of (masked (in_set sets)) itself) rs) where
+  module _ (e : judge_check sets ns rs (length work) ≡ Ok tt) (is : xs ≡ map (cue_of (masked (in_set sets)) itself) rs) where
     pub plain_ready : SearchReady ns xs work
     plain_ready = cueing_ready work (judge_passed sets ns rs (length work) e) (plain_cueing sets ns) is
 
@@ -152,7 +151,7 @@ module _ (sets ns rs work : List ℕ) {xs : List ℕ} where
         let z = cueing_searched work (judge_passed sets ns rs (length work) e) (plain_cueing sets ns) is a in
         judge_searches (flow_of sets ns) ns rs allowance work e z.0 z.1
 
-  module _ (s : List ℕ) (e : named_judge_check s sets ns rs (length work) ≡ Fine) (is : xs ≡ map (cue_of (masked (in_set sets)) (other (entries_in s))) rs) where
+  module _ (s : List ℕ) (e : named_judge_check s sets ns rs (length work) ≡ Ok tt) (is : xs ≡ map (cue_of (masked (in_set sets)) (other (entries_in s))) rs) where
     pub named_ready : SearchReady ns xs work
     named_ready = cueing_ready work (named_passed sets ns rs (length work) s e) (named_cueing Whole s sets ns rs (named_lists sets ns rs (length work) s e)) is
 

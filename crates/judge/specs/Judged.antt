@@ -3,14 +3,11 @@
 -- A reader need not believe how they are computed: promises/specs/Demands and NamedDemands tell of each answer when it is given and of
 -- the work bytes what they hold (Told; `search`, Room; `flow`, Earliest and Draws; `format`, Matching; `calculus`, Records and Search).
 -- Definitions only. Assumes nothing.
-use Rattle.std.specs.Prelude.{ℕ, ◌≡◌, List, length}
+use Rattle.std.specs.Prelude.{ℕ, ◌≡◌, List, length, Result, Ok, Err, ⊤}
 use Rattle.calculus.specs.Records.{State}
 use Rattle.calculus.specs.Search.{Verdict}
 use Rattle.calculus.specs.Search as search
 use Rattle.flow.specs.declared.Refusal.{Refusal}
-use Rattle.flow.specs.declared.Check.{Check}
-use Rattle.flow.specs.declared.Check.TheVariants.{Fine}
-use Rattle.flow.specs.declared.Check.TheVariants as check
 use Rattle.flow.specs.Records.{records}
 use Rattle.flow.specs.Checks.{first, grounds}
 use Rattle.flow.specs.Drawn.{flow_by, flow_of}
@@ -24,11 +21,11 @@ unfoldable pub use Rattle.judge.specs.Told.{told, too_short}
 
 ---- The checks ----
 
-unfoldable pub judge_check : List ℕ → List ℕ → List ℕ → ℕ → Check
+unfoldable pub judge_check : List ℕ → List ℕ → List ℕ → ℕ → Result ⊤ Refusal
 judge_check sets ns rs room = first (grounds (judge_order sets ns rs room))
 
 -- by the names section first
-unfoldable pub named_judge_check : List ℕ → List ℕ → List ℕ → List ℕ → ℕ → Check
+unfoldable pub named_judge_check : List ℕ → List ℕ → List ℕ → List ℕ → ℕ → Result ⊤ Refusal
 unfolding named_check
 named_judge_check s sets ns rs room = named_check s (named_judge_order sets ns rs room)
 
@@ -41,12 +38,12 @@ answer_of (Verdict.rejected place count) = Rejected (record { place = place; cou
 answer_of (Verdict.undecided place count) = Undecided (record { place = place; count = count })
 
 -- what comes of a refusal, or else of no refusal
-unfoldable pub unless_refused : {A : Type 0} → Check → (Refusal → A) → A → A
-unless_refused Fine refuse other = other
-unless_refused (check.Refused r) refuse other = refuse r
+unfoldable pub unless_refused : {A : Type 0} → Result ⊤ Refusal → (Refusal → A) → A → A
+unless_refused (Ok tt) refuse other = other
+unless_refused (Err r) refuse other = refuse r
 
 -- by what is refused, the flow, the records and the allowance
-unfoldable pub judged_by : Check → State → List ℕ → ℕ → Answer
+unfoldable pub judged_by : Result ⊤ Refusal → State → List ℕ → ℕ → Answer
 unfolding unless_refused answer_of
 judged_by c flow rs allowance = unless_refused c Refused (answer_of (search.judge flow (records rs) allowance))
 
@@ -65,7 +62,7 @@ judged_named s sets ns rs room allowance = judged_by (named_judge_check s sets n
 ---- What becomes of the work bytes ----
 
 -- 01: "After a refusal all are unchanged."; else so many are cleared
-unfoldable pub bytes_by : Check → ℕ → List ℕ → List ℕ
+unfoldable pub bytes_by : Result ⊤ Refusal → ℕ → List ℕ → List ℕ
 unfolding unless_refused cleared
 bytes_by c room work = unless_refused c (λ r. work) (cleared room work)
 
@@ -78,7 +75,7 @@ named_work_after s sets ns rs work = bytes_by (named_judge_check s sets ns rs (l
 ---- The contracts ----
 
 -- by what is refused and the flow: the answer r, and the work bytes before and after
-pub record JudgedBy (c : Check) (flow : State) (ns rs : List ℕ) (allowance : ℕ) (work : List ℕ) (r : Answer) (after : List ℕ) : Type 0 where
+pub record JudgedBy (c : Result ⊤ Refusal) (flow : State) (ns rs : List ℕ) (allowance : ℕ) (work : List ℕ) (r : Answer) (after : List ℕ) : Type 0 where
   pub answers : r ≡ judged_by c flow rs allowance
   pub leaves : after ≡ bytes_by c (room_wanted ns rs) work
 

@@ -1,9 +1,9 @@
 -- What the judge's own helpers promise: 14, and the answer that comes of what a search by cues brought back. Definitions only. Assumes
 -- nothing.
-use Rattle.std.specs.Prelude.{ℕ, ◌-◌, ◌≡◌, true, false, List, length}
+use Rattle.std.specs.Prelude.{ℕ, ◌-◌, ◌≡◌, true, false, List, length, Result, ⊤}
 use Rattle.calculus.specs.Search as search
 use Rattle.calculus.specs.Spending.{Out as Found, spent, back}
-use Rattle.flow.specs.declared.Check.{Check}
+use Rattle.flow.specs.declared.Refusal.{Refusal}
 use Rattle.flow.specs.Refusals.{count}
 use Rattle.flow.specs.Checks.{first, grounds}
 use Rattle.flow.specs.Cues.{cued, cue_records}
@@ -13,7 +13,7 @@ use Rattle.judge.specs.declared.Answer.TheVariants.{Accepted, Rejected, Undecide
 use Rattle.judge.specs.Judged.{room_of, cleared, room_order, answer_of}
 
 -- 14
-abbrev pub room_check : List ℕ → List ℕ → ℕ → Check
+abbrev pub room_check : List ℕ → List ℕ → ℕ → Result ⊤ Refusal
 room_check ns rs room = first (grounds (room_order ns rs room))
 
 -- 01, "What comes back": how many records there are, the allowance, what the search brought back

@@ -8,7 +8,7 @@ ghost use Rattle.search.specs.Searches.{LeftWithin, SearchReady};
 ghost use Rattle.judge.specs.Judged.{judge_check, named_judge_check, Judged, NamedJudged};
 ghost use Rattle.judge.specs.Settled.{answer_to, room_check, Answered};
 
-use flow::{Check, Extent, Refusal};
+use flow::{Extent, Refusal};
 use search::Out;
 
 // How far the records were followed, and how many states were entered.
@@ -42,12 +42,12 @@ fn answer_of(out: Out, records: usize, allowance: u32) -> Answer
             if trip.found {
                 Answer::Accepted(Reach {
                     place: records as u32,
-                    count: count,
+                    count,
                 })
             } else {
                 Answer::Rejected(Reach {
                     place: trip.far,
-                    count: count,
+                    count,
                 })
             }
         }
@@ -55,42 +55,39 @@ fn answer_of(out: Out, records: usize, allowance: u32) -> Answer
 }
 
 // 14, with so many work bytes lent.
-fn check_room(nodes: &[u16], records: &[u16], room: usize) -> Check
+fn check_room(nodes: &[u16], records: &[u16], room: usize) -> Result<(), Refusal>
     requires { (length nodes.now ≤ 192) × (length records.now ≤ 256) }
     ensures { result ≡ room_check nodes.now records.now room }
 {
     if room < search::room_wanted(nodes.len() / 3, records.len()) {
-        return Check::Refused(Refusal {
+        return Err(Refusal {
             number: flow::NO_ROOM,
             place: 0,
         });
     }
-    Check::Fine
+    Ok(())
 }
 
 // 1 to 14, with 22 and 23.
-fn check_all(nodes: &[u16], records: &[u16], sets: &[u8], room: usize) -> Check
+fn check_all(nodes: &[u16], records: &[u16], sets: &[u8], room: usize) -> Result<(), Refusal>
     ensures { result ≡ judge_check sets.now nodes.now records.now room }
 {
-    let table = flow::check_table(nodes, sets);
-    let Check::Fine = table else {
-        return table;
-    };
-    let list = flow::check_records(nodes, records, Extent::Whole);
-    let Check::Fine = list else {
-        return list;
-    };
+    flow::check_table(nodes, sets)?;
+    flow::check_records(nodes, records, Extent::Whole)?;
     check_room(nodes, records, room)
 }
 
 // With names: as the writer's lists, then 14.
-fn check_named(names: &[u8], nodes: &[u16], records: &[u16], sets: &[u8], room: usize) -> Check
+fn check_named(
+    names: &[u8],
+    nodes: &[u16],
+    records: &[u16],
+    sets: &[u8],
+    room: usize,
+) -> Result<(), Refusal>
     ensures { result ≡ named_judge_check names.now sets.now nodes.now records.now room }
 {
-    let lists = format::check_lists(names, nodes, records, sets, Extent::Whole);
-    let Check::Fine = lists else {
-        return lists;
-    };
+    format::check_lists(names, nodes, records, sets, Extent::Whole)?;
     check_room(nodes, records, room)
 }
 
@@ -108,8 +105,7 @@ fn answer_by(nodes: &[u16], cues: &[u64], work: &mut [u8], allowance: u32) -> An
 pub fn judge(nodes: &[u16], records: &[u16], sets: &[u8], work: &mut [u8], allowance: u32) -> Answer
     ensures { Judged sets.now nodes.now records.now allowance work.old result work.new }
 {
-    let found = check_all(nodes, records, sets, work.len());
-    if let Check::Refused(refusal) = found {
+    if let Err(refusal) = check_all(nodes, records, sets, work.len()) {
         return Answer::Refused(refusal);
     }
     let mut cues = [0u64; 256];
@@ -130,8 +126,7 @@ pub fn judge_named(
 ) -> Answer
     ensures { NamedJudged names.now sets.now nodes.now records.now allowance work.old result work.new }
 {
-    let found = check_named(names, nodes, records, sets, work.len());
-    if let Check::Refused(refusal) = found {
+    if let Err(refusal) = check_named(names, nodes, records, sets, work.len()) {
         return Answer::Refused(refusal);
     }
     let mut cues = [0u64; 256];

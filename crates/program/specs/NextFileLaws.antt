@@ -4,7 +4,7 @@
 use Prim.Native.Nat.{ℕ, zero, suc, ◌-◌, ◌≤◌, ◌<◌}
 use Rattle.std.proofs.Common.{arith, inl, inr, ◌∙◌, subst, ne_eqb, ltb-true, length-append, take_at, take-take, length-take-le}
 use Rattle.std.proofs.Math.Bool.{Bool, true, false, cond}
-use Rattle.std.specs.Prelude.{◌⊎◌, ◌≡◌, eqb, ltb, get_or, drop}
+use Rattle.std.specs.Prelude.{◌⊎◌, ◌≡◌, eqb, ltb, get_or, drop, Result, Ok, Err, ⊤}
 use Rattle.std.proofs.lemmas.Bool.{false≢true}
 use mathlib.Core.List.{List, [], ◌∷◌}
 use Rattle.std.proofs.Math.Path.{refl, sym, ap, ap₂}
@@ -15,9 +15,6 @@ use Rattle.calculus.specs.Leaves.{AnySet}
 use Rattle.calculus.specs.Deaf.{DeafLeaf}
 use Rattle.calculus.proofs.DeafLaws.{deaf_passes}
 use Rattle.flow.specs.declared.Refusal.{Refusal}
-use Rattle.flow.specs.declared.Check.{Check}
-use Rattle.flow.specs.declared.Check.TheVariants.{Fine}
-use Rattle.flow.specs.declared.Check.TheVariants as check
 use Rattle.flow.specs.declared.Extent.TheVariants.{Beginning}
 use Rattle.flow.specs.Records.{done_number, withdrawn_number, failed_number, most_events, record_of, records, all_numbers}
 use Rattle.flow.specs.FineTable.{fine_table}
@@ -84,7 +81,7 @@ no_entry_taken s w n r low high over =
     section_beyond s w.is n r low high over
     ∙ rw (other_beyond (entries_in s) r over, ne_eqb r n (λ e. omega arith))
 
-module _ (s sets ns rs : List ℕ) (passed : named_next_check s sets ns rs numbers_wanted work_lent ≡ Fine) where
+module _ (s sets ns rs : List ℕ) (passed : named_next_check s sets ns rs numbers_wanted work_lent ≡ Ok tt) where
   lists : ListsPassed Beginning s sets ns rs
   lists = named_next_lists s sets ns rs numbers_wanted work_lent passed
 
@@ -127,8 +124,8 @@ module _ (s sets ns rs : List ℕ) (passed : named_next_check s sets ns rs numbe
 ---- By the answer ----
 
 -- what is known where a list is answered, of the table lent for it
-pub record ListedSo (c : Check) (flow : State) (rs : List ℕ) (f : Found) (list list' : List ℕ) : Type 0 where
-  pub fine : c ≡ Fine
+pub record ListedSo (c : Result ⊤ Refusal) (flow : State) (rs : List ℕ) (f : Found) (list list' : List ℕ) : Type 0 where
+  pub fine : c ≡ Ok tt
   pub sized : f.length ≡ length (following flow rs)
   pub front : list' ≡ at_front (following flow rs) list
 
@@ -143,20 +140,20 @@ length_told (Undecided f) = 0
 length_told (Refused r) = 0
 
 module _ (flow : State) (rs : List ℕ) (allowance : ℕ) {list list' : List ℕ} {f : Found} where
-  pub listed_so : (c : Check) → Listed f ≡ next_by c flow rs allowance → list' ≡ list_by c flow rs allowance list → ListedSo c flow rs f list list'
+  pub listed_so : (c : Result ⊤ Refusal) → Listed f ≡ next_by c flow rs allowance → list' ≡ list_by c flow rs allowance list → ListedSo c flow rs f list list'
   unfolding next_by list_by unless_refused length_told
-  listed_so Fine e l = by (allowed flow rs allowance) (following flow rs) (entered (records rs) flow) refl e l
+  listed_so (Ok tt) e l = by (allowed flow rs allowance) (following flow rs) (entered (records rs) flow) refl e l
     where
       by : (b : Bool) (xs : List ℕ) (count : ℕ) → xs ≡ following flow rs
           → Listed f ≡ cond b (Listed (record { length = length xs; count = count })) (Undecided (record { length = 0; count = allowance }))
-          → list' ≡ cond b (at_front xs list) list → ListedSo Fine flow rs f list list'
+          → list' ≡ cond b (at_front xs list) list → ListedSo (Ok tt) flow rs f list list'
       by true xs count x q m =
           record { fine = refl; sized = ap length_told q ∙ ap length x; front = m ∙ ap (λ (ys : List ℕ). at_front ys list) x }
       by false xs count x q m = absurd (subst IsListed q tt)
-  listed_so (check.Refused r) e l = absurd (subst IsListed e tt)
+  listed_so (Err r) e l = absurd (subst IsListed e tt)
 
 -- the first numbers of the table are the list
-module _ {c : Check} {flow : State} {rs : List ℕ} {f : Found} {list list' : List ℕ} (h : ListedSo c flow rs f list list') where
+module _ {c : Result ⊤ Refusal} {flow : State} {rs : List ℕ} {f : Found} {list list' : List ℕ} (h : ListedSo c flow rs f list list') where
   pub listed_inside : f.length ≤ length list'
   listed_inside = omega (arith, h.sized, ap length h.front, length-append (following flow rs) (drop (length (following flow rs)) list))
 

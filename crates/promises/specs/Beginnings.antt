@@ -4,13 +4,12 @@
 -- (`plain_first`, `lists_first`). 14 of the table that is lent (`room_passes`, `plain_room`, `lists_room`). Of a good names section the order
 -- behind it decides (`named_check_nowhere`). Assumes nothing.
 use Prim.Native.Nat.{ℕ, zero, suc, ◌-◌, ◌≤◌, ◌<◌}
-use Rattle.std.specs.Prelude.{Bool, false, not, ◌||◌, List, [], ◌∷◌, ◌++◌, ◌⊎◌, ◌↔◌, ◌≡◌, refl, T, eqb, leb, ltb, get_or, take}
+use Rattle.std.specs.Prelude.{Bool, false, not, ◌||◌, List, [], ◌∷◌, ◌++◌, ◌⊎◌, ◌↔◌, ◌≡◌, refl, T, eqb, leb, ltb, get_or, take, Ok}
 use Rattle.std.proofs.Math.Bool.{true}
 use Rattle.std.proofs.Common.{inl, inr, sym, ap, ◌∙◌, subst, arith, length-take-le, get_or-take}
 use Rattle.std.proofs.Math.ListN.{length}
 use borrow.Author.Tests.{ltb-false, le-ltb, leb-true, eqb-true, not-false}
 use Rattle.calculus.proofs.Members.{or_cases, and_left, and_right}
-use Rattle.flow.specs.declared.Check.TheVariants.{Fine}
 use Rattle.flow.specs.declared.Extent.{Extent}
 use Rattle.flow.specs.declared.Extent.TheVariants.{Whole, Beginning}
 use Rattle.flow.specs.Tests.{is_true, is_false}
@@ -49,7 +48,7 @@ module _ (extent : Extent) (ns rs : List ℕ) where
   record_whole : RecordParts extent ns rs → Nowhere (records_order extent ns rs)
   record_whole p = nowhere_both p.counted (nowhere_both p.values p.closings)
 
-  records_pass : Nowhere (records_order extent ns rs) → records_check extent ns rs ≡ Fine
+  records_pass : Nowhere (records_order extent ns rs) → records_check extent ns rs ≡ Ok tt
   unfolding records_check
   records_pass n = (nowhere_exactly (records_order extent ns rs)).1 n
 
@@ -83,14 +82,14 @@ module _ (extent : Extent) (names : ℕ) (sets ns rs : List ℕ) where
 
 module _ (extent : Extent) (sets ns rs : List ℕ) where
   -- without names, whatever stands behind them
-  pub plain_parts : (order : List Round) → Nowhere (table_order sets ns ++ (records_order extent ns rs ++ order)) → (table_check sets ns ≡ Fine) × (records_check extent ns rs ≡ Fine)
+  pub plain_parts : (order : List Round) → Nowhere (table_order sets ns ++ (records_order extent ns rs ++ order)) → (table_check sets ns ≡ Ok tt) × (records_check extent ns rs ≡ Ok tt)
   plain_parts order n =
       let a = nowhere_parts (table_order sets ns) (records_order extent ns rs ++ order) n in
       let b = nowhere_parts (records_order extent ns rs) order a.1 in
       ((table_passes_exactly sets ns).1 a.0, records_pass extent ns rs b.0)
 
   -- with them
-  pub lists_parts : (names : ℕ) (order : List Round) → Nowhere (lists_order extent names sets ns rs ++ order) → (table_check sets ns ≡ Fine) × (records_check extent ns rs ≡ Fine)
+  pub lists_parts : (names : ℕ) (order : List Round) → Nowhere (lists_order extent names sets ns rs ++ order) → (table_check sets ns ≡ Ok tt) × (records_check extent ns rs ≡ Ok tt)
   lists_parts names order n =
       let p = list_parts extent names sets ns rs (nowhere_parts (lists_order extent names sets ns rs) order n).0 in
       ((table_passes_exactly sets ns).1 (nowhere_both p.table_counted (nowhere_both p.sets_lent p.nodes)), records_pass extent ns rs (record_whole extent ns rs p.records))
@@ -126,7 +125,7 @@ value_is r e = by (or_cases (is_event_number r) (is_closing_number r) (subst T (
         (leb-true r most_events (is_true (leb r most_events) (and_right (leb 1 r) (leb r most_events) h)))
     by (inr h) = closing (or_cases (eqb r done_number) (eqb r withdrawn_number || eqb r failed_number) h)
 
-pub values_are : (extent : Extent) (ns rs : List ℕ) → records_check extent ns rs ≡ Fine → (i : ℕ) → i < length rs → EventOrClosing (get_or rs i 0)
+pub values_are : (extent : Extent) (ns rs : List ℕ) → records_check extent ns rs ≡ Ok tt → (i : ℕ) → i < length rs → EventOrClosing (get_or rs i 0)
 values_are extent ns rs f i h = value_is (get_or rs i 0) ((fine_records extent ns rs f).each i h)
 
 ---- The first records ----
@@ -250,7 +249,7 @@ lists_room names sets ns rs numbers room n =
 ---- Behind a names section ----
 
 -- a good section is found whole, so that its entries' order decides
-pub named_check_nowhere : (es : List Entry) → GoodNames es → (order : List Entry → List Round) → (named_check (names_section es) order ≡ Fine) ↔ Nowhere (order es)
+pub named_check_nowhere : (es : List Entry) → GoodNames es → (order : List Entry → List Round) → (named_check (names_section es) order ≡ Ok tt) ↔ Nowhere (order es)
 unfolding named_check by_entries
 named_check_nowhere es good order =
     let e : named_check (names_section es) order ≡ first (grounds (order es)) = ap (by_entries order) (section_found (names_section es) good refl) in

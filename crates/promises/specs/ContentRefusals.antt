@@ -1,10 +1,8 @@
 -- The refusals of a file's numbers, 4 to 9, with 22, 12, 13, 19 and 20, exactly when: their order is one like any other (ExactlyWhen),
 -- and the reader reports just these of a file of the format. What 19 and 20 say in plain words is in PlainRows. Assumes nothing.
-use Rattle.std.specs.Prelude.{ℕ, ◌≤◌, ◌↔◌, ◌≡◌, refl}
+use Rattle.std.specs.Prelude.{ℕ, ◌≤◌, ◌↔◌, ◌≡◌, refl, Result, Ok, Err, ⊤}
 use Rattle.std.proofs.Common.{inr, ap, sym, ◌∙◌, arith}
 use Rattle.flow.specs.declared.Refusal.{Refusal}
-use Rattle.flow.specs.declared.Check.{Check}
-use Rattle.flow.specs.declared.Check.TheVariants as check
 use Rattle.flow.specs.Earliest.{Earliest}
 use Rattle.format.specs.Format.{File, encode}
 use Rattle.format.specs.Plan.{run}
@@ -23,7 +21,7 @@ use Rattle.promises.specs.FileExact.{layout_reads}
 use Rattle.promises.specs.Reader.{report_refused}
 
 -- each is given at a place exactly when its condition holds there and nothing before it does
-pub contents_exactly : (f : File) (r : Refusal) → (content_check f ≡ check.Refused r) ↔ Earliest r (file_order f)
+pub contents_exactly : (f : File) (r : Refusal) → (content_check f ≡ Err r) ↔ Earliest r (file_order f)
 unfolding grounds_of
 contents_exactly f r = earliest_exactly (file_order f) r
 
@@ -39,8 +37,8 @@ contents_refused_when f nr rr k p w h l = (
     is : reading (encode f) nr rr ≡ checked f (content_check f)
     is = reading_laid (encode f) nr rr h l ∙ laid_checked (encode f) (run (encode f) 0 layout) (layout_reads (encode f) f w (stands_all (encode f)) (inr (omega arith)))
 
-    by : (c : Check) → content_check f ≡ c → (checked f c).answer ≡ Refused (refusal_of k p) → Earliest (refusal_of k p) (file_order f)
-    by check.Fine q a = read_not_refused a
-    by (check.Refused r) q a =
+    by : (c : Result ⊤ Refusal) → content_check f ≡ c → (checked f c).answer ≡ Refused (refusal_of k p) → Earliest (refusal_of k p) (file_order f)
+    by (Ok tt) q a = read_not_refused a
+    by (Err r) q a =
         let d : r ≡ refusal_of k p = cc in
-        (contents_exactly f (refusal_of k p)).0 (q ∙ ap check.Refused d)
+        (contents_exactly f (refusal_of k p)).0 (q ∙ ap Err d)

@@ -2,7 +2,7 @@
 -- stands under the words that it keeps; `judge` itself ensures the record `Judged` for every input (src/lib.rt).
 -- The definitions it is stated with: Stated; of judge Told; of search Room; of the calculus Records, Search and Laws; of flow Refusals,
 -- Earliest, Draws. Theorems only. Assumes nothing.
-use Rattle.std.specs.Prelude.{ℕ, ◌<◌, ◌≤◌, ◌≡◌, List, ◌↔◌, length}
+use Rattle.std.specs.Prelude.{ℕ, ◌<◌, ◌≤◌, ◌≡◌, List, ◌↔◌, length, Ok}
 use Rattle.std.proofs.Common.{sym, ap, ◌∙◌}
 use Rattle.std.proofs.Math.Logic.Iff
 use Rattle.std.proofs.lemmas.List.{length-map}
@@ -11,7 +11,6 @@ use Rattle.calculus.specs.Search.{visit}
 use Rattle.calculus.specs.Laws.{Redrawn}
 use Rattle.calculus.proofs.Completes.{complete_traces}
 use Rattle.calculus.proofs.Redrawn.{redrawn_flip, redrawn_complete}
-use Rattle.flow.specs.declared.Check.TheVariants.{Fine}
 use Rattle.flow.specs.declared.Extent.TheVariants.{Whole}
 use Rattle.flow.specs.Records.{record_of, records}
 use Rattle.flow.specs.Refusals.{root}
@@ -58,12 +57,12 @@ module _ (sets ns rs : List ℕ) where
   verdict_clears allowance work n = fine_bytes (room_wanted ns rs) work (not_refused_fine (judge_check sets ns rs (length work)) (flow_of sets ns) rs allowance n)
 
 -- a table that is not refused means exactly one flow, whatever records its leaves take and whichever events are joint
-pub one_flow_by : (legend : Legend) (sets ns : List ℕ) → table_check sets ns ≡ Fine
+pub one_flow_by : (legend : Legend) (sets ns : List ℕ) → table_check sets ns ≡ Ok tt
     → Draws legend ns (root ns) (flow_by legend ns) × ((s : State) → Draws legend ns (root ns) s → s ≡ flow_by legend ns)
 one_flow_by legend sets ns e = let fine = fine_table ns sets e in (flow_drawn legend ns fine, flow_only legend ns fine)
 
 -- where no names are lent, a node takes its own event, and the sets are those that are lent
-pub one_flow : (sets ns : List ℕ) → table_check sets ns ≡ Fine → Draws (plain sets) ns (root ns) (flow_of sets ns) × ((s : State) → Draws (plain sets) ns (root ns) s → s ≡ flow_of sets ns)
+pub one_flow : (sets ns : List ℕ) → table_check sets ns ≡ Ok tt → Draws (plain sets) ns (root ns) (flow_of sets ns) × ((s : State) → Draws (plain sets) ns (root ns) s → s ≡ flow_of sets ns)
 one_flow sets ns e = one_flow_by (plain sets) sets ns e
 
 ---- Demand 2 ----
@@ -131,7 +130,7 @@ module _ {flow flow' : State} (redrawn : Redrawn flow flow') where
   redrawn_flow_traces batch =
       Iff.trans (Iff.symm (complete_traces flow batch)) (Iff.trans (redrawn_flow_runs batch) (complete_traces flow' batch))
 
-module _ (sets ns ns' : List ℕ) (redrawn : Redrawn (flow_of sets ns) (flow_of sets ns')) (within : table_check sets ns ≡ Fine) (within' : table_check sets ns' ≡ Fine) where
+module _ (sets ns ns' : List ℕ) (redrawn : Redrawn (flow_of sets ns) (flow_of sets ns')) (within : table_check sets ns ≡ Ok tt) (within' : table_check sets ns' ≡ Ok tt) where
   -- of tables
   pub redrawn_runs : (batch : List Record) → Complete (flow_of sets ns) batch ↔ Complete (flow_of sets ns') batch
   redrawn_runs = redrawn_flow_runs redrawn

@@ -2,12 +2,11 @@
 -- (`earliest_exactly`), and nothing exactly if no ground holds at any place (`nowhere_exactly`). Then the orders of a table, of a
 -- record list and of the judge, a line each. Assumes nothing.
 use Prim.Native.Nat.{ℕ, zero, suc, ◌+◌, ◌<◌, ◌≤◌}
-use Rattle.std.specs.Prelude.{◌≡◌, List, [], ◌∷◌, ◌++◌, ◌⊎◌, ◌↔◌}
+use Rattle.std.specs.Prelude.{◌≡◌, List, [], ◌∷◌, ◌++◌, ◌⊎◌, ◌↔◌, Ok, Err}
 use Rattle.std.proofs.Common.{sym, inl, inr, arith, eq-or-lt_of_le}
 use Rattle.std.proofs.Math.Path.{subst}
 use Rattle.std.proofs.Math.Logic.{⊎_elim}
 use Rattle.flow.specs.declared.Refusal.{Refusal}
-use Rattle.flow.specs.declared.Check.TheVariants.{Fine, Refused}
 use Rattle.flow.specs.declared.Extent.{Extent}
 use Rattle.flow.specs.Refusals.{Ground, Round, lone, sweep, table_order, records_order}
 use Rattle.flow.specs.Checks.{each, first, grounds, table_check, records_check}
@@ -107,36 +106,36 @@ nowhere_none (sweep n f ∷ order) (not_sweep passed x) =
     let none_at : (j : ℕ) → 0 ≤ j → j < 0 + n → None (f j) = λ j lo hi. passed j (omega arith) in
     subst None (sym (grounds_sweep n f order)) (none_both (none_all f 0 n none_at) (nowhere_none order x))
 
-pub earliest_exactly : (order : List Round) (r : Refusal) → (first (grounds order) ≡ Refused r) ↔ Earliest r order
+pub earliest_exactly : (order : List Round) (r : Refusal) → (first (grounds order) ≡ Err r) ↔ Earliest r order
 earliest_exactly order r =
     let e = refused_exactly (grounds order) r in
     (λ h. first_earliest order (e.0 h), λ x. e.1 (earliest_first order x))
 
-pub nowhere_exactly : (order : List Round) → (first (grounds order) ≡ Fine) ↔ Nowhere order
+pub nowhere_exactly : (order : List Round) → (first (grounds order) ≡ Ok tt) ↔ Nowhere order
 nowhere_exactly order = (fine_nowhere order, λ x. (fine_exactly (grounds order)).1 (nowhere_none order x))
 
 ---- The orders ----
 
 -- 1 to 9, with 22 and 23
-pub table_exactly : (sets ns : List ℕ) (r : Refusal) → (table_check sets ns ≡ Refused r) ↔ Earliest r (table_order sets ns)
+pub table_exactly : (sets ns : List ℕ) (r : Refusal) → (table_check sets ns ≡ Err r) ↔ Earliest r (table_order sets ns)
 unfolding table_check
 table_exactly sets ns r = earliest_exactly (table_order sets ns) r
 
-pub table_passes_exactly : (sets ns : List ℕ) → (table_check sets ns ≡ Fine) ↔ Nowhere (table_order sets ns)
+pub table_passes_exactly : (sets ns : List ℕ) → (table_check sets ns ≡ Ok tt) ↔ Nowhere (table_order sets ns)
 unfolding table_check
 table_passes_exactly sets ns = nowhere_exactly (table_order sets ns)
 
 -- 10 to 13
-pub records_exactly : (extent : Extent) (ns rs : List ℕ) (r : Refusal) → (records_check extent ns rs ≡ Refused r) ↔ Earliest r (records_order extent ns rs)
+pub records_exactly : (extent : Extent) (ns rs : List ℕ) (r : Refusal) → (records_check extent ns rs ≡ Err r) ↔ Earliest r (records_order extent ns rs)
 unfolding records_check
 records_exactly extent ns rs r = earliest_exactly (records_order extent ns rs) r
 
 -- 1 to 14, with 22 and 23
 module _ (sets ns rs : List ℕ) (room : ℕ) where
-  pub given_exactly : (r : Refusal) → (judge_check sets ns rs room ≡ Refused r) ↔ Earliest r (judge_order sets ns rs room)
+  pub given_exactly : (r : Refusal) → (judge_check sets ns rs room ≡ Err r) ↔ Earliest r (judge_order sets ns rs room)
   unfolding judge_check
   given_exactly r = earliest_exactly (judge_order sets ns rs room) r
 
-  pub passes_exactly : (judge_check sets ns rs room ≡ Fine) ↔ Nowhere (judge_order sets ns rs room)
+  pub passes_exactly : (judge_check sets ns rs room ≡ Ok tt) ↔ Nowhere (judge_order sets ns rs room)
   unfolding judge_check
   passes_exactly = nowhere_exactly (judge_order sets ns rs room)

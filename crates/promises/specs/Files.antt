@@ -2,7 +2,7 @@
 -- refused by the judge: the reader's checks are the judge's, and the program lends work bytes enough. So the program refuses exactly
 -- what the reader refuses; and demand 2 for files, of the flow that the file's nodes draw with its names and sets, and the records that it
 -- holds. Theorems only. Assumes nothing.
-use Rattle.std.specs.Prelude.{ℕ, ◌+◌, ◌*◌, ◌<◌, ◌≤◌, not, ◌↔◌, ◌≡◌, T}
+use Rattle.std.specs.Prelude.{ℕ, ◌+◌, ◌*◌, ◌<◌, ◌≤◌, not, ◌↔◌, ◌≡◌, T, Ok}
 use Rattle.std.proofs.Math.Nat.{mul-le-mul}
 use Rattle.std.proofs.Common.{arith, sym, ◌∙◌, subst, le-ltb}
 use mathlib.Core.List.{List}
@@ -12,7 +12,6 @@ use Rattle.std.proofs.lemmas.List.{length-map}
 use Rattle.calculus.specs.Records.{Record, State, Complete, InTraces}
 use Rattle.calculus.specs.Search.{visit}
 use Rattle.flow.specs.declared.Refusal.{Refusal}
-use Rattle.flow.specs.declared.Check.TheVariants.{Fine}
 use Rattle.flow.specs.Records.{record_of, records}
 use Rattle.flow.specs.Refusals.{count}
 use Rattle.flow.specs.Earliest.{Nowhere, end, not_lone}
@@ -64,7 +63,7 @@ module _ (f : File) (within : WithinLimits f) (fine : Nowhere (file_order f)) wh
   roomy = rw (le-ltb work_lent (room_wanted ns rs) enough) tt
 
   -- 1 to 3, 10, 11 and 23 by the counts of the file, then its contents
-  pub contents_judged : named_judge_check (names_section f.names) sets ns rs work_lent ≡ Fine
+  pub contents_judged : named_judge_check (names_section f.names) sets ns rs work_lent ≡ Ok tt
   unfolding named_judge_check
   contents_judged =
       named_passes (names_section f.names) (named_judge_order sets ns rs work_lent) f.names within.names refl

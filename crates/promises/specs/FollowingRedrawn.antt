@@ -2,7 +2,7 @@
 -- laws .., and both are within the limits, then for every record list, with room enough lent to each, both are refused or both get the same".
 -- The list is the same (`redrawn_listing`, of any flows), and so is what two calls come to, unless either is undecided (`redrawn_next`); with
 -- names likewise, for flows whose events all have entries (`named_redrawn_next`). Theorems only. Assumes nothing.
-use Rattle.std.specs.Prelude.{ℕ, ◌≤◌, ◌<◌, List, ◌≡◌, refl, length}
+use Rattle.std.specs.Prelude.{ℕ, ◌≤◌, ◌<◌, List, ◌≡◌, refl, length, Result, Ok, Err, ⊤}
 use Rattle.std.proofs.Math.Path.{sym, ap}
 use Rattle.std.proofs.Common.{◌∙◌, subst, subst₂, arith}
 use Rattle.std.proofs.Math.Decide.{dec_le}
@@ -10,9 +10,7 @@ use Rattle.calculus.specs.Records.{Record, State}
 use Rattle.calculus.specs.Ahead.{entered}
 use Rattle.calculus.specs.Laws.{Redrawn}
 use Rattle.calculus.proofs.Redrawn.{redrawn_flip, redrawn_follows}
-use Rattle.flow.specs.declared.Check.{Check}
-use Rattle.flow.specs.declared.Check.TheVariants.{Fine}
-use Rattle.flow.specs.declared.Check.TheVariants as check
+use Rattle.flow.specs.declared.Refusal.{Refusal}
 use Rattle.flow.specs.declared.Extent.TheVariants.{Beginning}
 use Rattle.flow.specs.Refusals.{wrong_closings, closings_place, closings_allowed}
 use Rattle.flow.specs.Checks.{first, grounds, or_else_check, table_length_check, sets_check, nodes_check, table_check, records_length_check, values_check, closings_check, records_check}
@@ -76,14 +74,14 @@ module _ {flow flow' : State} (redrawn : Redrawn flow flow') where
 
 ---- Two calls of which the same is refused ----
 
-module _ {c c' : Check} {flow flow' : State} {ns ns' rs : List ℕ} {allowance allowance' : ℕ} {list work list' after other work' other' after' : List ℕ} {r q : Next}
+module _ {c c' : Result ⊤ Refusal} {flow flow' : State} {ns ns' rs : List ℕ} {allowance allowance' : ℕ} {list work list' after other work' other' after' : List ℕ} {r q : Next}
     (same : c ≡ c') (redrawn : Redrawn flow flow') (call : NextBy c flow ns rs allowance list work r list' after) (call' : NextBy c' flow' ns' rs allowance' other work' q other' after') where
   pub redrawn_calls : SameList list list' other other' (told r) (told q)
   redrawn_calls = by c refl
     where
-      by : (x : Check) → c ≡ x → SameList list list' other other' (told r) (told q)
-      by Fine e = redrawn_lists redrawn (call_lists call ((call_not_refused call).1 e)) (call_lists call' ((call_not_refused call').1 (sym same ∙ e)))
-      by (check.Refused x) e =
+      by : (x : Result ⊤ Refusal) → c ≡ x → SameList list list' other other' (told r) (told q)
+      by (Ok tt) e = redrawn_lists redrawn (call_lists call ((call_not_refused call).1 e)) (call_lists call' ((call_not_refused call').1 (sym same ∙ e)))
+      by (Err x) e =
           let d = (call_refusal call x.number x.place).1 e in
           let f = (call_refusal call' x.number x.place).1 (sym same ∙ e) in
           subst₂ (SameList list list' other other') (sym d) (sym f) SameList.both_refused
@@ -91,11 +89,11 @@ module _ {c c' : Check} {flow flow' : State} {ns ns' rs : List ℕ} {allowance a
 ---- `next` ----
 
 -- 14 is not given where enough is lent
-room_fine : (ns rs : List ℕ) (numbers room : ℕ) → numbers_wanted ≤ numbers → room_wanted ns rs ≤ room → first (grounds (next_room_order ns rs numbers room)) ≡ Fine
+room_fine : (ns rs : List ℕ) (numbers room : ℕ) → numbers_wanted ≤ numbers → room_wanted ns rs ≤ room → first (grounds (next_room_order ns rs numbers room)) ≡ Ok tt
 room_fine ns rs numbers room h l = (nowhere_exactly (next_room_order ns rs numbers room)).1 (room_passes ns rs numbers room h l)
 
 -- a fine table with enough lent is refused as its records are
-next_decide : (sets ns rs : List ℕ) (numbers room : ℕ) → table_check sets ns ≡ Fine → numbers_wanted ≤ numbers → room_wanted ns rs ≤ room → next_check sets ns rs numbers room ≡ records_check Beginning ns rs
+next_decide : (sets ns rs : List ℕ) (numbers room : ℕ) → table_check sets ns ≡ Ok tt → numbers_wanted ≤ numbers → room_wanted ns rs ≤ room → next_check sets ns rs numbers room ≡ records_check Beginning ns rs
 unfolding next_check
 next_decide sets ns rs numbers room fine h l =
     plain_then Beginning sets ns rs (next_room_order ns rs numbers room)
@@ -103,7 +101,7 @@ next_decide sets ns rs numbers room fine h l =
     ∙ or_else_last (records_check Beginning ns rs) _ (room_fine ns rs numbers room h l)
 
 -- 02, Four: "both judged with the same sets"
-module _ (sets ns ns' : List ℕ) (redrawn : Redrawn (flow_of sets ns) (flow_of sets ns')) (within : table_check sets ns ≡ Fine) (within' : table_check sets ns' ≡ Fine) where
+module _ (sets ns ns' : List ℕ) (redrawn : Redrawn (flow_of sets ns) (flow_of sets ns')) (within : table_check sets ns ≡ Ok tt) (within' : table_check sets ns' ≡ Ok tt) where
   pub redrawn_next : {rs : List ℕ} {allowance allowance' : ℕ} {list work list' after other work' other' after' : List ℕ} {r q : Next}
       → NextOf sets ns rs allowance list work r list' after → NextOf sets ns' rs allowance' other work' q other' after'
       → numbers_wanted ≤ length list → numbers_wanted ≤ length other → room_wanted ns rs ≤ length work → room_wanted ns' rs ≤ length work'
@@ -119,7 +117,7 @@ module _ (sets ns ns' : List ℕ) (redrawn : Redrawn (flow_of sets ns) (flow_of 
 
 module _ (es : List Entry) (good : GoodNames es) where
   -- what is refused then depends on the records alone, and on the closings that may come
-  named_next_decide : (sets ns rs : List ℕ) (numbers room : ℕ) → table_check sets ns ≡ Fine → EventsNamed es ns → numbers_wanted ≤ numbers → room_wanted ns rs ≤ room
+  named_next_decide : (sets ns rs : List ℕ) (numbers room : ℕ) → table_check sets ns ≡ Ok tt → EventsNamed es ns → numbers_wanted ≤ numbers → room_wanted ns rs ≤ room
       → named_next_check (names_section es) sets ns rs numbers room
       ≡ or_else_check (records_length_check Beginning rs) (or_else_check (values_check rs) (or_else_check (closings_check Beginning ns rs) (first (events_grounds (length es) rs))))
   unfolding named_next_check
@@ -133,9 +131,9 @@ module _ (es : List Entry) (good : GoodNames es) where
       ∙ sym (or_else_fine _ t.0)
       ∙ ap (or_else_check (records_length_check Beginning rs))
       (sym (or_else_fine _ u.0) ∙ contents_is Beginning (length es) (set_count sets) ns rs ∙ sym (or_else_fine _ u.1)
-      ∙ ap (λ (c : Check). or_else_check (values_check rs) (or_else_check (closings_check Beginning ns rs) c)) (sym (or_else_fine _ (events_pass es ns events))))
+      ∙ ap (λ (c : Result ⊤ Refusal). or_else_check (values_check rs) (or_else_check (closings_check Beginning ns rs) c)) (sym (or_else_fine _ (events_pass es ns events))))
 
-  module _ (sets ns ns' : List ℕ) (redrawn : Redrawn (flow_by (with_names es sets) ns) (flow_by (with_names es sets) ns')) (within : table_check sets ns ≡ Fine) (within' : table_check sets ns' ≡ Fine)
+  module _ (sets ns ns' : List ℕ) (redrawn : Redrawn (flow_by (with_names es sets) ns) (flow_by (with_names es sets) ns')) (within : table_check sets ns ≡ Ok tt) (within' : table_check sets ns' ≡ Ok tt)
       (events : EventsNamed es ns) (events' : EventsNamed es ns') where
     same_closings : (rs : List ℕ) → closings_check Beginning ns rs ≡ closings_check Beginning ns' rs
     unfolding closings_check wrong_closings closings_place closings_allowed
@@ -148,6 +146,6 @@ module _ (es : List Entry) (good : GoodNames es) where
     named_redrawn_next {rs} {list} {work} {other} {work'} call call' h h' l l' =
         redrawn_calls
         (named_next_decide sets ns rs (length list) (length work) within events h l
-        ∙ ap (λ (c : Check). or_else_check (records_length_check Beginning rs) (or_else_check (values_check rs) (or_else_check c (first (events_grounds (length es) rs))))) (same_closings rs)
+        ∙ ap (λ (c : Result ⊤ Refusal). or_else_check (records_length_check Beginning rs) (or_else_check (values_check rs) (or_else_check c (first (events_grounds (length es) rs))))) (same_closings rs)
         ∙ sym (named_next_decide sets ns' rs (length other) (length work') within' events' h' l'))
         redrawn (named_next_call es good sets call) (named_next_call es good sets call')

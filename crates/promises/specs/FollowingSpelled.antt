@@ -2,11 +2,10 @@
 -- is the list of the flow in which each leaf is the choice of the entries that it takes (`spelled_next`); the count is the named flow's. For
 -- the runs of either follow the same records, where they get stuck too (`spelled_flow_follows`).
 -- Theorems only. Assumes nothing.
-use Rattle.std.specs.Prelude.{ℕ, ◌<◌, List, ◌↔◌, ◌≡◌, length}
+use Rattle.std.specs.Prelude.{ℕ, ◌<◌, List, ◌↔◌, ◌≡◌, length, Ok}
 use Rattle.std.proofs.Common.{sym, subst}
 use Rattle.calculus.specs.Records.{Record, State, Follows}
 use Rattle.calculus.specs.Leaves.{AnySet}
-use Rattle.flow.specs.declared.Check.TheVariants.{Fine}
 use Rattle.flow.specs.declared.Extent.TheVariants.{Beginning}
 use Rattle.flow.specs.declared.Node.TheVariants.{Event}
 use Rattle.flow.specs.Tests.{is_false}
@@ -35,7 +34,7 @@ use Rattle.promises.specs.Listings.{following_all, same_runs_listing, call_not_r
 use Rattle.promises.specs.Beginnings.{lists_parts, lists_named, named_check_nowhere}
 use Rattle.promises.specs.Following.{named_next_lists}
 
-module _ (es : List Entry) (good : GoodNames es) (sets ns : List ℕ) (passed : table_check sets ns ≡ Fine) (events : EventsNamed es ns) where
+module _ (es : List Entry) (good : GoodNames es) (sets ns : List ℕ) (passed : table_check sets ns ≡ Ok tt) (events : EventsNamed es ns) where
   event_like : (i e : ℕ) → i < count ns → node ns i ≡ Event e → LikeLeaf (taken_choice es) (named es e)
   event_like i e w n =
       let q = leaf_named (length es) ns (fine_table ns sets passed) i e w n (is_false (unnamed_leaf (length es) ns i) (events i w)) in
@@ -48,7 +47,7 @@ module _ (es : List Entry) (good : GoodNames es) (sets ns : List ℕ) (passed : 
 
 module _ (es : List Entry) (good : GoodNames es) (sets : List ℕ) where
   -- of any beginning
-  pub spelled_listing : (ns rs : List ℕ) → table_check sets ns ≡ Fine → EventsNamed es ns → {listed : List ℕ} → Listing (flow_by (with_names es sets) ns) (records rs) listed
+  pub spelled_listing : (ns rs : List ℕ) → table_check sets ns ≡ Ok tt → EventsNamed es ns → {listed : List ℕ} → Listing (flow_by (with_names es sets) ns) (records rs) listed
       → Listing (spelled_out es (flow_by (with_names es sets) ns)) (records rs) listed
   spelled_listing ns rs passed events f =
       let spelled : State = spelled_out es (flow_by (with_names es sets) ns) in

@@ -1,12 +1,11 @@
 -- What is refused of a names section that is lent by itself, with lists that an order of rounds looks at: exactly the ways of
 -- NamedRefuses (`named_exactly`), and nothing exactly if the section is a good one, with nothing behind it, and no ground of the order
 -- holds (`named_fine`). Said once, of any order; then of the sets, nodes and records that are lent with it. Assumes nothing.
-use Rattle.std.specs.Prelude.{ℕ, ◌≤◌, ◌<◌, ◌⊎◌, ◌↔◌, ◌≡◌, refl, length}
+use Rattle.std.specs.Prelude.{ℕ, ◌≤◌, ◌<◌, ◌⊎◌, ◌↔◌, ◌≡◌, refl, length, Result, Ok, Err, ⊤}
 use mathlib.Core.List.{List, [], ◌∷◌, ◌++◌}
 use Rattle.std.proofs.Common.{inl, inr, sym, ◌∙◌, arith}
 use Rattle.std.proofs.Math.Path.{ap, subst}
 use Rattle.flow.specs.declared.Refusal.{Refusal}
-use Rattle.flow.specs.declared.Check.TheVariants.{Fine, Refused}
 use Rattle.flow.specs.declared.Extent.{Extent}
 use Rattle.flow.specs.Refusals.{Round, lone, sweep}
 use Rattle.flow.specs.Earliest.{Earliest, past_lone, past_sweep, Nowhere, end, not_lone, not_sweep}
@@ -27,10 +26,10 @@ use Rattle.promises.specs.Reader.{stands_whole}
 use Rattle.promises.specs.ReaderRefusals.{names_refused, names_fault}
 
 -- nothing is both fine and refused
-pub fine_not_refused : {r : Refusal} {C : Type 0} → Fine ≡ Refused r → C
+pub fine_not_refused : {r : Refusal} {C : Type 0} → ◌≡◌ {A = Result ⊤ Refusal} (Ok tt) (Err r) → C
 fine_not_refused e = let z : ◌≡◌ {A = ℕ} 0 1 = cc in absurd (omega arith)
 
-pub same_refusal : {q r : Refusal} → Refused q ≡ Refused r → q ≡ r
+pub same_refusal : {q r : Refusal} → ◌≡◌ {A = Result ⊤ Refusal} (Err q) (Err r) → q ≡ r
 same_refusal e = cc
 
 ---- One order after another ----
@@ -90,37 +89,37 @@ module _ (s : List ℕ) where
 
 module _ (s : List ℕ) (order : List Entry → List Round) where
   -- each way of a refusal is answered so
-  pub named_refused : {k p : ℕ} → NamedRefuses s order k p → named_check s order ≡ Refused (refusal_of k p)
+  pub named_refused : {k p : ℕ} → NamedRefuses s order k p → named_check s order ≡ Err (refusal_of k p)
   unfolding named_check by_entries
   named_refused (in_section f) = ap (by_entries order) (alone_bad s (names_refused s f))
   named_refused (after_section es g h l) = ap (by_entries order) (alone_longer s (names_read s g h) l)
   named_refused (in_order {k} {p} es g e h) = ap (by_entries order) (section_found s g e) ∙ (earliest_exactly (order es) (refusal_of k p)).1 h
 
   -- a good section with nothing to refuse in the order is answered so
-  pub named_passes : (es : List Entry) → GoodNames es → s ≡ names_section es → Nowhere (order es) → named_check s order ≡ Fine
+  pub named_passes : (es : List Entry) → GoodNames es → s ≡ names_section es → Nowhere (order es) → named_check s order ≡ Ok tt
   unfolding named_check by_entries
   named_passes es g e n = ap (by_entries order) (section_found s g e) ∙ (nowhere_exactly (order es)).1 n
 
   module _ (bytes : Bytes s) where
     -- a refusal is given exactly when one of its ways holds
-    pub named_exactly : (k p : ℕ) → (named_check s order ≡ Refused (refusal_of k p)) ↔ NamedRefuses s order k p
+    pub named_exactly : (k p : ℕ) → (named_check s order ≡ Err (refusal_of k p)) ↔ NamedRefuses s order k p
     unfolding named_check by_entries
     named_exactly k p = (λ e. by (alone s bytes) e, named_refused)
       where
-        is : {j q : ℕ} → Refused (refusal_of j q) ≡ Refused (refusal_of k p) → NamedRefuses s order j q → NamedRefuses s order k p
+        is : {j q : ℕ} → ◌≡◌ {A = Result ⊤ Refusal} (Err (refusal_of j q)) (Err (refusal_of k p)) → NamedRefuses s order j q → NamedRefuses s order k p
         is e x = subst (λ (r : Refusal). NamedRefuses s order r.number r.place) (same_refusal e) x
 
-        by : {x : Ran (List Entry)} → Alone s x → by_entries order x ≡ Refused (refusal_of k p) → NamedRefuses s order k p
+        by : {x : Ran (List Entry)} → Alone s x → by_entries order x ≡ Err (refusal_of k p) → NamedRefuses s order k p
         by (at_fault f) e = is e (in_section f)
         by (longer es g h l) e = is e (after_section es g h l)
         by (whole es g d) e = in_order es g d ((earliest_exactly (order es) (refusal_of k p)).0 e)
 
     -- and nothing is refused exactly of a good section with nothing to refuse in the order
-    pub named_fine : (named_check s order ≡ Fine) ↔ ((es : List Entry) × GoodNames es × (s ≡ names_section es) × Nowhere (order es))
+    pub named_fine : (named_check s order ≡ Ok tt) ↔ ((es : List Entry) × GoodNames es × (s ≡ names_section es) × Nowhere (order es))
     unfolding named_check by_entries
     named_fine = (λ e. by (alone s bytes) e, λ x. named_passes x.0 x.1 x.2 x.3)
       where
-        by : {x : Ran (List Entry)} → Alone s x → by_entries order x ≡ Fine → (es : List Entry) × GoodNames es × (s ≡ names_section es) × Nowhere (order es)
+        by : {x : Ran (List Entry)} → Alone s x → by_entries order x ≡ Ok tt → (es : List Entry) × GoodNames es × (s ≡ names_section es) × Nowhere (order es)
         by (at_fault f) e = fine_not_refused (sym e)
         by (longer es g h l) e = fine_not_refused (sym e)
         by (whole es g d) e = (es, g, d, (nowhere_exactly (order es)).0 e)
@@ -142,10 +141,10 @@ named_order same (in_order {k} {p} es g e h) = in_order es g e (subst (Earliest 
 
 module _ (extent : Extent) (s sets ns rs : List ℕ) (bytes : Bytes s) where
   -- 15 to 18, 21, 1 to 3, 10, 11, 23, 4 to 9, with 22, 12, 13, 19, 20
-  pub lists_exactly : (k p : ℕ) → (lists_check extent s sets ns rs ≡ Refused (refusal_of k p)) ↔ NamedRefuses s (λ es. lists_order extent (length es) sets ns rs) k p
+  pub lists_exactly : (k p : ℕ) → (lists_check extent s sets ns rs ≡ Err (refusal_of k p)) ↔ NamedRefuses s (λ es. lists_order extent (length es) sets ns rs) k p
   unfolding lists_check
   lists_exactly = named_exactly s (λ es. lists_order extent (length es) sets ns rs) bytes
 
-  pub lists_fine : (lists_check extent s sets ns rs ≡ Fine) ↔ ((es : List Entry) × GoodNames es × (s ≡ names_section es) × Nowhere (lists_order extent (length es) sets ns rs))
+  pub lists_fine : (lists_check extent s sets ns rs ≡ Ok tt) ↔ ((es : List Entry) × GoodNames es × (s ≡ names_section es) × Nowhere (lists_order extent (length es) sets ns rs))
   unfolding lists_check
   lists_fine = named_fine s (λ es. lists_order extent (length es) sets ns rs) bytes

@@ -3,7 +3,7 @@
 -- 259 (`following_few`). A call, by its contract, is refused exactly if
 -- its check refuses (`call_refusal`, `call_not_refused`), and else comes to what request Three says (`call_lists`); what is kept, cleared and
 -- left alone (`call_keeps`, `call_clears`, `call_length`), and that there is one outcome (`call_once`). Assumes nothing.
-use Rattle.std.specs.Prelude.{ℕ, zero, suc, ◌+◌, ◌≤◌, ◌<◌, Bool, cond, ◌⊎◌, ◌↔◌, ◌≡◌, leb, length, drop}
+use Rattle.std.specs.Prelude.{ℕ, zero, suc, ◌+◌, ◌≤◌, ◌<◌, Bool, cond, ◌⊎◌, ◌↔◌, ◌≡◌, leb, length, drop, Result, Ok, Err, ⊤}
 use Rattle.std.proofs.Math.Bool.{true, false}
 use mathlib.Core.List.Memᴰ
 use mathlib.Core.List.{List, [], ◌∷◌, ◌++◌, Memᴰ}
@@ -19,9 +19,6 @@ use Rattle.calculus.specs.Ahead.{may_follow, entered}
 use Rattle.calculus.proofs.AheadLaws.{may_follow_follows}
 use Rattle.calculus.proofs.AheadRuns.{passes_complete, passes_traces, complete_passes}
 use Rattle.flow.specs.declared.Refusal.{Refusal}
-use Rattle.flow.specs.declared.Check.{Check}
-use Rattle.flow.specs.declared.Check.TheVariants.{Fine}
-use Rattle.flow.specs.declared.Check.TheVariants as check
 use Rattle.flow.specs.Records.{done_number, withdrawn_number, failed_number, most_events, record_of, records, from, all_numbers}
 use Rattle.format.specs.Told.{at_front}
 use Rattle.judge.specs.Judged.{unless_refused, room_wanted, cleared}
@@ -299,71 +296,71 @@ lists_if flow rs allowance list false h = record {
 }
 
 -- by what is refused and the flow, whatever entry point it is
-module _ (c : Check) (flow : State) (rs : List ℕ) (allowance : ℕ) where
+module _ (c : Result ⊤ Refusal) (flow : State) (rs : List ℕ) (allowance : ℕ) where
   abbrev tells : NextTold
   tells = told (next_by c flow rs allowance)
 
-  pub next_told_refused : (r : Refusal) → c ≡ check.Refused r → tells ≡ refusal r.number r.place
+  pub next_told_refused : (r : Refusal) → c ≡ Err r → tells ≡ refusal r.number r.place
   unfolding told next_by unless_refused
-  next_told_refused r e = ap (λ (x : Check). told (next_by x flow rs allowance)) e
+  next_told_refused r e = ap (λ (x : Result ⊤ Refusal). told (next_by x flow rs allowance)) e
 
-  pub list_kept : (r : Refusal) (list : List ℕ) → c ≡ check.Refused r → list_by c flow rs allowance list ≡ list
+  pub list_kept : (r : Refusal) (list : List ℕ) → c ≡ Err r → list_by c flow rs allowance list ≡ list
   unfolding list_by unless_refused
-  list_kept r list e = ap (λ (x : Check). list_by x flow rs allowance list) e
+  list_kept r list e = ap (λ (x : Result ⊤ Refusal). list_by x flow rs allowance list) e
 
-  next_is : c ≡ Fine → next_by c flow rs allowance ≡ answer_if (leb (entered (records rs) flow) allowance) flow rs allowance
+  next_is : c ≡ Ok tt → next_by c flow rs allowance ≡ answer_if (leb (entered (records rs) flow) allowance) flow rs allowance
   unfolding next_by unless_refused allowed
-  next_is e = ap (λ (x : Check). next_by x flow rs allowance) e
+  next_is e = ap (λ (x : Result ⊤ Refusal). next_by x flow rs allowance) e
 
-  list_is : (list : List ℕ) → c ≡ Fine → list_by c flow rs allowance list ≡ cond (leb (entered (records rs) flow) allowance) (at_front (following flow rs) list) list
+  list_is : (list : List ℕ) → c ≡ Ok tt → list_by c flow rs allowance list ≡ cond (leb (entered (records rs) flow) allowance) (at_front (following flow rs) list) list
   unfolding list_by unless_refused allowed
-  list_is list e = ap (λ (x : Check). list_by x flow rs allowance list) e
+  list_is list e = ap (λ (x : Result ⊤ Refusal). list_by x flow rs allowance list) e
 
   -- what is not refused is what request Three says
-  pub fine_lists : (list : List ℕ) → c ≡ Fine → Lists flow (records rs) allowance tells list (list_by c flow rs allowance list)
+  pub fine_lists : (list : List ℕ) → c ≡ Ok tt → Lists flow (records rs) allowance tells list (list_by c flow rs allowance list)
   fine_lists list e =
       subst₂ (λ (t : NextTold) (l : List ℕ). Lists flow (records rs) allowance t list l) (sym (ap told (next_is e))) (sym (list_is list e))
       (lists_if flow rs allowance list (leb (entered (records rs) flow) allowance) refl)
 
   -- what is not refused
-  pub next_not_refused : (tells.word ≡ NextWord.refused → ⊥) ↔ (c ≡ Fine)
+  pub next_not_refused : (tells.word ≡ NextWord.refused → ⊥) ↔ (c ≡ Ok tt)
   next_not_refused = (λ n. by n c refl, λ e w. lists_not_refused (fine_lists [] e) w)
     where
-      by : (tells.word ≡ NextWord.refused → ⊥) → (x : Check) → c ≡ x → c ≡ Fine
-      by n Fine e = e
-      by n (check.Refused r) e = absurd (n (ap (λ (t : NextTold). t.word) (next_told_refused r e)))
+      by : (tells.word ≡ NextWord.refused → ⊥) → (x : Result ⊤ Refusal) → c ≡ x → c ≡ Ok tt
+      by n (Ok tt) e = e
+      by n (Err r) e = absurd (n (ap (λ (t : NextTold). t.word) (next_told_refused r e)))
 
-  pub next_refused_so : tells.word ≡ NextWord.refused → (r : Refusal) × (c ≡ check.Refused r)
+  pub next_refused_so : tells.word ≡ NextWord.refused → (r : Refusal) × (c ≡ Err r)
   next_refused_so w = by c refl
     where
-      by : (x : Check) → c ≡ x → (r : Refusal) × (c ≡ check.Refused r)
-      by Fine e = absurd (next_not_refused.1 e w)
-      by (check.Refused r) e = (r, e)
+      by : (x : Result ⊤ Refusal) → c ≡ x → (r : Refusal) × (c ≡ Err r)
+      by (Ok tt) e = absurd (next_not_refused.1 e w)
+      by (Err r) e = (r, e)
 
-  pub next_refusal_told : (number place : ℕ) → (tells ≡ refusal number place) ↔ (c ≡ check.Refused (record { number = number; place = place }))
+  pub next_refusal_told : (number place : ℕ) → (tells ≡ refusal number place) ↔ (c ≡ Err (record { number = number; place = place }))
   next_refusal_told number place = (there, λ e. next_told_refused (record { number = number; place = place }) e)
     where
-      there : tells ≡ refusal number place → c ≡ check.Refused (record { number = number; place = place })
+      there : tells ≡ refusal number place → c ≡ Err (record { number = number; place = place })
       there e =
           let q = next_refused_so (ap (λ (t : NextTold). t.word) e) in
-          q.1 ∙ ap (λ (t : NextTold). check.Refused (record { number = t.number; place = t.place })) (sym (next_told_refused q.0 q.1) ∙ e)
+          q.1 ∙ ap (λ (t : NextTold). Err (record { number = t.number; place = t.place })) (sym (next_told_refused q.0 q.1) ∙ e)
 
 ---- A call, by its contract ----
 
-module _ {c : Check} {flow : State} {ns rs : List ℕ} {allowance : ℕ} {list work : List ℕ} {r : Next} {list' after : List ℕ}
+module _ {c : Result ⊤ Refusal} {flow : State} {ns rs : List ℕ} {allowance : ℕ} {list work : List ℕ} {r : Next} {list' after : List ℕ}
     (call : NextBy c flow ns rs allowance list work r list' after) where
   abbrev answer_is : told r ≡ told (next_by c flow rs allowance)
   answer_is = ap told call.answers
 
-  pub call_refusal : (number place : ℕ) → (told r ≡ refusal number place) ↔ (c ≡ check.Refused (record { number = number; place = place }))
+  pub call_refusal : (number place : ℕ) → (told r ≡ refusal number place) ↔ (c ≡ Err (record { number = number; place = place }))
   call_refusal number place =
-      subst (λ (t : NextTold). (t ≡ refusal number place) ↔ (c ≡ check.Refused (record { number = number; place = place }))) (sym answer_is)
+      subst (λ (t : NextTold). (t ≡ refusal number place) ↔ (c ≡ Err (record { number = number; place = place }))) (sym answer_is)
       (next_refusal_told c flow rs allowance number place)
 
-  pub call_not_refused : ((told r).word ≡ NextWord.refused → ⊥) ↔ (c ≡ Fine)
-  call_not_refused = subst (λ (t : NextTold). (t.word ≡ NextWord.refused → ⊥) ↔ (c ≡ Fine)) (sym answer_is) (next_not_refused c flow rs allowance)
+  pub call_not_refused : ((told r).word ≡ NextWord.refused → ⊥) ↔ (c ≡ Ok tt)
+  call_not_refused = subst (λ (t : NextTold). (t.word ≡ NextWord.refused → ⊥) ↔ (c ≡ Ok tt)) (sym answer_is) (next_not_refused c flow rs allowance)
 
-  pub call_refused_so : (told r).word ≡ NextWord.refused → (q : Refusal) × (c ≡ check.Refused q)
+  pub call_refused_so : (told r).word ≡ NextWord.refused → (q : Refusal) × (c ≡ Err q)
   call_refused_so w = next_refused_so c flow rs allowance (ap (λ (t : NextTold). t.word) (sym answer_is) ∙ w)
 
   pub call_lists : ((told r).word ≡ NextWord.refused → ⊥) → Lists flow (records rs) allowance (told r) list list'
@@ -382,21 +379,21 @@ module _ {c : Check} {flow : State} {ns rs : List ℕ} {allowance : ℕ} {list w
   call_undecided_keeps w = (call_lists (λ u. not_undecided_word (λ x. x) (sym u ∙ w))).undecided_keeps w
 
   -- the table keeps its length, if it is as long as is wanted where something is listed
-  pub call_length : (c ≡ Fine → numbers_wanted ≤ length list) → length list' ≡ length list
+  pub call_length : (c ≡ Ok tt → numbers_wanted ≤ length list) → length list' ≡ length list
   call_length long = by c refl
     where
-      by : (x : Check) → c ≡ x → length list' ≡ length list
-      by Fine e =
+      by : (x : Result ⊤ Refusal) → c ≡ x → length list' ≡ length list
+      by (Ok tt) e =
           ap length (call.lists ∙ list_is c flow rs allowance list e)
           ∙ cond_both (λ (l : List ℕ). length l ≡ length list) (leb (entered (records rs) flow) allowance) (at_front (following flow rs) list) list
           (omega (arith, long e, following_few flow rs, length-append (following flow rs) (drop (length (following flow rs)) list), length-drop (length (following flow rs)) list)) refl
-      by (check.Refused q) e = ap length (call.lists ∙ list_kept c flow rs allowance q list e)
+      by (Err q) e = ap length (call.lists ∙ list_kept c flow rs allowance q list e)
 
   -- any other answer clears the work bytes that are wanted
   pub call_clears : ((told r).word ≡ NextWord.refused → ⊥) → after ≡ cleared (room_wanted ns rs) work
   call_clears n = call.leaves ∙ fine_bytes (room_wanted ns rs) work (call_not_refused.0 n)
 
 -- one outcome
-pub call_once : {c : Check} {flow : State} {ns rs : List ℕ} {allowance : ℕ} {list work : List ℕ} {r r' : Next} {list' list'' after after' : List ℕ}
+pub call_once : {c : Result ⊤ Refusal} {flow : State} {ns rs : List ℕ} {allowance : ℕ} {list work : List ℕ} {r r' : Next} {list' list'' after after' : List ℕ}
     → NextBy c flow ns rs allowance list work r list' after → NextBy c flow ns rs allowance list work r' list'' after' → (r ≡ r') × (list' ≡ list'') × (after ≡ after')
 call_once p q = (p.answers ∙ sym q.answers, p.lists ∙ sym q.lists, p.leaves ∙ sym q.leaves)

@@ -2,7 +2,7 @@
 -- a machine means the choice of the entries that it takes and is one step (`named_leaf_traces`, `named_leaf_runs`, `named_leaf_once`),
 -- and that names which all have a machine change no verdict (`plain_names_judge`, `plain_names_judged`). Assumes nothing.
 use Prim.Native.Nat.{ℕ, zero, suc, ◌<◌, ◌≤◌}
-use Rattle.std.specs.Prelude.{◌≡◌, refl, Bool, true, false, ◌&&◌, ◌||◌, ◌⊎◌, ◌↔◌, ◌≢◌, eqb, length, get_or}
+use Rattle.std.specs.Prelude.{◌≡◌, refl, Bool, true, false, ◌&&◌, ◌||◌, ◌⊎◌, ◌↔◌, ◌≢◌, eqb, length, get_or, Ok}
 use Rattle.std.proofs.Common.{sym, ap, ◌∙◌, eq-or-lt_of_le, eqb→eq, eq-eqb, ne_eqb}
 use Rattle.std.proofs.Math.Path.{subst}
 use Rattle.std.proofs.lemmas.Bool.{false≢true}
@@ -23,7 +23,6 @@ use Rattle.calculus.proofs.LeafChoice.{leaf_traces, leaf_runs, leaf_once}
 use Rattle.calculus.specs.Renames.{renamed, HeardIn, none, and_event, and_close}
 use Rattle.calculus.proofs.Renamed.{judge_renamed}
 use Rattle.calculus.specs.Search.{judge}
-use Rattle.flow.specs.declared.Check.TheVariants.{Fine}
 use Rattle.flow.specs.declared.Extent.TheVariants.{Whole}
 use Rattle.flow.specs.Tests.{is_true}
 use Rattle.flow.specs.Records.{records}
@@ -239,13 +238,13 @@ module _ (es : List Entry) (machines : (e : Entry) → Memᴰ e es → e.machine
       ∙ ap (λ (x : List Record). judge (flow_of sets ns) x allowance) (renamed_same rs)
 
 -- lists that pass are not refused without the names
-passed_fine : (sets ns rs : List ℕ) (room : ℕ) → table_check sets ns ≡ Fine → Passed Whole ns rs room → judge_check sets ns rs room ≡ Fine
+passed_fine : (sets ns rs : List ℕ) (room : ℕ) → table_check sets ns ≡ Ok tt → Passed Whole ns rs room → judge_check sets ns rs room ≡ Ok tt
 passed_fine sets ns rs room table p =
     check_parts sets ns rs room ∙ sym (or_else_fine _ table) ∙ sym (or_else_fine _ p.records) ∙ room_passes ns rs room p.enough
 
 -- so `judge_named`, where it refuses nothing, answers as `judge`
 pub plain_names_judged : (s sets ns rs : List ℕ) (room allowance : ℕ) → ((e : Entry) → Memᴰ e (entries_in s) → e.machine ≢ [])
-    → named_judge_check s sets ns rs room ≡ Fine → judged_named s sets ns rs room allowance ≡ judged sets ns rs room allowance
+    → named_judge_check s sets ns rs room ≡ Ok tt → judged_named s sets ns rs room allowance ≡ judged sets ns rs room allowance
 plain_names_judged s sets ns rs room allowance machines fine =
     let passed = named_passed sets ns rs room s fine in
     let table = (named_lists sets ns rs room s fine).table in

@@ -3,7 +3,7 @@
 -- (`kinds_free`), and so is all that is judged without sets (`unset_printed`). Which events a set holds (`set_bits`), and that it is asked
 -- for the record's event (`record_looked_up`). And exactly when 22 and 23 are given (`set_absent_exactly`,
 -- `sets_wrong_exactly`). What is said of an answer of `judge` is said of `judge_named` too, with `named_` before the name. Assumes nothing.
-use Rattle.std.specs.Prelude.{ℕ, ◌-◌, ◌<◌, ◌≡◌, Bool, false, not, ◌&&◌, cond, List, [], ◌∷◌, ◌++◌, ◌⊎◌, ◌↔◌, ◌≢◌, length, replicate}
+use Rattle.std.specs.Prelude.{ℕ, ◌-◌, ◌<◌, ◌≡◌, Bool, false, not, ◌&&◌, cond, List, [], ◌∷◌, ◌++◌, ◌⊎◌, ◌↔◌, ◌≢◌, length, replicate, Result, ⊤}
 use Rattle.std.proofs.Math.Path.{refl, ap, subst}
 use Rattle.std.proofs.Common.{sym, inl, inr, ⊎_elim, arith, le-leb}
 use Rattle.std.proofs.Math.Bool.{true, xor}
@@ -17,7 +17,6 @@ use Rattle.calculus.specs.Search as search
 use Rattle.calculus.specs.Printed.{InPrinted}
 use Rattle.calculus.proofs.PrintedTraces.{printed_in_traces}
 use Rattle.flow.specs.declared.Refusal.{Refusal}
-use Rattle.flow.specs.declared.Check.{Check}
 use Rattle.flow.specs.declared.Simple.{Simple}
 use Rattle.flow.specs.declared.Simple.TheVariants.{Skip, Throw, Yield}
 use Rattle.flow.specs.declared.Operator.{Operator}
@@ -60,7 +59,7 @@ use Rattle.promises.specs.NeverTen.{EachGiven, earliest_among}
 -- "Flows may now get stuck, so a trace of a second part is asked for only where the run enters it, and a compensation is kept as the set of
 -- its traces, perhaps empty." A flow free of joint events does not get stuck; of it the traces are those of the figures.
 
-module _ (c : Check) (flow : State) (rs : List ℕ) (allowance : ℕ) where
+module _ (c : Result ⊤ Refusal) (flow : State) (rs : List ℕ) (allowance : ℕ) where
   printed_by : ((told (judged_by c flow rs allowance)).word ≡ VerdictWord.refused → ⊥) → ((told (judged_by c flow rs allowance)).word ≡ VerdictWord.undecided → ⊥)
       → FreeState flow → ((told (judged_by c flow rs allowance)).word ≡ VerdictWord.accepted) ↔ InPrinted flow (records rs)
   printed_by judged_so decided_so free =
@@ -333,7 +332,7 @@ module _ (es : List Entry) (good : GoodNames es) (sets ns rs : List ℕ) (room a
       let order = named_judge_order sets ns rs room es in
       let e : check ≡ first (grounds order) = ap (by_entries (named_judge_order sets ns rs room)) (alone_is es good) in
       Iff.trans (refusal_told check (named_flow (names_section es) sets ns) rs allowance number place)
-      (subst (λ (c : Check). (c ≡ refused number place) ↔ Earliest (record { number = number; place = place }) order) (sym e)
+      (subst (λ (c : Result ⊤ Refusal). (c ≡ refused number place) ↔ Earliest (record { number = number; place = place }) order) (sym e)
       (earliest_exactly order (record { number = number; place = place })))
 
   pub named_sets_wrong_exactly : (place : ℕ)

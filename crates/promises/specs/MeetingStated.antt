@@ -1,7 +1,7 @@
 -- What the promises of 02, Four, are stated with: exactly when 22 and 23 are given, which kinds have a set, and what was refused before there
 -- were such kinds. Definitions only: Meeting and Unmet have the theorems. Assumes nothing.
-use Rattle.std.specs.Prelude.{ℕ, ◌-◌, ◌*◌, ◌<◌, ◌≤◌, Bool, ◌||◌, List, [], ◌∷◌, ◌++◌, ◌⊎◌, ◌≢◌, ◌≡◌, eqb, ltb, length}
-use Rattle.flow.specs.declared.Check.{Check}
+use Rattle.std.specs.Prelude.{ℕ, ◌-◌, ◌*◌, ◌<◌, ◌≤◌, Bool, ◌||◌, List, [], ◌∷◌, ◌++◌, ◌⊎◌, ◌≢◌, ◌≡◌, eqb, ltb, length, Result, ⊤}
+use Rattle.flow.specs.declared.Refusal.{Refusal}
 use Rattle.flow.specs.declared.Extent.{Extent}
 use Rattle.flow.specs.Legends.{set_count}
 use Rattle.flow.specs.Refusals.{count, wrong_field, not_lower, wrong_sort, child_taken, Ground, ground_of, Round, sweep, node_grounds, child_grounds, table_length_order, values_order, closing_order, records_length_order, records_order}
@@ -54,6 +54,6 @@ sixteen_lists extent names ns rs behind =
     table_length_order ns ++ (records_length_order extent rs ++ (sixteen_nodes ns ++ (values_order rs ++ (closing_order extent ns rs ++ (names_order names ns rs ++ behind)))))
 
 -- the same answer, or 22 for 4, at a node whose kind has a set
-pub data AsBefore (ns : List ℕ) : Check → Check → Type 0 where
-  the_same : {c : Check} → AsBefore ns c c
+pub data AsBefore (ns : List ℕ) : Result ⊤ Refusal → Result ⊤ Refusal → Type 0 where
+  the_same : {c : Result ⊤ Refusal} → AsBefore ns c c
   set_kind : {i : ℕ} → SetKind (kind_of ns i) → AsBefore ns (refused 4 i) (refused 22 i)

@@ -3,14 +3,12 @@
 -- have entries. Judging without a names section is unchanged. Refusals: with a names section, those of One in One's order."
 -- The flow is the one that the nodes draw with the entries' leaves and the lent sets (`with_names`, format Matching); what such a leaf
 -- means is in Machines. What does not depend on the matching is said once for both entry points (Verdicts). Theorems only. Assumes nothing.
-use Rattle.std.specs.Prelude.{ℕ, ◌≤◌, ◌≡◌, refl, List, [], ◌∷◌, ◌↔◌, length}
+use Rattle.std.specs.Prelude.{ℕ, ◌≤◌, ◌≡◌, refl, List, [], ◌∷◌, ◌↔◌, length, Result, Ok, Err, ⊤}
 use Rattle.std.proofs.Common.{sym, ap, ◌∙◌, subst}
 use Rattle.std.proofs.Math.Logic.Iff
 use Rattle.calculus.specs.Records.{Record, State, Complete, InTraces}
 use Rattle.calculus.specs.Laws.{Redrawn}
-use Rattle.flow.specs.declared.Check.{Check}
-use Rattle.flow.specs.declared.Check.TheVariants.{Fine}
-use Rattle.flow.specs.declared.Check.TheVariants as check
+use Rattle.flow.specs.declared.Refusal.{Refusal}
 use Rattle.flow.specs.declared.Extent.TheVariants.{Whole}
 use Rattle.flow.specs.Records.{records}
 use Rattle.flow.specs.Refusals.{sweep, count, root, wrong_closings, closings_place}
@@ -88,7 +86,7 @@ module _ (es : List Entry) (good : GoodNames es) where
   named_flow_is sets ns = ap (λ (ds : List Entry). flow_by (with_names ds sets) ns) (entries_in_is (names_section es) alone_is)
 
 -- and the only one
-pub named_one_flow : (es : List Entry) (sets ns : List ℕ) → table_check sets ns ≡ Fine
+pub named_one_flow : (es : List Entry) (sets ns : List ℕ) → table_check sets ns ≡ Ok tt
     → Draws (with_names es sets) ns (root ns) (flow_by (with_names es sets) ns) × ((s : State) → Draws (with_names es sets) ns (root ns) s → s ≡ flow_by (with_names es sets) ns)
 named_one_flow es sets ns e = one_flow_by (with_names es sets) sets ns e
 
@@ -107,17 +105,17 @@ module _ (es : List Entry) (good : GoodNames es) (sets ns rs : List ℕ) (room a
 -- 02, Two: "The laws stay for flows whose events all have entries." Four: "The laws stay for flows whose set numbers are all present, both
 -- judged with the same sets."
 
-pub or_else_last : (a b : Check) → b ≡ Fine → or_else_check a b ≡ a
+pub or_else_last : (a b : Result ⊤ Refusal) → b ≡ Ok tt → or_else_check a b ≡ a
 unfolding or_else_check
-or_else_last Fine b e = e
-or_else_last (check.Refused r) b e = refl
+or_else_last (Ok tt) b e = e
+or_else_last (Err r) b e = refl
 
 -- 19 is given nowhere where all events have entries
-pub events_pass : (es : List Entry) (ns : List ℕ) → EventsNamed es ns → first (leaves_grounds (length es) ns) ≡ Fine
+pub events_pass : (es : List Entry) (ns : List ℕ) → EventsNamed es ns → first (leaves_grounds (length es) ns) ≡ Ok tt
 unfolding leaves_grounds
 events_pass es ns h = (nowhere_exactly (sweep (count ns) (leaf_grounds (length es) ns) ∷ [])).1 (not_sweep (λ i l. more (h i l) none) end)
 
-module _ (es : List Entry) (good : GoodNames es) (sets ns rs : List ℕ) (room : ℕ) (within : table_check sets ns ≡ Fine) (events : EventsNamed es ns) (enough : room_wanted ns rs ≤ room) where
+module _ (es : List Entry) (good : GoodNames es) (sets ns rs : List ℕ) (room : ℕ) (within : table_check sets ns ≡ Ok tt) (events : EventsNamed es ns) (enough : room_wanted ns rs ≤ room) where
   -- what is refused then depends on the records alone, and on the closings that the root needs
   named_decide : named_judge_check (names_section es) sets ns rs room
       ≡ or_else_check (records_length_check Whole rs) (or_else_check (values_check rs) (or_else_check (closings_check Whole ns rs) (first (events_grounds (length es) rs))))
@@ -131,10 +129,10 @@ module _ (es : List Entry) (good : GoodNames es) (sets ns rs : List ℕ) (room :
       ∙ sym (or_else_fine _ t.0)
       ∙ ap (or_else_check (records_length_check Whole rs))
       (sym (or_else_fine _ u.0) ∙ contents_is Whole (length es) (set_count sets) ns rs ∙ sym (or_else_fine _ u.1)
-      ∙ ap (λ (c : Check). or_else_check (values_check rs) (or_else_check (closings_check Whole ns rs) c)) (sym (or_else_fine _ (events_pass es ns events))))
+      ∙ ap (λ (c : Result ⊤ Refusal). or_else_check (values_check rs) (or_else_check (closings_check Whole ns rs) c)) (sym (or_else_fine _ (events_pass es ns events))))
 
 module _ (es : List Entry) (good : GoodNames es) (sets ns ns' : List ℕ) (redrawn : Redrawn (flow_by (with_names es sets) ns) (flow_by (with_names es sets) ns'))
-    (within : table_check sets ns ≡ Fine) (within' : table_check sets ns' ≡ Fine) where
+    (within : table_check sets ns ≡ Ok tt) (within' : table_check sets ns' ≡ Ok tt) where
   -- over demand 2's runs
   pub named_redrawn_runs : (batch : List Record) → Complete (flow_by (with_names es sets) ns) batch ↔ Complete (flow_by (with_names es sets) ns') batch
   named_redrawn_runs = redrawn_flow_runs redrawn
@@ -153,7 +151,7 @@ module _ (es : List Entry) (good : GoodNames es) (sets ns ns' : List ℕ) (redra
     named_redrawn_same rs room room' allowance allowance' enough enough' =
         redrawn_answers
         (named_decide es good sets ns rs room within events enough
-        ∙ ap (λ (c : Check). or_else_check (records_length_check Whole rs) (or_else_check (values_check rs) (or_else_check c (first (events_grounds (length es) rs))))) (same_closings rs)
+        ∙ ap (λ (c : Result ⊤ Refusal). or_else_check (records_length_check Whole rs) (or_else_check (values_check rs) (or_else_check c (first (events_grounds (length es) rs))))) (same_closings rs)
         ∙ sym (named_decide es good sets ns' rs room' within' events' enough'))
         (redrawn_as (sym (named_flow_is es good sets ns)) (sym (named_flow_is es good sets ns')) redrawn) rs allowance allowance'
       where

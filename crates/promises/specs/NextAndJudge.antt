@@ -2,7 +2,7 @@
 -- not have the record at that place, and as many states are entered (`rejected_next`); where it accepts, each record is in the list after
 -- those before it (`accepted_next`). With names likewise (`named_rejected_next`, `named_accepted_next`). What does not depend on the entry
 -- points is said once for both pairs (`rejected_not_listed`, `accepted_listed`). Theorems only. Assumes nothing.
-use Rattle.std.specs.Prelude.{ℕ, zero, suc, ◌≤◌, ◌<◌, false, ◌≡◌, refl, T, length, get_or, take, drop}
+use Rattle.std.specs.Prelude.{ℕ, zero, suc, ◌≤◌, ◌<◌, false, ◌≡◌, refl, T, length, get_or, take, drop, Result, Ok, ⊤}
 use mathlib.Core.List.{List, [], ◌∷◌, ◌++◌, Memᴰ}
 use Rattle.std.proofs.Common.{sym, ap, ◌∙◌, subst, arith}
 use Rattle.std.proofs.lemmas.List.{length-map}
@@ -13,8 +13,7 @@ use Rattle.calculus.specs.Search.{visit}
 use Rattle.calculus.proofs.Members.{is_false}
 use Rattle.calculus.specs.Ahead.{may_follow, entered}
 use Rattle.calculus.proofs.AheadLaws.{place_entered, place_not_followed, place_inside, found_may_follow}
-use Rattle.flow.specs.declared.Check.{Check}
-use Rattle.flow.specs.declared.Check.TheVariants.{Fine}
+use Rattle.flow.specs.declared.Refusal.{Refusal}
 use Rattle.flow.specs.declared.Extent.TheVariants.{Whole}
 use Rattle.flow.specs.Records.{record_of, records}
 use Rattle.flow.specs.Checks.{table_check, records_check}
@@ -68,23 +67,23 @@ accepted_saw (rejects h f) e = absurd (not_accepted_word (λ x. x) e)
 
 ---- By what is refused and the flow, whatever entry points they are ----
 
-module _ {c : Check} {flow : State} {ns rs : List ℕ} {allowance : ℕ} {work : List ℕ} {a : Answer} {after : List ℕ} where
-  judged_fine : JudgedBy c flow ns rs allowance work a after → ((verdict_told a).word ≡ VerdictWord.refused → ⊥) → c ≡ Fine
+module _ {c : Result ⊤ Refusal} {flow : State} {ns rs : List ℕ} {allowance : ℕ} {work : List ℕ} {a : Answer} {after : List ℕ} where
+  judged_fine : JudgedBy c flow ns rs allowance work a after → ((verdict_told a).word ≡ VerdictWord.refused → ⊥) → c ≡ Ok tt
   judged_fine j n = not_refused_fine c flow rs allowance (subst (λ (b : Answer). (verdict_told b).word ≡ VerdictWord.refused → ⊥) j.answers n)
 
-  judged_decided : JudgedBy c flow ns rs allowance work a after → c ≡ Fine → Decided flow (records rs) allowance (verdict_told a)
+  judged_decided : JudgedBy c flow ns rs allowance work a after → c ≡ Ok tt → Decided flow (records rs) allowance (verdict_told a)
   judged_decided j e = subst (λ (b : Answer). Decided flow (records rs) allowance (verdict_told b)) (sym j.answers) (fine_decided c flow rs allowance e)
 
 -- a call whose count is within the allowance lists
-module _ {d : Check} {flow : State} {ns xs : List ℕ} {allowance : ℕ} {list work : List ℕ} {r : Next} {list' after : List ℕ}
-    (call : NextBy d flow ns xs allowance list work r list' after) (passes : d ≡ Fine) (enough : entered (records xs) flow ≤ allowance) where
+module _ {d : Result ⊤ Refusal} {flow : State} {ns xs : List ℕ} {allowance : ℕ} {list work : List ℕ} {r : Next} {list' after : List ℕ}
+    (call : NextBy d flow ns xs allowance list work r list' after) (passes : d ≡ Ok tt) (enough : entered (records xs) flow ≤ allowance) where
   writes : (listed : List ℕ) × WritesList flow (records xs) (told r) list list' listed
   writes =
       let l = call_lists call ((call_not_refused call).1 passes) in
       l.else_listed (λ u. let over : allowance < entered (records xs) flow = l.undecided_exactly.0 u in omega arith)
 
-module _ {c : Check} {flow : State} {ns rs : List ℕ} {allowance : ℕ} {work : List ℕ} {a : Answer} {after : List ℕ}
-    (judged : JudgedBy c flow ns rs allowance work a after) (fine : c ≡ Fine) where
+module _ {c : Result ⊤ Refusal} {flow : State} {ns rs : List ℕ} {allowance : ℕ} {work : List ℕ} {a : Answer} {after : List ℕ}
+    (judged : JudgedBy c flow ns rs allowance work a after) (fine : c ≡ Ok tt) where
   module _ {place count : ℕ} (rejected : verdict_told a ≡ verdict VerdictWord.rejected place count) (fits : Fits flow (records rs)) where
     abbrev saw : ((visit (records rs) flow).found ≡ false) × ((visit (records rs) flow).reached ≡ place) × ((visit (records rs) flow).entered ≡ count)
     saw = rejected_saw (judged_decided judged fine) rejected
@@ -105,8 +104,8 @@ module _ {c : Check} {flow : State} {ns rs : List ℕ} {allowance : ℕ} {work :
         ap (λ (xs : List Record). may_follow xs flow (record_of (get_or rs place 0))) beginning_is
         ∙ place_not_followed (records rs) flow saw.0 (record_of (get_or rs place 0)) (drop (suc place) (records rs)) split
 
-    pub rejected_not_listed : {d : Check} {allowance' : ℕ} {list work' : List ℕ} {r : Next} {list' after' : List ℕ}
-        → NextBy d flow ns (take place rs) allowance' list work' r list' after' → d ≡ Fine → count ≤ allowance'
+    pub rejected_not_listed : {d : Result ⊤ Refusal} {allowance' : ℕ} {list work' : List ℕ} {r : Next} {list' after' : List ℕ}
+        → NextBy d flow ns (take place rs) allowance' list work' r list' after' → d ≡ Ok tt → count ≤ allowance'
         → (listed : List ℕ) × WritesList flow (records (take place rs)) (told r) list list' listed × ((told r).count ≡ count) × (Memᴰ (get_or rs place 0) listed → ⊥)
     rejected_not_listed call passes enough =
         let w = writes call passes (omega (arith, count_is)) in
@@ -119,8 +118,8 @@ module _ {c : Check} {flow : State} {ns rs : List ℕ} {allowance : ℕ} {work :
         subst (λ (xs : List Record). T (may_follow xs flow (record_of (get_or rs k 0)))) (sym (records_take k rs))
         (found_may_follow (records rs) flow has_end (take k (records rs)) (record_of (get_or rs k 0)) (drop (suc k) (records rs)) (split_records rs k inside))
 
-    pub accepted_listed : {d : Check} {allowance' : ℕ} {list work' : List ℕ} {r : Next} {list' after' : List ℕ}
-        → NextBy d flow ns (take k rs) allowance' list work' r list' after' → d ≡ Fine → entered (records (take k rs)) flow ≤ allowance'
+    pub accepted_listed : {d : Result ⊤ Refusal} {allowance' : ℕ} {list work' : List ℕ} {r : Next} {list' after' : List ℕ}
+        → NextBy d flow ns (take k rs) allowance' list work' r list' after' → d ≡ Ok tt → entered (records (take k rs)) flow ≤ allowance'
         → (listed : List ℕ) × WritesList flow (records (take k rs)) (told r) list list' listed × Memᴰ (get_or rs k 0) listed
     accepted_listed call passes enough =
         let w = writes call passes enough in (w.0, w.1, (listing_tests w.1.all (get_or rs k 0)).1 (value, followed))
@@ -136,14 +135,14 @@ accepted_word e w = not_refused_word (λ x. x) (sym e ∙ w)
 
 module _ (sets : List ℕ) {ns rs : List ℕ} {allowance : ℕ} {work : List ℕ} {a : Answer} {after : List ℕ} (judged : Judged sets ns rs allowance work a after) where
   module _ (decided : (verdict_told a).word ≡ VerdictWord.refused → ⊥) where
-    fine : judge_check sets ns rs (length work) ≡ Fine
+    fine : judge_check sets ns rs (length work) ≡ Ok tt
     fine = judged_fine judged decided
 
-    parts : (table_check sets ns ≡ Fine) × (records_check Whole ns rs ≡ Fine)
+    parts : (table_check sets ns ≡ Ok tt) × (records_check Whole ns rs ≡ Ok tt)
     parts = plain_parts Whole sets ns rs (room_order ns rs (length work)) ((passes_exactly sets ns rs (length work)).0 fine)
 
     -- what stands before a record is not refused as a beginning
-    next_passes : (k numbers room : ℕ) → k < length rs → numbers_wanted ≤ numbers → room_wanted ns (take k rs) ≤ room → next_check sets ns (take k rs) numbers room ≡ Fine
+    next_passes : (k numbers room : ℕ) → k < length rs → numbers_wanted ≤ numbers → room_wanted ns (take k rs) ≤ room → next_check sets ns (take k rs) numbers room ≡ Ok tt
     unfolding next_check
     next_passes k numbers room inside h l =
         (nowhere_exactly (next_order sets ns (take k rs) numbers room)).1
@@ -182,18 +181,18 @@ module _ (es : List Entry) (good : GoodNames es) (sets : List ℕ) {ns rs : List
   by_entries = subst (λ (flow : State). JudgedBy (named_judge_check (names_section es) sets ns rs (length work)) flow ns rs allowance work a after) (named_flow_is es good sets ns) judged
 
   module _ (decided : (verdict_told a).word ≡ VerdictWord.refused → ⊥) where
-    named_fine : named_judge_check (names_section es) sets ns rs (length work) ≡ Fine
+    named_fine : named_judge_check (names_section es) sets ns rs (length work) ≡ Ok tt
     named_fine = judged_fine judged decided
 
     named_nowhere : Nowhere (named_judge_order sets ns rs (length work) es)
     unfolding named_judge_check
     named_nowhere = (named_check_nowhere es good (named_judge_order sets ns rs (length work))).0 named_fine
 
-    named_parts : (table_check sets ns ≡ Fine) × (records_check Whole ns rs ≡ Fine)
+    named_parts : (table_check sets ns ≡ Ok tt) × (records_check Whole ns rs ≡ Ok tt)
     named_parts = lists_parts Whole sets ns rs (length es) (room_order ns rs (length work)) named_nowhere
 
     named_next_passes : (k numbers room : ℕ) → k < length rs → numbers_wanted ≤ numbers → room_wanted ns (take k rs) ≤ room
-        → named_next_check (names_section es) sets ns (take k rs) numbers room ≡ Fine
+        → named_next_check (names_section es) sets ns (take k rs) numbers room ≡ Ok tt
     unfolding named_next_check
     named_next_passes k numbers room inside h l =
         (named_check_nowhere es good (named_next_order sets ns (take k rs) numbers room)).1

@@ -3,7 +3,7 @@
 -- `closings_fine_when`), of a beginning too (`extra_closing_means`, `extra_closing_when`, `extra_closing_fine_when`), and of a file's
 -- names 19 and 20 (`unnamed_leaf_means`, `unnamed_event_means`). Assumes nothing.
 use Prim.Native.Nat.{ℕ, zero, suc, ◌+◌, ◌*◌, ◌-◌, ◌/◌, ◌%◌, ◌<◌, ◌≤◌}
-use Rattle.std.specs.Prelude.{◌≡◌, Bool, ◌&&◌, ◌||◌, List, [], ◌∷◌, ◌⊎◌, ◌↔◌, ◌≢◌, eqb, ltb, take}
+use Rattle.std.specs.Prelude.{◌≡◌, Bool, ◌&&◌, ◌||◌, List, [], ◌∷◌, ◌⊎◌, ◌↔◌, ◌≢◌, eqb, ltb, take, Result, Ok, Err, ⊤}
 use Rattle.std.proofs.Math.Path.{refl, sym, ap, subst}
 use Rattle.std.proofs.Common.{ap₂, ◌∙◌, inl, inr, arith, eq-or-lt_of_le, eqb→eq, ltb→lt, lt→ltb}
 use Rattle.std.proofs.Math.Bool.{true, false, not, xor, cond, and-false}
@@ -11,8 +11,7 @@ use Rattle.std.proofs.Math.Dec.{T, leb, T_not, eqb_refl}
 use Rattle.std.proofs.Math.ListN.{length}
 use borrow.Author.Tests.{leb-true, le-leb, le-ltb}
 use Rattle.calculus.proofs.Members.{or_in_left, or_in_right, or_cases, and_in, and_left, and_right}
-use Rattle.flow.specs.declared.Check.{Check}
-use Rattle.flow.specs.declared.Check.TheVariants.{Fine, Refused}
+use Rattle.flow.specs.declared.Refusal.{Refusal}
 use Rattle.flow.specs.declared.Extent.TheVariants.{Whole, Beginning}
 use Rattle.flow.specs.declared.Operator.TheVariants.{Parallel}
 use Rattle.flow.specs.declared.Node.TheVariants.{Standard, Compensable, Unknown}
@@ -422,9 +421,9 @@ find_nth (r ∷ rs) (suc n) h = by (is_closing_number r) refl n (find_nth rs)
         on (inl x) = inl (suc x.0, omega (arith, x.1), event_more r rs x.2 e)
         on (inr l) = let c = count_event r rs e in inr (omega arith)
 
-abbrev place_of : Check → ℕ
-place_of Fine = 0
-place_of (Refused r) = r.place
+abbrev place_of : Result ⊤ Refusal → ℕ
+place_of (Ok tt) = 0
+place_of (Err r) = r.place
 
 module _ (ns rs : List ℕ) where
   abbrev wanted : ℕ
@@ -437,7 +436,7 @@ module _ (ns rs : List ℕ) where
   refused_at : {place : ℕ} → WrongClosings rs wanted place → closings_check Whole ns rs ≡ refused 13 place
   refused_at {place} w = let q = place_is w in closings_refused ns rs place q.0 (sym q.1)
 
-  fine_at : {k : ℕ} → NthClosing rs wanted k → suc k ≡ length rs → closings_check Whole ns rs ≡ Fine
+  fine_at : {k : ℕ} → NthClosing rs wanted k → suc k ≡ length rs → closings_check Whole ns rs ≡ Ok tt
   fine_at {k} x h = closings_fine ns rs ((nth_at rs wanted k x).last h)
 
   -- the n-th closing is last, or 13 is given, and where
@@ -478,10 +477,10 @@ module _ (ns rs : List ℕ) where
       by e (inr x) = subst (WrongClosings rs wanted) (ap place_of (sym (refused_at x.1) ∙ e)) x.1
 
   -- and it is not given exactly when the last closing that the root needs is the last record
-  pub closings_fine_when : (closings_check Whole ns rs ≡ Fine) ↔ ((k : ℕ) × (suc k ≡ length rs) × NthClosing rs wanted k)
+  pub closings_fine_when : (closings_check Whole ns rs ≡ Ok tt) ↔ ((k : ℕ) × (suc k ≡ length rs) × NthClosing rs wanted k)
   closings_fine_when = (λ e. by e by_closings, λ x. fine_at x.2 x.1)
     where
-      by : closings_check Whole ns rs ≡ Fine → ((k : ℕ) × (suc k ≡ length rs) × NthClosing rs wanted k) ⊎ ((p : ℕ) × WrongClosings rs wanted p)
+      by : closings_check Whole ns rs ≡ Ok tt → ((k : ℕ) × (suc k ≡ length rs) × NthClosing rs wanted k) ⊎ ((p : ℕ) × WrongClosings rs wanted p)
           → (k : ℕ) × (suc k ≡ length rs) × NthClosing rs wanted k
       by e (inl x) = x
       by e (inr x) = absurd (subst IsFine (sym e ∙ refused_at x.1) tt)
@@ -531,7 +530,7 @@ module _ (ns rs : List ℕ) where
   refused_extra : {place : ℕ} → NthClosing rs (closings_wanted ns) place → closings_check Beginning ns rs ≡ refused 13 place
   refused_extra {place} x = let q = at_extra x in open_refused ns rs place q.0 (sym q.1)
 
-  fine_open : closings_in rs < closings_wanted ns → closings_check Beginning ns rs ≡ Fine
+  fine_open : closings_in rs < closings_wanted ns → closings_check Beginning ns rs ≡ Ok tt
   fine_open h = open_fine ns rs (few_open rs (closings_allowed ns) (omega (arith, wanted_over)))
 
   by_extra : ((k : ℕ) × (suc k ≤ length rs) × NthClosing rs (closings_wanted ns) k) ⊎ (closings_in rs < closings_wanted ns)
@@ -561,10 +560,10 @@ module _ (ns rs : List ℕ) where
       by e (inr h) = absurd (subst IsFine (sym (fine_open h) ∙ e) tt)
 
   -- and it is not given exactly when there are fewer closings than the root needs
-  pub extra_closing_fine_when : (closings_check Beginning ns rs ≡ Fine) ↔ (closings_in rs < closings_wanted ns)
+  pub extra_closing_fine_when : (closings_check Beginning ns rs ≡ Ok tt) ↔ (closings_in rs < closings_wanted ns)
   extra_closing_fine_when = (λ e. by e by_extra, fine_open)
     where
-      by : closings_check Beginning ns rs ≡ Fine → ((k : ℕ) × (suc k ≤ length rs) × NthClosing rs (closings_wanted ns) k) ⊎ (closings_in rs < closings_wanted ns) → closings_in rs < closings_wanted ns
+      by : closings_check Beginning ns rs ≡ Ok tt → ((k : ℕ) × (suc k ≤ length rs) × NthClosing rs (closings_wanted ns) k) ⊎ (closings_in rs < closings_wanted ns) → closings_in rs < closings_wanted ns
       by e (inl x) = absurd (subst IsFine (sym e ∙ refused_extra x.2) tt)
       by e (inr h) = h
 

@@ -1,10 +1,9 @@
 -- 01, "How tight the contracts are": judges and checks that the contracts rule out, each by an input on which it would answer or
 -- leave something else. All lines follow from the definitions by computation. Assumes nothing.
-use Rattle.std.specs.Prelude.{ℕ, ◌≡◌, refl, List, [], ◌∷◌, ◌++◌, map, replicate}
+use Rattle.std.specs.Prelude.{ℕ, ◌≡◌, refl, List, [], ◌∷◌, ◌++◌, map, replicate, Result, Ok, ⊤}
 use Rattle.std.proofs.Math.Bool.{xor}
 use Rattle.calculus.specs.Search as search
-use Rattle.flow.specs.declared.Check.{Check}
-use Rattle.flow.specs.declared.Check.TheVariants.{Fine}
+use Rattle.flow.specs.declared.Refusal.{Refusal}
 use Rattle.flow.specs.declared.Extent.TheVariants.{Whole, Beginning}
 use Rattle.flow.specs.Trees.{descend}
 use Rattle.flow.specs.Kinds.{joint_kind, set_of}
@@ -115,14 +114,14 @@ abbrev beside : ℕ → ℕ → List ℕ
 beside kind each = each ∷ 0 ∷ 0 ∷ each ∷ 0 ∷ 0 ∷ kind ∷ 0 ∷ 1 ∷ []
 
 -- what a check answers, and the answer that its contract leaves
-unfoldable pub check_lines : List (Check × Check)
+unfoldable pub check_lines : List (Result ⊤ Refusal × Result ⊤ Refusal)
 check_lines =
     -- `check_table`: 1 to 3, and its nodes; a table of one node is fine, of which 9 is not given
     (table_check [] [], refused 1 0)
     ∷ (table_check [] (2 ∷ 0 ∷ []), refused 2 0)
     ∷ (table_check [] (replicate 195 2), refused 3 0)
     ∷ (table_check [] (0 ∷ 0 ∷ 0 ∷ []), refused 4 0)
-    ∷ (table_check [] skip, Fine)
+    ∷ (table_check [] skip, Ok tt)
     -- `check_nodes`: an event 257, an event 0, a block's second number
     ∷ (nodes_check 0 (1 ∷ 257 ∷ 0 ∷ []), refused 5 0)
     ∷ (nodes_check 0 (1 ∷ 0 ∷ 0 ∷ []), refused 5 0)
@@ -144,12 +143,12 @@ check_lines =
     ∷ (table_check (replicate 31 0) (0 ∷ 0 ∷ 0 ∷ []), refused 23 0)
     -- 22: no set, and one where number 1 is asked for; before 5 and 6. With 16 sets the last kinds are fine, and without any kind 7
     ∷ (nodes_check 0 (beside 256 2), refused 22 2)
-    ∷ (nodes_check 1 (beside 256 2), Fine)
+    ∷ (nodes_check 1 (beside 256 2), Ok tt)
     ∷ (nodes_check 1 (beside 257 2), refused 22 2)
     ∷ (nodes_check 0 (512 ∷ 0 ∷ 0 ∷ []), refused 22 0)
-    ∷ (nodes_check 16 (beside 271 2), Fine)
-    ∷ (nodes_check 16 (beside 527 14), Fine)
-    ∷ (nodes_check 0 (beside 7 2), Fine)
+    ∷ (nodes_check 16 (beside 271 2), Ok tt)
+    ∷ (nodes_check 16 (beside 527 14), Ok tt)
+    ∷ (nodes_check 0 (beside 7 2), Ok tt)
     -- the kinds next to these are unknown
     ∷ (nodes_check 16 (beside 255 2), refused 4 2)
     ∷ (nodes_check 16 (beside 272 2), refused 4 2)
@@ -163,22 +162,22 @@ check_lines =
     ∷ (values_check (0 ∷ []), refused 12 0)
     ∷ (values_check (1 ∷ 257 ∷ 0 ∷ []), refused 12 1)
     ∷ (values_check (61440 ∷ []), refused 12 0)
-    ∷ (values_check (61443 ∷ []), Fine)
+    ∷ (values_check (61443 ∷ []), Ok tt)
     -- `check_closings`: the record after the closing, too few, and the two of a compensable root
     ∷ (closings_check Whole skip (61441 ∷ 1 ∷ 1 ∷ []), refused 13 1)
     ∷ (closings_check Whole skip (1 ∷ 1 ∷ []), refused 13 2)
-    ∷ (closings_check Whole skip (61443 ∷ []), Fine)
+    ∷ (closings_check Whole skip (61443 ∷ []), Ok tt)
     ∷ (closings_check Whole skipp (61441 ∷ []), refused 13 1)
     ∷ (closings_check Whole skipp (61441 ∷ 1 ∷ 61442 ∷ 61443 ∷ []), refused 13 3)
-    ∷ (closings_check Whole skipp (61441 ∷ 61443 ∷ []), Fine)
+    ∷ (closings_check Whole skipp (61441 ∷ 61443 ∷ []), Ok tt)
     -- of a beginning: none are fine, too many are not, 12 of any record before 13; the closing of a standard root, and the second of a
     -- compensable one
-    ∷ (records_check Beginning skip [], Fine)
+    ∷ (records_check Beginning skip [], Ok tt)
     ∷ (records_check Beginning skip (replicate 257 1), refused 11 0)
     ∷ (records_check Beginning skip (61441 ∷ 1 ∷ 257 ∷ []), refused 12 2)
     ∷ (closings_check Beginning skip (1 ∷ 61441 ∷ 1 ∷ []), refused 13 1)
-    ∷ (closings_check Beginning skip (1 ∷ 1 ∷ []), Fine)
-    ∷ (closings_check Beginning skipp (1 ∷ 61441 ∷ 1 ∷ []), Fine)
+    ∷ (closings_check Beginning skip (1 ∷ 1 ∷ []), Ok tt)
+    ∷ (closings_check Beginning skipp (1 ∷ 61441 ∷ 1 ∷ []), Ok tt)
     ∷ (closings_check Beginning skipp (61441 ∷ 1 ∷ 61442 ∷ 61443 ∷ []), refused 13 2)
     ∷ []
 

@@ -2,13 +2,12 @@
 -- traces (`spelled_traces`) and exactly the complete runs (`spelled_runs`) of the flow in which each leaf is the choice of the entries that
 -- it takes. So records that are judged are accepted exactly if they are a complete run, and equally if they are a trace, of the flow of
 -- choices (`spelled_accepted`, `spelled_accepted_traces`). Of a single leaf Machines has this. Assumes nothing.
-use Rattle.std.specs.Prelude.{ℕ, ◌<◌, ◌≡◌, Bool, not, List, ◌↔◌, T, length}
+use Rattle.std.specs.Prelude.{ℕ, ◌<◌, ◌≡◌, Bool, not, List, ◌↔◌, T, length, Ok}
 use Rattle.std.proofs.Common.{sym, ap, ◌∙◌, subst}
 use Rattle.std.proofs.Math.Logic.Iff
 use Rattle.calculus.specs.Records.{Record, Complete, InTraces}
 use Rattle.calculus.specs.Leaves.{EachState, AnySet, SameLeaf}
 use Rattle.calculus.proofs.SpelledTraces.{spelled_in_traces, spelled_complete}
-use Rattle.flow.specs.declared.Check.TheVariants.{Fine}
 use Rattle.flow.specs.declared.Extent.TheVariants.{Whole}
 use Rattle.flow.specs.declared.Node.TheVariants.{Event}
 use Rattle.flow.specs.Tests.{is_false}
@@ -33,7 +32,7 @@ use Rattle.promises.specs.Machines.{named_leaf_traces}
 use Rattle.promises.specs.Verdicts.{not_refused_fine}
 use Rattle.promises.specs.NamedDemands.{alone_is, named_decides}
 
-module _ (es : List Entry) (good : GoodNames es) (sets ns : List ℕ) (passed : table_check sets ns ≡ Fine) (events : EventsNamed es ns) where
+module _ (es : List Entry) (good : GoodNames es) (sets ns : List ℕ) (passed : table_check sets ns ≡ Ok tt) (events : EventsNamed es ns) where
   event_spelled : (i e : ℕ) → i < count ns → node ns i ≡ Event e → SameLeaf (taken_choice es) (named es e)
   event_spelled i e w n =
       let q = leaf_named (length es) ns (fine_table ns sets passed) i e w n (is_false (unnamed_leaf (length es) ns i) (events i w)) in

@@ -5,7 +5,7 @@
 -- writes the bytes of before (`bytes_as_before`), and the nodes draw the flow of before (`flow_as_before`), in which no event is joint
 -- (`no_joint`, `no_joint_named`). Assumes nothing.
 use Prim.Native.Nat.{ℕ, zero, suc, ◌-◌, ◌%◌, ◌<◌, ◌≤◌}
-use Rattle.std.specs.Prelude.{◌≡◌, Bool, not, ◌&&◌, ◌⊎◌, ◌↔◌, eqb, leb, ltb, length}
+use Rattle.std.specs.Prelude.{◌≡◌, Bool, not, ◌&&◌, ◌⊎◌, ◌↔◌, eqb, leb, ltb, length, Result, Ok, Err, ⊤}
 use Rattle.std.proofs.Math.Path.{refl, sym, ap, ap₂, subst}
 use Rattle.std.proofs.Common.{◌∙◌, inl, inr, arith, pow_pos, ne_eqb, lt-ltb}
 use Rattle.std.proofs.Math.Bool.{true, false, ◌||◌, cond, and-false}
@@ -15,8 +15,7 @@ use Rattle.std.proofs.Math.Dec.{T}
 use Rattle.calculus.specs.Term.{Leaf, leaf, Joint, none}
 use Rattle.calculus.proofs.Members.{or_in_left, or_in_right}
 use Rattle.calculus.specs.Leaves.{Empty, AnyLeaf, FreeState}
-use Rattle.flow.specs.declared.Check.{Check}
-use Rattle.flow.specs.declared.Check.TheVariants.{Fine, Refused}
+use Rattle.flow.specs.declared.Refusal.{Refusal}
 use Rattle.flow.specs.declared.Node.{Node}
 use Rattle.flow.specs.declared.Extent.{Extent}
 use Rattle.flow.specs.declared.Extent.TheVariants.{Whole, Beginning}
@@ -74,7 +73,7 @@ module _ (ns : List ℕ) (i : ℕ) where
       by false e = refl
 
 -- a table that passes has no such kind
-pub passed_has_none : (ns : List ℕ) → table_check [] ns ≡ Fine → (i : ℕ) → i < count ns → SetKind (kind_of ns i) → ⊥
+pub passed_has_none : (ns : List ℕ) → table_check [] ns ≡ Ok tt → (i : ℕ) → i < count ns → SetKind (kind_of ns i) → ⊥
 unfolding table_check node_grounds
 passed_has_none ns e i h k = by ((fine_exactly (grounds (table_order [] ns))).0 e)
   where
@@ -89,12 +88,12 @@ passed_has_none ns e i h k = by ((fine_exactly (grounds (table_order [] ns))).0 
 ---- As before ----
 
 module _ (ns : List ℕ) where
-  behind_before : {c d : Check} (a : Check) → AsBefore ns c d → AsBefore ns (or_else_check a c) (or_else_check a d)
+  behind_before : {c d : Result ⊤ Refusal} (a : Result ⊤ Refusal) → AsBefore ns c d → AsBefore ns (or_else_check a c) (or_else_check a d)
   unfolding or_else_check
-  behind_before Fine y = y
-  behind_before (Refused r) y = the_same
+  behind_before (Ok tt) y = y
+  behind_before (Err r) y = the_same
 
-  both_before : {a b c d : Check} → AsBefore ns a b → AsBefore ns c d → AsBefore ns (or_else_check a c) (or_else_check b d)
+  both_before : {a b c d : Result ⊤ Refusal} → AsBefore ns a b → AsBefore ns c d → AsBefore ns (or_else_check a c) (or_else_check b d)
   unfolding or_else_check
   both_before (the_same {c}) y = behind_before c y
   both_before (set_kind k) y = set_kind k
@@ -159,14 +158,14 @@ module _ (ns : List ℕ) where
   unfolding each
   each_before i zero = the_same
   each_before i (suc n) =
-      subst (λ (c : Check). AsBefore ns c (first (each (node_grounds (set_count []) ns) i (suc n)))) (sym (first_append (sixteen_grounds ns i) _))
+      subst (λ (c : Result ⊤ Refusal). AsBefore ns c (first (each (node_grounds (set_count []) ns) i (suc n)))) (sym (first_append (sixteen_grounds ns i) _))
       (subst (AsBefore ns _) (sym (first_append (node_grounds (set_count []) ns i) _)) (both_before (at_node i) (each_before (suc i) n)))
 
   -- 4 to 9, which whoever is lent nodes refuses
   pub nodes_as_before : AsBefore ns (first (grounds (sixteen_nodes ns))) (nodes_check (set_count []) ns)
   unfolding nodes_check
   nodes_as_before =
-      subst (λ (c : Check). AsBefore ns c (first (grounds (nodes_order (set_count []) ns)))) (sym (first_append (each (sixteen_grounds ns) 0 (count ns)) _))
+      subst (λ (c : Result ⊤ Refusal). AsBefore ns c (first (grounds (nodes_order (set_count []) ns)))) (sym (first_append (each (sixteen_grounds ns) 0 (count ns)) _))
       (subst (AsBefore ns _) (sym (first_append (each (node_grounds (set_count []) ns) 0 (count ns)) _)) (both_before (each_before 0 (count ns)) the_same))
 
 module _ (ns : List ℕ) where
@@ -241,7 +240,7 @@ bytes_as_before s ns rs = ap (λ (last : List ℕ). s ++ (numbers_section 3 ns +
 pub judge_the_same : (ns rs : List ℕ) (room : ℕ) → ((i : ℕ) → SetKind (kind_of ns i) → ⊥) → judge_check [] ns rs room ≡ first (grounds (sixteen_order Whole ns rs (room_order ns rs room)))
 judge_the_same ns rs room none = by (judge_as_before ns rs room)
   where
-    by : {a b : Check} → AsBefore ns a b → b ≡ a
+    by : {a b : Result ⊤ Refusal} → AsBefore ns a b → b ≡ a
     by the_same = refl
     by (set_kind {i} k) = absurd (none i k)
 

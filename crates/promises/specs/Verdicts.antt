@@ -2,7 +2,7 @@
 -- `decided_told`), and flows redrawn get the same one where the same is refused (`redrawn_answers`). Then that a fine table with room
 -- enough is refused as its records are (`records_decide`), and that flows redrawn want the same closings (`redrawn_closings`). Assumes
 -- nothing.
-use Rattle.std.specs.Prelude.{ℕ, ◌<◌, ◌≤◌, ◌≡◌, Bool, List, ◌↔◌, T, leb, length}
+use Rattle.std.specs.Prelude.{ℕ, ◌<◌, ◌≤◌, ◌≡◌, Bool, List, ◌↔◌, T, leb, length, Result, Ok, Err, ⊤}
 use Rattle.std.proofs.Math.Path.{refl, sym, ap}
 use Rattle.std.proofs.Common.{◌∙◌, subst, arith, leb-true, leb-false}
 use Rattle.std.proofs.Math.Bool.{true, false, cond}
@@ -16,9 +16,6 @@ use Rattle.calculus.specs.Alike.{Alike}
 use Rattle.calculus.proofs.Completes.{complete_traces}
 use Rattle.calculus.proofs.Redrawn.{redrawn_alike}
 use Rattle.flow.specs.declared.Refusal.{Refusal}
-use Rattle.flow.specs.declared.Check.{Check}
-use Rattle.flow.specs.declared.Check.TheVariants.{Fine}
-use Rattle.flow.specs.declared.Check.TheVariants as check
 use Rattle.flow.specs.declared.Extent.{Extent}
 use Rattle.flow.specs.declared.Extent.TheVariants.{Whole, Beginning}
 use Rattle.flow.specs.Kinds.{node, is_standard}
@@ -124,45 +121,45 @@ decides {flow} {batch} (rejects h f) =
 ---- An answer told ----
 
 -- by what is refused and the flow, whatever entry point it is
-module _ (c : Check) (flow : State) (rs : List ℕ) (allowance : ℕ) where
+module _ (c : Result ⊤ Refusal) (flow : State) (rs : List ℕ) (allowance : ℕ) where
   abbrev tells : Told
   tells = told (judged_by c flow rs allowance)
 
-  pub told_as_refused : (r : Refusal) → c ≡ check.Refused r → tells ≡ refusal r.number r.place
+  pub told_as_refused : (r : Refusal) → c ≡ Err r → tells ≡ refusal r.number r.place
   unfolding told
   told_as_refused r e = ap told (refused_is flow rs allowance r e)
 
-  pub fine_decided : c ≡ Fine → Decided flow (records rs) allowance tells
+  pub fine_decided : c ≡ Ok tt → Decided flow (records rs) allowance tells
   fine_decided e = subst (λ (a : Answer). Decided flow (records rs) allowance (told a)) (sym (fine_is flow rs allowance e)) (decided flow (records rs) allowance)
 
-  pub not_refused_fine : (tells.word ≡ VerdictWord.refused → ⊥) → c ≡ Fine
+  pub not_refused_fine : (tells.word ≡ VerdictWord.refused → ⊥) → c ≡ Ok tt
   not_refused_fine n = by c refl
     where
-      by : (x : Check) → c ≡ x → c ≡ Fine
-      by Fine e = e
-      by (check.Refused r) e = absurd (n (ap (λ (t : Told). t.word) (told_as_refused r e)))
+      by : (x : Result ⊤ Refusal) → c ≡ x → c ≡ Ok tt
+      by (Ok tt) e = e
+      by (Err r) e = absurd (n (ap (λ (t : Told). t.word) (told_as_refused r e)))
 
   -- what is not refused is what the search decided
   pub decided_told : (tells.word ≡ VerdictWord.refused → ⊥) → Decides flow (records rs) allowance tells
   decided_told n = decides (fine_decided (not_refused_fine n))
 
-  pub told_refused : tells.word ≡ VerdictWord.refused → (r : Refusal) × (c ≡ check.Refused r)
+  pub told_refused : tells.word ≡ VerdictWord.refused → (r : Refusal) × (c ≡ Err r)
   told_refused w = by c refl
     where
-      by : (x : Check) → c ≡ x → (r : Refusal) × (c ≡ check.Refused r)
-      by Fine e = absurd (decided_not_refused (fine_decided e) w)
-      by (check.Refused r) e = (r, e)
+      by : (x : Result ⊤ Refusal) → c ≡ x → (r : Refusal) × (c ≡ Err r)
+      by (Ok tt) e = absurd (decided_not_refused (fine_decided e) w)
+      by (Err r) e = (r, e)
 
-  pub fine_not_refused : c ≡ Fine → tells.word ≡ VerdictWord.refused → ⊥
+  pub fine_not_refused : c ≡ Ok tt → tells.word ≡ VerdictWord.refused → ⊥
   fine_not_refused e w = decided_not_refused (fine_decided e) w
 
-  pub refusal_told : (number place : ℕ) → (tells ≡ refusal number place) ↔ (c ≡ check.Refused (record { number = number; place = place }))
+  pub refusal_told : (number place : ℕ) → (tells ≡ refusal number place) ↔ (c ≡ Err (record { number = number; place = place }))
   refusal_told number place = (there, λ e. told_as_refused (record { number = number; place = place }) e)
     where
-      there : tells ≡ refusal number place → c ≡ check.Refused (record { number = number; place = place })
+      there : tells ≡ refusal number place → c ≡ Err (record { number = number; place = place })
       there e =
           let q = told_refused (ap (λ (t : Told). t.word) e) in
-          q.1 ∙ ap (λ (t : Told). check.Refused (record { number = t.number; place = t.place })) (sym (told_as_refused q.0 q.1) ∙ e)
+          q.1 ∙ ap (λ (t : Told). Err (record { number = t.number; place = t.place })) (sym (told_as_refused q.0 q.1) ∙ e)
 
 ---- Answers to flows redrawn ----
 
@@ -173,17 +170,17 @@ alike_same (Alike.both_rejected {place} {a = a} {b} e) = subst (λ (n : ℕ). Sa
 alike_same Alike.first_undecided = SameAnswer.first_undecided
 alike_same Alike.second_undecided = SameAnswer.second_undecided
 
-module _ {c c' : Check} {flow flow' : State} (same : c ≡ c') (redrawn : Redrawn flow flow') (rs : List ℕ) (allowance allowance' : ℕ) where
+module _ {c c' : Result ⊤ Refusal} {flow flow' : State} (same : c ≡ c') (redrawn : Redrawn flow flow') (rs : List ℕ) (allowance allowance' : ℕ) where
   -- where the same is refused of both, the answers are the same
   pub redrawn_answers : SameAnswer (told (judged_by c flow rs allowance)) (told (judged_by c' flow' rs allowance'))
   redrawn_answers = by c refl
     where
-      by : (x : Check) → c ≡ x → SameAnswer (told (judged_by c flow rs allowance)) (told (judged_by c' flow' rs allowance'))
-      by Fine e =
+      by : (x : Result ⊤ Refusal) → c ≡ x → SameAnswer (told (judged_by c flow rs allowance)) (told (judged_by c' flow' rs allowance'))
+      by (Ok tt) e =
           let p = fine_is flow rs allowance e in
           let q = fine_is flow' rs allowance' (sym same ∙ e) in
           rw (p, q) (alike_same (redrawn_alike redrawn (records rs) allowance allowance'))
-      by (check.Refused r) e =
+      by (Err r) e =
           let p = told_as_refused c flow rs allowance r e in
           let q = told_as_refused c' flow' rs allowance' r (sym same ∙ e) in
           rw (p, q) SameAnswer.both_refused
@@ -192,16 +189,16 @@ module _ {c c' : Check} {flow flow' : State} (same : c ≡ c') (redrawn : Redraw
 
 module _ (sets ns rs : List ℕ) (room : ℕ) where
   -- a fine table with room enough is refused as its records are
-  pub records_decide : table_check sets ns ≡ Fine → room_wanted ns rs ≤ room → judge_check sets ns rs room ≡ records_check Whole ns rs
+  pub records_decide : table_check sets ns ≡ Ok tt → room_wanted ns rs ≤ room → judge_check sets ns rs room ≡ records_check Whole ns rs
   unfolding or_else_check
   records_decide t h =
       check_parts sets ns rs room
-      ∙ ap (λ (c : Check). or_else_check c (or_else_check (records_check Whole ns rs) (room_check ns rs room))) t
+      ∙ ap (λ (c : Result ⊤ Refusal). or_else_check c (or_else_check (records_check Whole ns rs) (room_check ns rs room))) t
       ∙ by (records_check Whole ns rs) (room_check ns rs room) (room_passes ns rs room h)
     where
-      by : (c d : Check) → d ≡ Fine → or_else_check Fine (or_else_check c d) ≡ c
-      by Fine d e = e
-      by (check.Refused r) d e = refl
+      by : (c d : Result ⊤ Refusal) → d ≡ Ok tt → or_else_check (Ok tt) (or_else_check c d) ≡ c
+      by (Ok tt) d e = e
+      by (Err r) d e = refl
 
 ---- Flows redrawn ----
 

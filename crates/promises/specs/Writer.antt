@@ -1,15 +1,14 @@
 -- What `write` does, for every names section, nodes, records, sets and room, by its contract: what it writes and what it refuses is told by
 -- the format alone (`format`, Format, Limits, Contents, NameFaults; `writer`, Told, Writes), so how it is computed (`writer`, Writing)
 -- need not be believed. Theorems only. Assumes nothing.
-use Rattle.std.specs.Prelude.{ℕ, ◌*◌, ◌%◌, ◌≤◌, Bool, false, not, ◌||◌, ◌⊎◌, ◌↔◌, ◌≡◌, refl, T, eqb, ltb}
+use Rattle.std.specs.Prelude.{ℕ, ◌*◌, ◌%◌, ◌≤◌, Bool, false, not, ◌||◌, ◌⊎◌, ◌↔◌, ◌≡◌, refl, T, eqb, ltb, Result, Ok, Err, ⊤}
 use mathlib.Core.List.{List, [], ◌∷◌, ◌++◌}
 use Rattle.std.proofs.Common.{inl, inr, ap₂, ◌∙◌, arith}
 use Rattle.std.proofs.Math.Path.{ap, sym, subst}
 use borrow.Author.Tests.{eq-eqb, ne_eqb, le-ltb, ltb-false}
 use Rattle.std.proofs.Math.ListN.{length}
+use Rattle.flow.specs.declared.Refusal.{Refusal}
 use Rattle.flow.specs.Tests.{is_false}
-use Rattle.flow.specs.declared.Check.{Check}
-use Rattle.flow.specs.declared.Check.TheVariants as check
 use Rattle.flow.specs.declared.Extent.TheVariants.{Whole}
 use Rattle.flow.specs.Legends.{set_count}
 use Rattle.flow.specs.Refusals.{ground_of, Round, lone, count, no_nodes, not_whole, too_many_nodes, wrong_sets, no_records, too_many_records, table_length_order, sets_order, records_length_order}
@@ -122,7 +121,7 @@ module _ (s ns rs sets : List ℕ) (room : ℕ) where
   pub writable_some : {f : File} → Writable s ns rs sets room f → 1 ≤ length (encode f)
   writable_some w = subst (λ (xs : List ℕ). 1 ≤ length xs) (writable_bytes w) (lists_some s ns rs sets)
 
-  pub writable_fine : {f : File} → Writable s ns rs sets room f → write_check s ns rs sets room ≡ check.Fine
+  pub writable_fine : {f : File} → Writable s ns rs sets room f → write_check s ns rs sets room ≡ Ok tt
   unfolding write_check
   writable_fine {f} w =
       let n : GoodNumbers node_count 3 ns = subst (GoodNumbers node_count 3) (sym w.nodes_lent) w.within.nodes in
@@ -136,7 +135,7 @@ module _ (s ns rs sets : List ℕ) (room : ℕ) where
       (nowhere_both ((writable_lists (length f.names) ns rs sets (good_sets_bytes m)).1 (n, k, m, c)) r)
 
   -- and only of such
-  pub fine_writable : Bytes s → Bytes sets → write_check s ns rs sets room ≡ check.Fine → (f : File) × Writable s ns rs sets room f
+  pub fine_writable : Bytes s → Bytes sets → write_check s ns rs sets room ≡ Ok tt → (f : File) × Writable s ns rs sets room f
   unfolding write_check
   fine_writable bytes sets_bytes e = by ((named_fine s (order_by_bytes s ns rs sets room) bytes).0 e)
     where
@@ -163,11 +162,11 @@ module _ (s ns rs sets : List ℕ) (room : ℕ) where
           by_room x.0 x.1 x.2 n.0 n.1
 
   -- each way of a refusal is answered so, and every refusal is one of these ways
-  pub refuses_checked : {k p : ℕ} → WriteRefuses s ns rs sets room k p → write_check s ns rs sets room ≡ check.Refused (refusal_of k p)
+  pub refuses_checked : {k p : ℕ} → WriteRefuses s ns rs sets room k p → write_check s ns rs sets room ≡ Err (refusal_of k p)
   unfolding write_check
   refuses_checked x = named_refused s (order_by_bytes s ns rs sets room) (named_order (λ es e. sym (same_order es e)) x)
 
-  pub checked_refuses : Bytes s → (k p : ℕ) → write_check s ns rs sets room ≡ check.Refused (refusal_of k p) → WriteRefuses s ns rs sets room k p
+  pub checked_refuses : Bytes s → (k p : ℕ) → write_check s ns rs sets room ≡ Err (refusal_of k p) → WriteRefuses s ns rs sets room k p
   unfolding write_check
   checked_refuses bytes k p e = named_order same_order ((named_exactly s (order_by_bytes s ns rs sets room) bytes k p).0 e)
 
@@ -177,9 +176,9 @@ module _ (s ns rs sets : List ℕ) (room : ℕ) where
   pub written_or_refused : Bytes s → Bytes sets → ((f : File) × Writable s ns rs sets room f) ⊎ ((k : ℕ) × (p : ℕ) × WriteRefuses s ns rs sets room k p)
   written_or_refused bytes sets_bytes = by (write_check s ns rs sets room) refl
     where
-      by : (c : Check) → write_check s ns rs sets room ≡ c → ((f : File) × Writable s ns rs sets room f) ⊎ ((k : ℕ) × (p : ℕ) × WriteRefuses s ns rs sets room k p)
-      by check.Fine e = inl (fine_writable bytes sets_bytes e)
-      by (check.Refused r) e = inr (r.number, r.place, checked_refuses bytes r.number r.place e)
+      by : (c : Result ⊤ Refusal) → write_check s ns rs sets room ≡ c → ((f : File) × Writable s ns rs sets room f) ⊎ ((k : ℕ) × (p : ℕ) × WriteRefuses s ns rs sets room k p)
+      by (Ok tt) e = inl (fine_writable bytes sets_bytes e)
+      by (Err r) e = inr (r.number, r.place, checked_refuses bytes r.number r.place e)
 
   -- and not both
   pub writable_not_refused : {f : File} {k p : ℕ} → Writable s ns rs sets room f → WriteRefuses s ns rs sets room k p → ⊥
@@ -193,26 +192,26 @@ module _ (s ns rs sets : List ℕ) (room : ℕ) where
 
 -- by what is told, what the check came to
 module _ (bytes : List ℕ) where
-  told_refused : 1 ≤ length bytes → (c : Check) (k p : ℕ) → writing_told (wrote bytes c) ≡ writing_refused k p → c ≡ check.Refused (refusal_of k p)
+  told_refused : 1 ≤ length bytes → (c : Result ⊤ Refusal) (k p : ℕ) → writing_told (wrote bytes c) ≡ writing_refused k p → c ≡ Err (refusal_of k p)
   unfolding writing_told wrote
-  told_refused h check.Fine k p e = absurd (omega (arith, ap (λ (t : WritingTold). t.length) e))
-  told_refused h (check.Refused r) k p e = λ i. check.Refused (refusal_of (e i).number (e i).place)
+  told_refused h (Ok tt) k p e = absurd (omega (arith, ap (λ (t : WritingTold). t.length) e))
+  told_refused h (Err r) k p e = λ i. Err (refusal_of (e i).number (e i).place)
 
-  told_written : (c : Check) (n : ℕ) → 1 ≤ n → writing_told (wrote bytes c) ≡ writing_written n → (c ≡ check.Fine) × (n ≡ length bytes)
+  told_written : (c : Result ⊤ Refusal) (n : ℕ) → 1 ≤ n → writing_told (wrote bytes c) ≡ writing_written n → (c ≡ Ok tt) × (n ≡ length bytes)
   unfolding writing_told wrote
-  told_written check.Fine n h e = (refl, sym (ap (λ (t : WritingTold). t.length) e))
-  told_written (check.Refused r) n h e = absurd (omega (arith, ap (λ (t : WritingTold). t.length) e))
+  told_written (Ok tt) n h e = (refl, sym (ap (λ (t : WritingTold). t.length) e))
+  told_written (Err r) n h e = absurd (omega (arith, ap (λ (t : WritingTold). t.length) e))
 
 module _ {s ns rs sets file file' : List ℕ} {r : Writing} (ensured : WrittenAs s ns rs sets file file' r) where
   abbrev room : ℕ
   room = length file
 
   -- what is told, and the bytes, by what the check came to
-  told_by : {c : Check} → write_check s ns rs sets room ≡ c → writing_told r ≡ writing_told (wrote (lists_bytes s ns rs sets) c)
+  told_by : {c : Result ⊤ Refusal} → write_check s ns rs sets room ≡ c → writing_told r ≡ writing_told (wrote (lists_bytes s ns rs sets) c)
   told_by e = ap writing_told (ensured.answer ∙ ap (wrote (lists_bytes s ns rs sets)) e)
 
-  file_by : {c : Check} → write_check s ns rs sets room ≡ c → file' ≡ at_front (put_first (lists_bytes s ns rs sets) c) file
-  file_by e = ensured.file_after ∙ ap (λ (c : Check). at_front (put_first (lists_bytes s ns rs sets) c) file) e
+  file_by : {c : Result ⊤ Refusal} → write_check s ns rs sets room ≡ c → file' ≡ at_front (put_first (lists_bytes s ns rs sets) c) file
+  file_by e = ensured.file_after ∙ ap (λ (c : Result ⊤ Refusal). at_front (put_first (lists_bytes s ns rs sets) c) file) e
 
   -- lists that are writable are written: the length is told, and the file stands first in the lent bytes
   pub write_tells : {f : File} → Writable s ns rs sets room f → writing_told r ≡ writing_written (length (encode f))

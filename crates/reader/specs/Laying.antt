@@ -1,10 +1,8 @@
--- What the functions on the way to `read` answer: the refusal in a layout or a check, where the numbers of a file stand, and what
+-- What the functions on the way to `read` answer: the refusal in a layout, where the numbers of a file stand, and what
 -- `lay_out` answers; and what is known of a layout, of a reading and of a file that is read. Definitions only: LayoutLaws and ReaderLaws
 -- prove them. Assumes nothing.
-use Rattle.std.specs.Prelude.{ℕ, ◌+◌, ◌*◌, ◌≤◌, ◌<◌, List, ◌≡◌, length, drop}
+use Rattle.std.specs.Prelude.{ℕ, ◌+◌, ◌*◌, ◌≤◌, ◌<◌, List, ◌≡◌, length, drop, Ok, Err}
 use Rattle.flow.specs.declared.Refusal.{Refusal}
-use Rattle.flow.specs.declared.Check.{Check}
-use Rattle.flow.specs.declared.Check.TheVariants as check
 use Rattle.format.specs.Format.{File}
 use Rattle.format.specs.Plan.{got, bad, run}
 use Rattle.format.specs.Sections.{names, section, joint_sets, node_count, record_count, layout}
@@ -19,10 +17,6 @@ use Rattle.reader.specs.Reading.{Outcome, refused_outcome, read_outcome, counts_
 unfoldable pub layout_refusal : Layout → Refusal
 layout_refusal (At o) = refusal_of 0 0
 layout_refusal (Bad r) = r
-
-unfoldable pub check_refusal : Check → Refusal
-check_refusal check.Fine = refusal_of 0 0
-check_refusal (check.Refused r) = r
 
 -- the numbers of so many nodes and records stand at their offsets
 pub record Inside (s : List ℕ) (o : Offsets) : Type 0 where
@@ -64,8 +58,8 @@ pub data Way (s : List ℕ) (nr rr : ℕ) : Outcome → Type 0 where
   few_records : rr < 256 → Way s nr rr (refused_outcome (refusal_of 14 0))
   stopped : 192 ≤ nr → 256 ≤ rr → {n p : ℕ} → run s 0 layout ≡ bad n p → Way s nr rr (refused_outcome (refusal_of n p))
   longer : (f : File) (end : ℕ) → 192 ≤ nr → 256 ≤ rr → run s 0 layout ≡ got f end → end < length s → Way s nr rr (refused_outcome (refusal_of 21 end))
-  faulty : (f : File) (end : ℕ) → 192 ≤ nr → 256 ≤ rr → run s 0 layout ≡ got f end → length s ≤ end → {r : Refusal} → content_check f ≡ check.Refused r → Way s nr rr (refused_outcome r)
-  whole : (f : File) (end : ℕ) → 192 ≤ nr → 256 ≤ rr → run s 0 layout ≡ got f end → length s ≤ end → content_check f ≡ check.Fine → Way s nr rr (read_outcome f)
+  faulty : (f : File) (end : ℕ) → 192 ≤ nr → 256 ≤ rr → run s 0 layout ≡ got f end → length s ≤ end → {r : Refusal} → content_check f ≡ Err r → Way s nr rr (refused_outcome r)
+  whole : (f : File) (end : ℕ) → 192 ≤ nr → 256 ≤ rr → run s 0 layout ≡ got f end → length s ≤ end → content_check f ≡ Ok tt → Way s nr rr (read_outcome f)
 
 -- a file that is read: its outcome, that its nodes are whole, and where its sets are
 pub record ReadFile (s : List ℕ) (nr rr : ℕ) (c : Counts) : Type 0 where

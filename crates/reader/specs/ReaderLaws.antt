@@ -1,13 +1,11 @@
 -- What the reader answers by the parts of `reading`, and the ways of a reading. Assumes nothing.
-use Rattle.std.specs.Prelude.{ℕ, ◌*◌, ◌-◌, ◌/◌, ◌≤◌, ◌<◌, Bool, ◌||◌, List, ◌⊎◌, length, drop}
+use Rattle.std.specs.Prelude.{ℕ, ◌*◌, ◌-◌, ◌/◌, ◌≤◌, ◌<◌, Bool, ◌||◌, List, ◌⊎◌, length, drop, Result, Ok, Err, ⊤}
 use Rattle.std.proofs.Math.Bool.{true, false, cond}
 use Rattle.std.proofs.Common.{inl, inr, sym, ◌∙◌, subst, arith, length-drop, take_all}
 use Rattle.std.proofs.Math.Path.{◌≡◌, refl, ap}
 use borrow.Author.Tests.{lt-ltb, le-ltb, ltb-true, ltb-false}
 use Rattle.std.proofs.Math.Dec.{ltb}
 use Rattle.flow.specs.declared.Refusal.{Refusal}
-use Rattle.flow.specs.declared.Check.{Check}
-use Rattle.flow.specs.declared.Check.TheVariants as check
 use Rattle.flow.specs.declared.Extent.TheVariants.{Whole}
 use Rattle.flow.specs.Checks.{first}
 use Rattle.format.specs.Format.{File}
@@ -23,7 +21,7 @@ use Rattle.reader.specs.declared.Offsets.{Offsets}
 use Rattle.reader.specs.declared.Layout.{Layout}
 use Rattle.reader.specs.declared.Layout.TheVariants.{At, Bad}
 use Rattle.reader.specs.Reading.{Outcome, refused_outcome, counts_of, checked, laid, reading, ReadAs}
-use Rattle.reader.specs.Laying.{layout_refusal, check_refusal, Placed, Lays, lays_bad, lays_long, lays_at}
+use Rattle.reader.specs.Laying.{layout_refusal, Placed, Lays, lays_bad, lays_long, lays_at}
 use Rattle.reader.specs.LayoutLaws.{layout_runs, nodes_there, lent_there, runs_end, placed_run, placed_nodes, placed_records}
 pub use Rattle.reader.specs.Laying.{Way, few_nodes, few_records, stopped, longer, faulty, whole, ReadFile}
 
@@ -79,7 +77,7 @@ module _ (s nodes records : List ℕ) where
 
   module _ {f : File} {o : Offsets} (p : Placed s f o) (h : 192 ≤ length nodes) (l : 256 ≤ length records) where
     -- the check of the numbers at their offsets
-    abbrev pub checked_at : Check
+    abbrev pub checked_at : Result ⊤ Refusal
     checked_at = first (grounds_of Whole o.counts.names o.counts.sets (numbers_at s (3 * o.counts.nodes) o.nodes) (numbers_at s o.counts.records o.records))
 
     laid_contents : reading s (length nodes) (length records) ≡ checked f checked_at
@@ -87,13 +85,11 @@ module _ (s nodes records : List ℕ) where
         reading_laid s (length nodes) (length records) h l ∙ laid_checked s (run s 0 layout) (placed_run s p)
         ∙ (λ i. checked f (first (grounds_of Whole (sym p.counts_are i).names (sym p.counts_are i).sets (placed_nodes s p i) (placed_records s p i))))
 
-    pub read_faulty : {k : Check} {q r : Refusal} → k ≡ checked_at → k ≡ check.Refused q → r ≡ check_refusal k → reading s (length nodes) (length records) ≡ refused_outcome r
-    unfolding checked check_refusal
-    read_faulty {q} {r} e g d =
-        let d' : r ≡ q = d ∙ ap check_refusal g in
-        laid_contents ∙ ap (checked f) (sym e ∙ g) ∙ ap refused_outcome (sym d')
+    pub read_faulty : {k : Result ⊤ Refusal} {r : Refusal} → k ≡ checked_at → k ≡ Err r → reading s (length nodes) (length records) ≡ refused_outcome r
+    unfolding checked
+    read_faulty e g = laid_contents ∙ ap (checked f) (sym e ∙ g)
 
-    pub read_fine : {k : Check} → k ≡ checked_at → k ≡ check.Fine
+    pub read_fine : {k : Result ⊤ Refusal} → k ≡ checked_at → k ≡ Ok tt
         → reading s (length nodes) (length records)
         ≡ record { answer = Read o.counts; nodes = numbers_at s (3 * o.counts.nodes) o.nodes; records = numbers_at s o.counts.records o.records }
     unfolding checked
@@ -107,9 +103,9 @@ pub way : (s : List ℕ) (nr rr : ℕ) → Way s nr rr (reading s nr rr)
 unfolding laid checked
 way s nr rr = by_nodes (le_or_lt 192 nr)
   where
-    by_check : 192 ≤ nr → 256 ≤ rr → (f : File) (end : ℕ) → run s 0 layout ≡ got f end → length s ≤ end → (k : Check) → content_check f ≡ k → Way s nr rr (checked f k)
-    by_check h l f end g w check.Fine c = whole f end h l g w c
-    by_check h l f end g w (check.Refused r) c = faulty f end h l g w c
+    by_check : 192 ≤ nr → 256 ≤ rr → (f : File) (end : ℕ) → run s 0 layout ≡ got f end → length s ≤ end → (k : Result ⊤ Refusal) → content_check f ≡ k → Way s nr rr (checked f k)
+    by_check h l f end g w (Ok tt) c = whole f end h l g w c
+    by_check h l f end g w (Err r) c = faulty f end h l g w c
 
     by_long : 192 ≤ nr → 256 ≤ rr → (f : File) (end : ℕ) → run s 0 layout ≡ got f end → (t : Bool) → ltb end (length s) ≡ t
         → Way s nr rr (cond t (refused_outcome (refusal_of 21 end)) (checked f (content_check f)))

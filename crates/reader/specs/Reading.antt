@@ -2,10 +2,8 @@
 -- Sections); then 21; then what the numbers mean (`format`, Contents).
 -- A reader need not believe this file, but only that `ReadAs` is what `read` ensures: promises/specs/Reads tells by Report and Faults
 -- alone what is answered then, and what becomes of the two tables. Definitions only. Assumes nothing.
-use Rattle.std.specs.Prelude.{ℕ, ◌||◌, cond, List, [], ◌≡◌, ltb, length}
+use Rattle.std.specs.Prelude.{ℕ, ◌||◌, cond, List, [], ◌≡◌, ltb, length, Result, Ok, Err, ⊤}
 use Rattle.flow.specs.declared.Refusal.{Refusal}
-use Rattle.flow.specs.declared.Check.{Check}
-use Rattle.flow.specs.declared.Check.TheVariants as check
 use Rattle.format.specs.Format.{File}
 use Rattle.format.specs.Plan.{Ran, got, bad, run}
 use Rattle.format.specs.Sections.{layout}
@@ -30,9 +28,9 @@ refused_outcome r = record { answer = Refused r; nodes = []; records = [] }
 abbrev pub read_outcome : File → Outcome
 read_outcome f = record { answer = Read (counts_of f); nodes = f.nodes; records = f.records }
 
-unfoldable pub checked : File → Check → Outcome
-checked f check.Fine = read_outcome f
-checked f (check.Refused r) = refused_outcome r
+unfoldable pub checked : File → Result ⊤ Refusal → Outcome
+checked f (Ok tt) = read_outcome f
+checked f (Err r) = refused_outcome r
 
 -- 21: "bytes after the last record", at "the first byte too many"; 02, Four: "21 now follows the sets"
 unfoldable pub laid : List ℕ → Ran File → Outcome

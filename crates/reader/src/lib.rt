@@ -8,9 +8,9 @@ ghost use Rattle.flow.specs.Checks.{first};
 ghost use Rattle.format.specs.ContentChecks.{grounds_of};
 ghost use Rattle.format.specs.Items.{numbers_at};
 ghost use Rattle.reader.specs.Reading.{ReadAs};
-ghost use Rattle.reader.specs.Laying.{layout_refusal, check_refusal, Lays, Inside};
+ghost use Rattle.reader.specs.Laying.{layout_refusal, Lays, Inside};
 
-use flow::{Check, Extent, Refusal};
+use flow::{Extent, Refusal};
 use format::{Item, Range};
 
 // How many nodes and records there may be.
@@ -75,15 +75,6 @@ fn layout_refusal(layout: Layout) -> Refusal
     }
 }
 
-fn check_refusal(check: Check) -> Refusal
-    ensures { result ≡ check_refusal check }
-{
-    match check {
-        Check::Fine => format::NO_REFUSAL,
-        Check::Refused(r) => r,
-    }
-}
-
 // The sections, to the end of the file: their counts and offsets, or the first refusal of 15 to 18, 1, 3, 10, 11, 23 and 21. The sets are
 // the last bytes of a file.
 fn lay_out(file: &[u8]) -> Layout
@@ -125,7 +116,7 @@ fn lay_out(file: &[u8]) -> Layout
 }
 
 // 4 to 9, with 22, 12, 13, 19 and 20, of the numbers at their offsets: they are checked on copies.
-fn check_numbers(file: &[u8], o: Offsets) -> Check
+fn check_numbers(file: &[u8], o: Offsets) -> Result<(), Refusal>
     requires { Inside file.now o }
     ensures { result ≡ first (grounds_of Whole o.counts.names o.counts.sets (numbers_at file.now (3 * o.counts.nodes) o.nodes) (numbers_at file.now o.counts.records o.records)) }
 {
@@ -160,10 +151,9 @@ pub fn read(file: &[u8], nodes: &mut [u16], records: &mut [u16]) -> Reading
     let Layout::At(o) = layout else {
         return Reading::Refused(layout_refusal(layout));
     };
-    let check = check_numbers(file, o);
-    let Check::Fine = check else {
-        return Reading::Refused(check_refusal(check));
-    };
+    if let Err(refusal) = check_numbers(file, o) {
+        return Reading::Refused(refusal);
+    }
     let counts = o.counts;
     let n = 3 * counts.nodes as usize;
     let k = counts.records as usize;

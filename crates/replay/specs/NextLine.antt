@@ -1,9 +1,9 @@
 -- The line of a call of `next`, and when the list and the work bytes count as clean. The numbers of the list are all 42405 and the work bytes
 -- all 165 before the call; the numbers behind those listed stay so, and of a call that is refused or undecided all of them. The work bytes
 -- are as after a call of the judge. Definitions only: NextLineLaws has that the call leaves them clean. Assumes nothing.
-use Rattle.std.specs.Prelude.{ℕ, ◌≤◌, ◌/◌, Bool, true, ◌&&◌, List, [], ◌∷◌, ◌++◌, ◌≡◌, length, take, replicate}
+use Rattle.std.specs.Prelude.{ℕ, ◌≤◌, ◌/◌, Bool, true, ◌&&◌, List, [], ◌∷◌, ◌++◌, ◌≡◌, length, take, replicate, Result, ⊤}
 use Rattle.calculus.specs.Records.{State}
-use Rattle.flow.specs.declared.Check.{Check}
+use Rattle.flow.specs.declared.Refusal.{Refusal}
 use Rattle.flow.specs.Drawn.{flow_of}
 use Rattle.ahead.specs.declared.answer.Found.{Found}
 use Rattle.ahead.specs.declared.answer.Next.{Next}
@@ -65,7 +65,7 @@ pub record Tellable (a : Next) (list : List ℕ) : Type 0 where
 
 -- of a call on a list of so many numbers and so many work bytes, all filler, by what is refused and the flow: the line, which ends in
 -- `clean`, and the list and the work bytes after it
-pub record NextCase (c : Check) (flow : State) (ns rs : List ℕ) (allowance room n : ℕ) (list' after out out' : List ℕ) (r : ℕ) : Type 0 where
+pub record NextCase (c : Result ⊤ Refusal) (flow : State) (ns rs : List ℕ) (allowance room n : ℕ) (list' after out out' : List ℕ) (r : ℕ) : Type 0 where
   pub line : Put (next_line (next_by c flow rs allowance) list' true) out 0 out' r
   pub list_after : list' ≡ list_by c flow rs allowance (replicate room number_filler)
   pub work_after : after ≡ bytes_by c (room_wanted ns rs) (replicate n filler)

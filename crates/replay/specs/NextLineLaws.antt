@@ -1,6 +1,6 @@
 -- The list and the work bytes are found clean exactly if what is promised of them holds (`next_clean_exactly`), `next` leaves them so, with
 -- names and without, and there is room in the line for what it lists (`next_tellable`, `next_case`). Assumes nothing.
-use Rattle.std.specs.Prelude.{ℕ, ◌≤◌, Bool, ◌↔◌, ◌≡◌, drop, replicate}
+use Rattle.std.specs.Prelude.{ℕ, ◌≤◌, Bool, ◌↔◌, ◌≡◌, drop, replicate, Result, Ok, Err, ⊤}
 use native.Mathlib.Omega.{arith}
 use Rattle.std.proofs.Math.Bool.{true, false, cond}
 use mathlib.Core.List.{List, []}
@@ -10,9 +10,7 @@ use Rattle.std.proofs.Math.ListN.{length}
 use Rattle.std.proofs.lemmas.List.{length-replicate}
 use Rattle.calculus.specs.Records.{State}
 use Rattle.calculus.specs.Ahead.{entered}
-use Rattle.flow.specs.declared.Check.{Check}
-use Rattle.flow.specs.declared.Check.TheVariants.{Fine}
-use Rattle.flow.specs.declared.Check.TheVariants as check
+use Rattle.flow.specs.declared.Refusal.{Refusal}
 use Rattle.flow.specs.Records.{records}
 use Rattle.flow.specs.Tests.{both_true}
 use Rattle.format.specs.Told.{at_front}
@@ -51,56 +49,56 @@ next_clean_exactly a numbers records list work = (λ e. to e, λ h. from h)
 ---- What stands first in the list ----
 
 -- nothing, of a call that is refused or undecided
-unfoldable list_first : Check → State → List ℕ → ℕ → List ℕ
+unfoldable list_first : Result ⊤ Refusal → State → List ℕ → ℕ → List ℕ
 unfolding unless_refused allowed following
 list_first c flow rs allowance = unless_refused c (λ r. []) (cond (allowed flow rs allowance) (following flow rs) [])
 
 module _ (flow : State) (rs : List ℕ) (allowance : ℕ) where
-  list_is : (c : Check) (list : List ℕ) → list_by c flow rs allowance list ≡ at_front (list_first c flow rs allowance) list
+  list_is : (c : Result ⊤ Refusal) (list : List ℕ) → list_by c flow rs allowance list ≡ at_front (list_first c flow rs allowance) list
   unfolding list_by list_first unless_refused
-  list_is Fine list = by (allowed flow rs allowance) (following flow rs)
+  list_is (Ok tt) list = by (allowed flow rs allowance) (following flow rs)
     where
       by : (b : Bool) (xs : List ℕ) → cond b (at_front xs list) list ≡ at_front (cond b xs []) list
       by true xs = refl
       by false xs = refl
-  list_is (check.Refused r) list = refl
+  list_is (Err r) list = refl
 
   -- as many as the answer says
-  first_length : (c : Check) → length_listed (next_by c flow rs allowance) ≡ length (list_first c flow rs allowance)
+  first_length : (c : Result ⊤ Refusal) → length_listed (next_by c flow rs allowance) ≡ length (list_first c flow rs allowance)
   unfolding next_by list_first unless_refused length_listed
-  first_length Fine = by (allowed flow rs allowance) (following flow rs) (entered (records rs) flow)
+  first_length (Ok tt) = by (allowed flow rs allowance) (following flow rs) (entered (records rs) flow)
     where
       by : (b : Bool) (xs : List ℕ) (count : ℕ)
           → length_listed (cond b (Listed (record { length = length xs; count = count })) (Undecided (record { length = 0; count = allowance }))) ≡ length (cond b xs [])
       by true xs count = refl
       by false xs count = refl
-  first_length (check.Refused r) = refl
+  first_length (Err r) = refl
 
-  first_few : (c : Check) → length (list_first c flow rs allowance) ≤ numbers_wanted
+  first_few : (c : Result ⊤ Refusal) → length (list_first c flow rs allowance) ≤ numbers_wanted
   unfolding list_first unless_refused
-  first_few Fine = by (allowed flow rs allowance) (following flow rs) (following_few flow rs)
+  first_few (Ok tt) = by (allowed flow rs allowance) (following flow rs) (following_few flow rs)
     where
       by : (b : Bool) (xs : List ℕ) → length xs ≤ numbers_wanted → length (cond b xs []) ≤ numbers_wanted
       by true xs h = h
       by false xs h = omega arith
-  first_few (check.Refused r) = omega arith
+  first_few (Err r) = omega arith
 
   -- the work bytes
-  zeros_clean : (c : Check) (ns : List ℕ) (n : ℕ)
+  zeros_clean : (c : Result ⊤ Refusal) (ns : List ℕ) (n : ℕ)
       → is_clean (next_zeros (next_by c flow rs allowance) (length ns) (length rs)) (bytes_by c (room_wanted ns rs) (replicate n filler)) ≡ true
   unfolding next_by bytes_by unless_refused next_zeros cleared
-  zeros_clean Fine ns n = by (allowed flow rs allowance) (following flow rs) (entered (records rs) flow)
+  zeros_clean (Ok tt) ns n = by (allowed flow rs allowance) (following flow rs) (entered (records rs) flow)
     where
       by : (b : Bool) (xs : List ℕ) (count : ℕ)
           → is_clean (next_zeros (cond b (Listed (record { length = length xs; count = count })) (Undecided (record { length = 0; count = allowance }))) (length ns) (length rs))
           (cleared (room_wanted ns rs) (replicate n filler)) ≡ true
       by true xs count = cleared_clean n (room_wanted ns rs)
       by false xs count = cleared_clean n (room_wanted ns rs)
-  zeros_clean (check.Refused r) ns n = cleared_clean n 0
+  zeros_clean (Err r) ns n = cleared_clean n 0
 
 ---- The call leaves them clean ----
 
-module _ {c : Check} {flow : State} {ns rs list work list' after : List ℕ} {allowance : ℕ} {a : Next}
+module _ {c : Result ⊤ Refusal} {flow : State} {ns rs list work list' after : List ℕ} {allowance : ℕ} {a : Next}
     (h : NextBy c flow ns rs allowance list work a list' after) where
   first_is : length_listed a ≡ length (list_first c flow rs allowance)
   first_is = ap length_listed h.answers ∙ first_length flow rs allowance c
@@ -129,7 +127,7 @@ module _ {c : Check} {flow : State} {ns rs list work list' after : List ℕ} {al
 ---- The line ----
 
 -- so the line of a case ends in `clean`, whatever is listed; what is refused may depend on how many numbers and work bytes are lent
-module _ (c : ℕ → ℕ → Check) (room n : ℕ) {flow : State} {ns rs list work list' after : List ℕ} {allowance : ℕ} {a : Next}
+module _ (c : ℕ → ℕ → Result ⊤ Refusal) (room n : ℕ) {flow : State} {ns rs list work list' after : List ℕ} {allowance : ℕ} {a : Next}
     (filled : list ≡ replicate room number_filler) (cleaned : work ≡ replicate n filler)
     (h : NextBy (c (length list) (length work)) flow ns rs allowance list work a list' after) where
   check_is : c (length list) (length work) ≡ c room n
@@ -141,8 +139,8 @@ module _ (c : ℕ → ℕ → Check) (room n : ℕ) {flow : State} {ns rs list w
       record {
         line =
             subst₂ (λ (x : Next) (y : Bool). Put (next_line x list' y) out 0 out' r)
-            (h.answers ∙ ap (λ (d : Check). next_by d flow rs allowance) check_is)
+            (h.answers ∙ ap (λ (d : Result ⊤ Refusal). next_by d flow rs allowance) check_is)
             (q ∙ next_always_clean h room n filled cleaned) w;
-        list_after = h.lists ∙ ap₂ (λ (d : Check) (l : List ℕ). list_by d flow rs allowance l) check_is filled;
-        work_after = h.leaves ∙ ap₂ (λ (d : Check) (w : List ℕ). bytes_by d (room_wanted ns rs) w) check_is cleaned;
+        list_after = h.lists ∙ ap₂ (λ (d : Result ⊤ Refusal) (l : List ℕ). list_by d flow rs allowance l) check_is filled;
+        work_after = h.leaves ∙ ap₂ (λ (d : Result ⊤ Refusal) (w : List ℕ). bytes_by d (room_wanted ns rs) w) check_is cleaned;
       }

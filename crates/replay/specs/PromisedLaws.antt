@@ -1,6 +1,6 @@
 -- Clean work bytes are exactly those that are promised, and the judge leaves them so, with names and without: whatever is refused, and
 -- whatever the flow. Assumes nothing.
-use Rattle.std.specs.Prelude.{ℕ, ◌+◌, ◌-◌, ◌≤◌, Bool, true, ◌↔◌, ◌≡◌, length, take, drop, replicate}
+use Rattle.std.specs.Prelude.{ℕ, ◌+◌, ◌-◌, ◌≤◌, Bool, true, ◌↔◌, ◌≡◌, length, take, drop, replicate, Result, Ok, Err, ⊤}
 use Rattle.std.proofs.Common.{arith, sym, ◌∙◌, subst₂, length-append, take-append-drop, length-take-le, take_at, drop_at}
 use mathlib.Core.List.{List, ◌++◌}
 use Rattle.std.proofs.Math.Path.{ap, ap₂}
@@ -8,9 +8,7 @@ use Rattle.std.proofs.lemmas.List.{length-replicate}
 use Rattle.calculus.specs.Records.{State}
 use Rattle.calculus.specs.Search.{Verdict, accepted, rejected, undecided}
 use Rattle.calculus.specs.Search as search
-use Rattle.flow.specs.declared.Check.{Check}
-use Rattle.flow.specs.declared.Check.TheVariants.{Fine}
-use Rattle.flow.specs.declared.Check.TheVariants as check
+use Rattle.flow.specs.declared.Refusal.{Refusal}
 use Rattle.flow.specs.Records.{records}
 use Rattle.flow.specs.Tests.{both_true}
 use Rattle.judge.specs.declared.Answer.{Answer}
@@ -62,16 +60,16 @@ cleared_clean n zeros =
     (clean_exactly zeros (front ++ rest)).1 (ap (λ (x : List ℕ). front ++ x) (replicate_rest filler n zeros ∙ ap (λ (k : ℕ). replicate k filler) m))
 
 module _ (flow : State) (ns rs : List ℕ) (allowance n : ℕ) where
-  by_check : (c : Check) (v : Verdict)
+  by_check : (c : Result ⊤ Refusal) (v : Verdict)
       → is_clean (zeros_after (unless_refused c Refused (answer_of v)) (length ns) (length rs)) (bytes_by c (room_wanted ns rs) (replicate n filler)) ≡ true
   unfolding bytes_by unless_refused answer_of zeros_after cleared
-  by_check Fine (accepted place count) = cleared_clean n (room_wanted ns rs)
-  by_check Fine (rejected place count) = cleared_clean n (room_wanted ns rs)
-  by_check Fine (undecided place count) = cleared_clean n (room_wanted ns rs)
-  by_check (check.Refused r) v = cleared_clean n 0
+  by_check (Ok tt) (accepted place count) = cleared_clean n (room_wanted ns rs)
+  by_check (Ok tt) (rejected place count) = cleared_clean n (room_wanted ns rs)
+  by_check (Ok tt) (undecided place count) = cleared_clean n (room_wanted ns rs)
+  by_check (Err r) v = cleared_clean n 0
 
   -- `dirty` is never printed
-  pub always_clean : {c : Check} {work after : List ℕ} {r : Answer} → work ≡ replicate n filler → JudgedBy c flow ns rs allowance work r after
+  pub always_clean : {c : Result ⊤ Refusal} {work after : List ℕ} {r : Answer} → work ≡ replicate n filler → JudgedBy c flow ns rs allowance work r after
       → is_clean (zeros_after r (length ns) (length rs)) after ≡ true
   unfolding judged_by
   always_clean {c} e h =
@@ -81,7 +79,7 @@ module _ (flow : State) (ns rs : List ℕ) (allowance n : ℕ) where
 ---- The line ----
 
 -- so the line of a case ends in `clean`, whatever is judged; what is refused may depend on how many work bytes are lent
-pub case_clean : (c : ℕ → Check) (n : ℕ) {flow : State} {ns rs given after out out' : List ℕ} {allowance r : ℕ} {a : Answer}
+pub case_clean : (c : ℕ → Result ⊤ Refusal) (n : ℕ) {flow : State} {ns rs given after out out' : List ℕ} {allowance r : ℕ} {a : Answer}
     → given ≡ replicate n filler → JudgedBy (c (length given)) flow ns rs allowance given a after
     → Put (case_line a (is_clean (zeros_after a (length ns) (length rs)) after)) out 0 out' r → Put (case_line (judged_by (c n) flow rs allowance) true) out 0 out' r
 case_clean c n {flow} {ns} {rs} {out = out} {out' = out'} {allowance = allowance} {r = r} f j w =

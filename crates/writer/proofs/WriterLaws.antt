@@ -1,12 +1,10 @@
 -- What a caller knows of an answer of the writer, and what the code learns on its way to it. Assumes nothing.
-use Rattle.std.specs.Prelude.{ℕ, ◌<◌, ◌≤◌, Bool, true, false, ◌≡◌, ltb}
+use Rattle.std.specs.Prelude.{ℕ, ◌<◌, ◌≤◌, Bool, true, false, ◌≡◌, ltb, Result, Ok, Err, ⊤}
 use mathlib.Core.List.{List, [], ◌∷◌}
 use Rattle.std.proofs.Math.Path.{refl, sym, ap}
 use Rattle.std.proofs.Common.{◌∙◌, subst, arith, lt-ltb, le-ltb, ltb-true, ltb-false}
 use Rattle.std.proofs.Math.ListN.{length}
 use Rattle.flow.specs.declared.Refusal.{Refusal}
-use Rattle.flow.specs.declared.Check.{Check}
-use Rattle.flow.specs.declared.Check.TheVariants as check
 use Rattle.flow.specs.declared.Extent.TheVariants.{Whole}
 use Rattle.flow.specs.Refusals.{ground_of, lone}
 use Rattle.flow.specs.Checks.{refused, first, or_else_check}
@@ -57,7 +55,7 @@ alone_short s {es} {at} e = by_run (run s 0 names) refl
     by_run (got ds end) r = by_end r (ltb end (length s)) refl
     by_run (bad n p) r = got_not_bad e (alone_bad s r)
 
-pub fine_lists : (s ns rs sets : List ℕ) → lists_check Whole s sets ns rs ≡ check.Fine → FineLists s ns rs sets
+pub fine_lists : (s ns rs sets : List ℕ) → lists_check Whole s sets ns rs ≡ Ok tt → FineLists s ns rs sets
 fine_lists s ns rs sets f =
     let p = lists_passed Whole s sets ns rs f in
     let t = fine_table ns sets p.table in
@@ -75,41 +73,41 @@ module _ (s ns rs sets : List ℕ) (room : ℕ) where
   short_of_room = ltb room (length (lists_bytes s ns rs sets))
 
   -- 14
-  abbrev room_check : Check
+  abbrev room_check : Result ⊤ Refusal
   room_check = first (ground_of 14 0 short_of_room ∷ [])
 
   check_parts : write_check s ns rs sets room ≡ or_else_check (lists_check Whole s sets ns rs) room_check
   unfolding write_check
   check_parts = lists_then Whole s sets ns rs (lone (ground_of 14 0 short_of_room) ∷ [])
 
-  pub lists_refused : {r : Refusal} → lists_check Whole s sets ns rs ≡ check.Refused r → write_check s ns rs sets room ≡ check.Refused r
+  pub lists_refused : {r : Refusal} → lists_check Whole s sets ns rs ≡ Err r → write_check s ns rs sets room ≡ Err r
   lists_refused e = check_parts ∙ sym (or_else_refused room_check e) ∙ e
 
-  room_fine : room_check ≡ check.Fine → length (lists_bytes s ns rs sets) ≤ room
+  room_fine : room_check ≡ Ok tt → length (lists_bytes s ns rs sets) ≤ room
   room_fine e = by short_of_room refl
     where
       by : (b : Bool) → short_of_room ≡ b → length (lists_bytes s ns rs sets) ≤ room
       by true h = absurd (subst IsFine (sym e ∙ single_held 14 0 short_of_room h) tt)
       by false h = ltb-false room (length (lists_bytes s ns rs sets)) h
 
-  module _ (f : lists_check Whole s sets ns rs ≡ check.Fine) where
+  module _ (f : lists_check Whole s sets ns rs ≡ Ok tt) where
     pub room_refused : room < length (lists_bytes s ns rs sets) → write_check s ns rs sets room ≡ refused 14 0
     room_refused h = check_parts ∙ sym (or_else_fine room_check f) ∙ single_held 14 0 short_of_room (lt-ltb room (length (lists_bytes s ns rs sets)) h)
 
-    pub room_passes : length (lists_bytes s ns rs sets) ≤ room → write_check s ns rs sets room ≡ check.Fine
+    pub room_passes : length (lists_bytes s ns rs sets) ≤ room → write_check s ns rs sets room ≡ Ok tt
     room_passes h = check_parts ∙ sym (or_else_fine room_check f) ∙ single_passed 14 0 short_of_room (le-ltb room (length (lists_bytes s ns rs sets)) h)
 
 ---- What the code answers ----
 
 module _ (s ns rs sets file : List ℕ) where
-  left : {c : Check} → write_check s ns rs sets (length file) ≡ c → at_front (bytes_first s ns rs sets (length file)) file ≡ at_front (put_first (lists_bytes s ns rs sets) c) file
-  left e = ap (λ (x : Check). at_front (put_first (lists_bytes s ns rs sets) x) file) e
+  left : {c : Result ⊤ Refusal} → write_check s ns rs sets (length file) ≡ c → at_front (bytes_first s ns rs sets (length file)) file ≡ at_front (put_first (lists_bytes s ns rs sets) c) file
+  left e = ap (λ (x : Result ⊤ Refusal). at_front (put_first (lists_bytes s ns rs sets) x) file) e
 
-  pub refused_as : {r : Refusal} → write_check s ns rs sets (length file) ≡ check.Refused r → WrittenAs s ns rs sets file file (Refused r)
+  pub refused_as : {r : Refusal} → write_check s ns rs sets (length file) ≡ Err r → WrittenAs s ns rs sets file file (Refused r)
   unfolding wrote put_first
   refused_as e = record { answer = sym (ap (wrote (lists_bytes s ns rs sets)) e); file_after = sym (left e) }
 
-  pub written_as : {file' : List ℕ} {n : ℕ} → write_check s ns rs sets (length file) ≡ check.Fine → n ≡ length (lists_bytes s ns rs sets) → file' ≡ at_front (lists_bytes s ns rs sets) file
+  pub written_as : {file' : List ℕ} {n : ℕ} → write_check s ns rs sets (length file) ≡ Ok tt → n ≡ length (lists_bytes s ns rs sets) → file' ≡ at_front (lists_bytes s ns rs sets) file
       → WrittenAs s ns rs sets file file' (Written (record { length = n }))
   unfolding wrote put_first
   written_as e en ef = record { answer = ap (λ (k : ℕ). Written (record { length = k })) en ∙ sym (ap (wrote (lists_bytes s ns rs sets)) e); file_after = ef ∙ sym (left e) }
@@ -125,8 +123,8 @@ module _ (s ns rs sets : List ℕ) (room : ℕ) where
   unfolding wrote put_first writing_told
   written_lists {e} h = by (write_check s ns rs sets room) refl
     where
-      by : (c : Check) → write_check s ns rs sets room ≡ c → WrittenLists s ns rs sets room e
-      by check.Fine q =
+      by : (c : Result ⊤ Refusal) → write_check s ns rs sets room ≡ c → WrittenLists s ns rs sets room e
+      by (Ok tt) q =
           let fine = both_fine _ _ (sym (check_parts s ns rs sets room) ∙ q) in
           let few = fine_lists s ns rs sets fine.0 in
           let sized : e.length ≡ length (lists_bytes s ns rs sets) = ap (λ (w : Writing). (writing_told w).length) (sym h ∙ ap (wrote (lists_bytes s ns rs sets)) q) in
@@ -136,12 +134,12 @@ module _ (s ns rs sets : List ℕ) (room : ℕ) where
             fits = omega (arith, sized, room_fine s ns rs sets room fine.1);
             short = omega (arith, sized, lists_length s ns rs sets, few.names_few, few.nodes_few, few.records_few, few.sets_few, sets_length_most sets);
           }
-      by (check.Refused r) q = written_not_refused (sym h ∙ ap (wrote (lists_bytes s ns rs sets)) q)
+      by (Err r) q = written_not_refused (sym h ∙ ap (wrote (lists_bytes s ns rs sets)) q)
 
   pub refused_lists : {r : Refusal} → writing s ns rs sets room ≡ Refused r → bytes_first s ns rs sets room ≡ []
   unfolding wrote put_first
   refused_lists {r} h = by (write_check s ns rs sets room) refl
     where
-      by : (c : Check) → write_check s ns rs sets room ≡ c → bytes_first s ns rs sets room ≡ []
-      by check.Fine q = written_not_refused (sym (ap (wrote (lists_bytes s ns rs sets)) q) ∙ h)
-      by (check.Refused r) q = ap (put_first (lists_bytes s ns rs sets)) q
+      by : (c : Result ⊤ Refusal) → write_check s ns rs sets room ≡ c → bytes_first s ns rs sets room ≡ []
+      by (Ok tt) q = written_not_refused (sym (ap (wrote (lists_bytes s ns rs sets)) q) ∙ h)
+      by (Err r) q = ap (put_first (lists_bytes s ns rs sets)) q

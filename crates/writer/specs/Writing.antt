@@ -1,9 +1,8 @@
 -- What the writer answers, and what stands in the lent bytes then, computed: the first ground that holds, or the sections.
 -- A reader need not believe this file, but only that `WrittenAs` is what `write` ensures: promises/specs/Writer tells by Told and Writes
 -- alone what is answered then, and what becomes of the bytes. Definitions only. Assumes nothing.
-use Rattle.std.specs.Prelude.{ℕ, List, [], ◌∷◌, ◌++◌, ◌≡◌, ltb, length}
-use Rattle.flow.specs.declared.Check.{Check}
-use Rattle.flow.specs.declared.Check.TheVariants as check
+use Rattle.std.specs.Prelude.{ℕ, List, [], ◌∷◌, ◌++◌, ◌≡◌, ltb, length, Result, Ok, Err, ⊤}
+use Rattle.flow.specs.declared.Refusal.{Refusal}
 use Rattle.flow.specs.declared.Extent.TheVariants.{Whole}
 use Rattle.flow.specs.Refusals.{ground_of, Round, lone}
 use Rattle.format.specs.Format.{Entry, numbers_section, sets_section}
@@ -23,18 +22,18 @@ module _ (s ns rs sets : List ℕ) (room : ℕ) where
   order_by_bytes es = lists_order Whole (length es) sets ns rs ++ (lone (ground_of 14 0 (ltb room (length (lists_bytes s ns rs sets)))) ∷ [])
 
   -- 15 to 18, 21, 1 to 3, 10, 11, 23, 4 to 9, with 22, 12, 13, 19, 20, 14
-  unfoldable pub write_check : Check
+  unfoldable pub write_check : Result ⊤ Refusal
   unfolding named_check lists_bytes
   write_check = named_check s order_by_bytes
 
 -- the answer, and the bytes that stand first then
-unfoldable pub wrote : List ℕ → Check → Writing
-wrote bytes check.Fine = Written (record { length = length bytes })
-wrote bytes (check.Refused r) = Refused r
+unfoldable pub wrote : List ℕ → Result ⊤ Refusal → Writing
+wrote bytes (Ok tt) = Written (record { length = length bytes })
+wrote bytes (Err r) = Refused r
 
-unfoldable pub put_first : List ℕ → Check → List ℕ
-put_first bytes check.Fine = bytes
-put_first bytes (check.Refused r) = []
+unfoldable pub put_first : List ℕ → Result ⊤ Refusal → List ℕ
+put_first bytes (Ok tt) = bytes
+put_first bytes (Err r) = []
 
 abbrev pub writing : List ℕ → List ℕ → List ℕ → List ℕ → ℕ → Writing
 writing s ns rs sets room = wrote (lists_bytes s ns rs sets) (write_check s ns rs sets room)

@@ -8,7 +8,7 @@ ghost use Rattle.format.specs.Format.{number_bytes, numbers_bytes, numbers_secti
 ghost use Rattle.format.specs.Told.{at_front};
 ghost use Rattle.writer.specs.Writing.{lists_bytes, WrittenAs};
 
-use flow::{Check, Extent, Refusal};
+use flow::{Extent, Refusal};
 
 // How long the file is that was written.
 #[derive(Clone, Copy)]
@@ -104,8 +104,7 @@ fn put_lists(names: &[u8], nodes: &[u16], records: &[u16], sets: &[u8], file: &m
 pub fn write(names: &[u8], nodes: &[u16], records: &[u16], sets: &[u8], file: &mut [u8]) -> Writing
     ensures { WrittenAs names.now nodes.now records.now sets.now file.old file.new result }
 {
-    let check = format::check_lists(names, nodes, records, sets, Extent::Whole);
-    if let Check::Refused(refusal) = check {
+    if let Err(refusal) = format::check_lists(names, nodes, records, sets, Extent::Whole) {
         return Writing::Refused(refusal);
     }
     let end = names.len() + 4 + 2 * (nodes.len() + records.len()) + sets_room(sets);

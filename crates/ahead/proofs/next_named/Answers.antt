@@ -15,37 +15,37 @@ use Rattle.ahead.specs.CheckLaws.{named_next_lists, named_next_passed}
 use Rattle.ahead.proofs.ByAsks.{next_refuses, named_next_ready, named_next}
 use Rattle.ahead.proofs.next_named.Goals as goal
 
-pub returns-in-Refused : goal.returns-in-Refused
-returns-in-Refused c =
+pub returns-in-Err : goal.returns-in-Err
+returns-in-Err c =
     let a = c.args in
-    next_refuses (named_flow a.names.now a.sets.now a.nodes.now) a.nodes.now a.beginning.now a.allowance a.list.now a.work.now _ (sym c.check_next_named-found.ensures ∙ c.in-Refused.is)
+    next_refuses (named_flow a.names.now a.sets.now a.nodes.now) a.nodes.now a.beginning.now a.allowance a.list.now a.work.now _ (sym c.check_next_named.ensures ∙ c.in-Err.is)
 
 pub named_cues-requires : goal.named_cues-requires
 named_cues-requires c =
     let a = c.args in
-    ((named_next_lists a.names.now a.sets.now a.nodes.now a.beginning.now (length a.list.now) (length a.work.now) (sym c.check_next_named-found.ensures ∙ c.in_default.is)).section, records_few Beginning a.nodes.now a.beginning.now (named_next_passed a.names.now a.sets.now a.nodes.now a.beginning.now (length a.list.now) (length a.work.now) (sym c.check_next_named-found.ensures ∙ c.in_default.is)).0.records)
+    ((named_next_lists a.names.now a.sets.now a.nodes.now a.beginning.now (length a.list.now) (length a.work.now) (sym c.check_next_named.ensures ∙ c.in_default.is)).section, records_few Beginning a.nodes.now a.beginning.now (named_next_passed a.names.now a.sets.now a.nodes.now a.beginning.now (length a.list.now) (length a.work.now) (sym c.check_next_named.ensures ∙ c.in_default.is)).0.records)
 
 pub named_asks-requires : goal.named_asks-requires
 named_asks-requires c =
     let a = c.args in
-    ((named_next_lists a.names.now a.sets.now a.nodes.now a.beginning.now (length a.list.now) (length a.work.now) (sym c.check_next_named-found.ensures ∙ c.in_default.is)).section, refl)
+    ((named_next_lists a.names.now a.sets.now a.nodes.now a.beginning.now (length a.list.now) (length a.work.now) (sym c.check_next_named.ensures ∙ c.in_default.is)).section, refl)
 
 pub slice_bounds-cues-end : goal.slice_bounds-cues-end
 slice_bounds-cues-end c =
     let a = c.args in
-    omega (arith, c.named_cues.auto.cues, records_few Beginning a.nodes.now a.beginning.now (named_next_passed a.names.now a.sets.now a.nodes.now a.beginning.now (length a.list.now) (length a.work.now) (sym c.check_next_named-found.ensures ∙ c.in_default.is)).0.records)
+    omega (arith, c.named_cues.auto.cues, records_few Beginning a.nodes.now a.beginning.now (named_next_passed a.names.now a.sets.now a.nodes.now a.beginning.now (length a.list.now) (length a.work.now) (sym c.check_next_named.ensures ∙ c.in_default.is)).0.records)
 
 pub slice_bounds-next_by-end : goal.slice_bounds-next_by-end
 slice_bounds-next_by-end c =
     let a = c.args in
-    sym (length-take-le (length a.beginning.now) c.named_cues.new.cues (omega (arith, c.named_cues.auto.cues, records_few Beginning a.nodes.now a.beginning.now (named_next_passed a.names.now a.sets.now a.nodes.now a.beginning.now (length a.list.now) (length a.work.now) (sym c.check_next_named-found.ensures ∙ c.in_default.is)).0.records)))
+    sym (length-take-le (length a.beginning.now) c.named_cues.new.cues (omega (arith, c.named_cues.auto.cues, records_few Beginning a.nodes.now a.beginning.now (named_next_passed a.names.now a.sets.now a.nodes.now a.beginning.now (length a.list.now) (length a.work.now) (sym c.check_next_named.ensures ∙ c.in_default.is)).0.records)))
 
 pub next_by-requires : goal.next_by-requires
 next_by-requires c =
     let a = c.args in
-    named_next_ready a.sets.now a.nodes.now a.beginning.now a.list.now a.work.now a.names.now (sym c.check_next_named-found.ensures ∙ c.in_default.is) (cues_front (cue_of (masked (in_set a.sets.now)) (other (entries_in a.names.now))) a.beginning.now _ _ c.named_cues.ensures) c.named_asks.ensures
+    named_next_ready a.sets.now a.nodes.now a.beginning.now a.list.now a.work.now a.names.now (sym c.check_next_named.ensures ∙ c.in_default.is) (cues_front (cue_of (masked (in_set a.sets.now)) (other (entries_in a.names.now))) a.beginning.now _ _ c.named_cues.ensures) c.named_asks.ensures
 
 pub returns : goal.returns
 returns c =
     let a = c.args in
-    named_next a.sets.now a.nodes.now a.beginning.now a.list.now a.work.now a.names.now (sym c.check_next_named-found.ensures ∙ c.in_default.is) (cues_front (cue_of (masked (in_set a.sets.now)) (other (entries_in a.names.now))) a.beginning.now _ _ c.named_cues.ensures) c.named_asks.ensures c.next_by.ensures
+    named_next a.sets.now a.nodes.now a.beginning.now a.list.now a.work.now a.names.now (sym c.check_next_named.ensures ∙ c.in_default.is) (cues_front (cue_of (masked (in_set a.sets.now)) (other (entries_in a.names.now))) a.beginning.now _ _ c.named_cues.ensures) c.named_asks.ensures c.next_by.ensures

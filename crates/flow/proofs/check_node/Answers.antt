@@ -3,9 +3,9 @@ use Prim.Native.Nat.{ℕ, ◌+◌}
 use mathlib.Core.Path.{◌≡◌, sym, ap, ap₂, ◌∙◌, subst}
 use mathlib.Core.Bool.{true, false, not, ◌&&◌}
 use lib.Dec.{ltb, leb}
+use Rattle.std.specs.Prelude.{Result, Ok, ⊤}
+use Rattle.flow.specs.declared.Refusal.{Refusal}
 use Rattle.flow.specs.declared.Form.{Form}
-use Rattle.flow.specs.declared.Check.{Check}
-use Rattle.flow.specs.declared.Check.TheVariants.{Fine}
 use Rattle.flow.specs.Kinds.{node, form, most_sets, set_number}
 use Rattle.flow.specs.Refusals.{unknown_kind, no_such_set, wrong_field, not_lower, wrong_sort, child_taken, node_grounds}
 use Rattle.flow.specs.Checks.{refused, first, answer, or_else_check}
@@ -15,7 +15,7 @@ use Rattle.flow.specs.Children.{field_by_fields, low_by_fields, within_by_lower,
 use Rattle.flow.proofs.check_node.Goals as goal
 
 -- no refusal is fine
-not-fine : {A : Type 0} {x : Check} (number place : ℕ) → x ≡ refused number place → x ≡ Fine → A
+not-fine : {A : Type 0} {x : Result ⊤ Refusal} (number place : ℕ) → x ≡ refused number place → x ≡ Ok tt → A
 not-fine number place e f = absurd (subst IsFine (sym f ∙ e) tt)
 
 pub returns-then-not-asked : goal.returns-then-not-asked

@@ -4,8 +4,8 @@ use Prim.Native.Nat.{◌<◌}
 use mathlib.Core.Path.{ap, sym, ◌∙◌}
 use native.Mathlib.Omega.{arith}
 use lib.ListN.{length, get_or}
+use Rattle.std.specs.Prelude.{Err}
 use Rattle.flow.specs.FirstRefusal.{each_start, each_held, each_passed, each_over, single_held, single_passed}
-use Rattle.flow.specs.declared.Check.TheVariants.{Refused}
 use Rattle.format.specs.Contents.{event_grounds, unnamed_event}
 use Rattle.format.specs.ContentChecks.{events_grounds}
 use Rattle.format.proofs.check_events.Goals as goal
@@ -21,7 +21,7 @@ returns-then-unnamed_event c =
     let l = c.loop-i in
     let h : l.i < length xs = omega arith in
     let e = single_held 20 l.i (unnamed_event k (get_or xs l.i 0)) (sym c.unnamed_event.ensures ∙ c.if-unnamed_event.true) in
-    ap Refused c.refusal.ensures ∙ sym (each_held (event_grounds k xs) l.i (length xs) h _ e) ∙ l.invariant.1
+    ap Err c.refusal.ensures ∙ sym (each_held (event_grounds k xs) l.i (length xs) h _ e) ∙ l.invariant.1
 
 pub loop-i-preserved : goal.loop-i-preserved
 loop-i-preserved c =

@@ -3,9 +3,9 @@
 use Prim.Native.Nat.{◌<◌}
 use mathlib.Core.Path.{refl, ap, sym, ◌∙◌}
 use native.Mathlib.Omega.{arith}
+use Rattle.std.specs.Prelude.{Err}
 use Rattle.flow.specs.FirstRefusal.{each_start, each_held, each_passed, each_over, single_held, single_passed}
 use Rattle.flow.specs.Refusals.{count}
-use Rattle.flow.specs.declared.Check.TheVariants.{Refused}
 use Rattle.format.specs.Contents.{leaf_grounds, unnamed_leaf}
 use Rattle.format.specs.ContentChecks.{leaves_grounds}
 use Rattle.format.proofs.check_leaves.Goals as goal
@@ -21,7 +21,7 @@ returns-then-unnamed_leaf c =
     let l = c.loop-i in
     let h : l.i < count xs = omega arith in
     let e = single_held 19 l.i (unnamed_leaf k xs l.i) (sym c.unnamed_leaf.ensures ∙ c.if-unnamed_leaf.true) in
-    ap Refused c.refusal.ensures ∙ sym (each_held (leaf_grounds k xs) l.i (count xs) h _ e) ∙ l.invariant.2
+    ap Err c.refusal.ensures ∙ sym (each_held (leaf_grounds k xs) l.i (count xs) h _ e) ∙ l.invariant.2
 
 pub loop-i-preserved : goal.loop-i-preserved
 loop-i-preserved c =

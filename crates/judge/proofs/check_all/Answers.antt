@@ -1,32 +1,33 @@
 -- `judge::check_all` meets its contract: 1 to 9, 10 to 13 and 14 in their order. Assumes nothing.
 use mathlib.Core.Path.{sym, ◌∙◌}
+use Rattle.flow.specs.FirstRefusal.{handed_on}
 use Rattle.flow.specs.declared.Extent.TheVariants.{Whole}
 use Rattle.flow.specs.FineTable.{fine_table}
 use Rattle.judge.specs.JudgedLaws.{table_refuses, records_refuse, room_last, table_some, table_few, records_few}
 use Rattle.judge.proofs.check_all.Goals as goal
 
-pub returns-in_default : goal.returns-in_default
-returns-in_default c =
+pub returns-in_err-check_table : goal.returns-in_err-check_table
+returns-in_err-check_table c =
     let a = c.args in
-    table_refuses a.sets.now a.nodes.now a.records.now a.room c.check_table-table.ensures c.in_default.is
+    handed_on _ _ c.in_err-check_table.was c.from_residual.ensures.1 ∙ table_refuses a.sets.now a.nodes.now a.records.now a.room c.check_table.ensures c.in_err-check_table.was
 
-pub check_records-list-requires : goal.check_records-list-requires
-check_records-list-requires c = let a = c.args in table_some a.nodes.now (fine_table a.nodes.now a.sets.now (sym c.check_table-table.ensures ∙ c.in-Fine.is))
+pub check_records-requires : goal.check_records-requires
+check_records-requires c = let a = c.args in table_some a.nodes.now (fine_table a.nodes.now a.sets.now (sym c.check_table.ensures ∙ c.in_ok-check_table.was))
 
-pub returns-in_default-list : goal.returns-in_default-list
-returns-in_default-list c =
+pub returns-in_err-check_records : goal.returns-in_err-check_records
+returns-in_err-check_records c =
     let a = c.args in
-    let table = sym c.check_table-table.ensures ∙ c.in-Fine.is in
-    records_refuse a.sets.now a.nodes.now a.records.now a.room table c.check_records-list.ensures c.in_default-list.is
+    let table = sym c.check_table.ensures ∙ c.in_ok-check_table.was in
+    handed_on _ _ c.in_err-check_records.was c.from_residual-in_err-check_records.ensures.1 ∙ records_refuse a.sets.now a.nodes.now a.records.now a.room table c.check_records.ensures c.in_err-check_records.was
 
 pub check_room-requires : goal.check_room-requires
 check_room-requires c =
     let a = c.args in
-    let table = sym c.check_table-table.ensures ∙ c.in-Fine.is in
-    (table_few a.nodes.now (fine_table a.nodes.now a.sets.now table), records_few Whole a.nodes.now a.records.now (sym c.check_records-list.ensures ∙ c.in-Fine-list.is))
+    let table = sym c.check_table.ensures ∙ c.in_ok-check_table.was in
+    (table_few a.nodes.now (fine_table a.nodes.now a.sets.now table), records_few Whole a.nodes.now a.records.now (sym c.check_records.ensures ∙ c.in_ok-check_records.was))
 
 pub returns : goal.returns
 returns c =
     let a = c.args in
-    let table = sym c.check_table-table.ensures ∙ c.in-Fine.is in
-    room_last a.sets.now a.nodes.now a.records.now a.room table (sym c.check_records-list.ensures ∙ c.in-Fine-list.is) c.check_room.ensures
+    let table = sym c.check_table.ensures ∙ c.in_ok-check_table.was in
+    room_last a.sets.now a.nodes.now a.records.now a.room table (sym c.check_records.ensures ∙ c.in_ok-check_records.was) c.check_room.ensures

@@ -31,18 +31,18 @@ returns-in_default c =
     read_refused s ns rs (reading_laid s (length ns) (length rs) (omega arith) (omega arith)
     ∙ lays_refused s c.lay_out-layout.ensures c.in_default.is c.layout_refusal.ensures)
 
-pub check_numbers-check-requires : goal.check_numbers-check-requires
-check_numbers-check-requires c =
+pub check_numbers-requires : goal.check_numbers-requires
+check_numbers-requires c =
     let p = lays_placed _ c.lay_out-layout.ensures c.in-At.is in
     placed_inside _ p.1
 
-pub returns-in_default-check : goal.returns-in_default-check
-returns-in_default-check c =
+pub returns-in-Err : goal.returns-in-Err
+returns-in-Err c =
     let s = c.args.file.now in
     let ns = c.args.nodes.now in
     let rs = c.args.records.now in
     let p = lays_placed _ c.lay_out-layout.ensures c.in-At.is in
-    read_refused s ns rs (read_faulty s ns rs p.1 (omega arith) (omega arith) c.check_numbers-check.ensures c.in_default-check.is c.check_refusal.ensures)
+    read_refused s ns rs (read_faulty s ns rs p.1 (omega arith) (omega arith) c.check_numbers.ensures c.in-Err.is)
 
 pub fill-requires : goal.fill-requires
 fill-requires c =
@@ -62,5 +62,5 @@ returns c =
     let ns = c.args.nodes.now in
     let rs = c.args.records.now in
     let p = lays_placed _ c.lay_out-layout.ensures c.in-At.is in
-    let q = read_fine s ns rs p.1 (omega arith) (omega arith) c.check_numbers-check.ensures c.in-Fine.is in
+    let q = read_fine s ns rs p.1 (omega arith) (omega arith) c.check_numbers.ensures c.in_default-check_numbers.is in
     read_as s ns rs q refl c.fill.ensures c.fill-2.ensures
