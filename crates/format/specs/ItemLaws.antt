@@ -1,19 +1,19 @@
 -- What the plans of single items and names come to, by the bytes that stand in the file. Assumes nothing.
-use Rattle.std.specs.Prelude.{ℕ, ◌+◌, ◌*◌, ◌≤◌, ◌<◌, Bool, true, false, cond, List, ◌⊎◌, ◌≡◌, leb, ltb, length, take, drop}
+use Rattle.std.specs.Prelude.{ℕ, ◌+◌, ◌*◌, ◌≤◌, ◌<◌, Bool, true, false, cond, Result, Ok, Err, List, ◌⊎◌, ◌≡◌, leb, ltb, length, take, drop}
 use Rattle.std.proofs.Common.{inl, inr, ap₂, ◌∙◌, subst, add-zero, arith, length-drop, get_or-take, get_or-drop, length-take-le}
 use Rattle.std.proofs.Math.Path.{refl, ap, sym}
 use borrow.Author.Tests.{leb-true, leb-false, lt-ltb, le-ltb}
 use Rattle.std.proofs.Math.ListN.{get_or}
+use Rattle.std.specs.Result.{IsErrAnd}
+use Rattle.std.proofs.lemmas.Result.{err_from_is_err_and}
 use Rattle.flow.specs.declared.Refusal.{Refusal}
 use Rattle.format.specs.declared.Got.{Got}
-use Rattle.format.specs.declared.Item.{Item}
-use Rattle.format.specs.declared.Item.TheVariants.{Has, Bad}
 use Rattle.format.specs.declared.Range.{Range}
 use Rattle.format.specs.Format.{Entry}
 use Rattle.format.specs.Plan.{Plan, done, refuse, item, ◌>>=◌, Ran, got, bad, run}
 use Rattle.format.specs.Plans.{bind_bad, bind_got, item_there, item_cut}
 use Rattle.format.specs.Sections.{byte, number, ranged, step_length, machine_length, name, entry}
-use Rattle.format.specs.Items.{refusal_of, item_told, refusal_in, as_item, item_in_range, number_at, name_at, name_end, entry_end}
+use Rattle.format.specs.Items.{refusal_of, found_at, as_item, item_in_range, number_at, name_at, name_end, entry_end}
 pub use Rattle.format.specs.There.{Found, NumberThere, RangedThere, LengthThere, NameThere, EntryRuns, EntryThere}
 
 ---- Answers ----
@@ -35,47 +35,40 @@ got_next e = cc
 pub got_not_bad : {A C : Type 0} {x : Ran A} {a : A} {n k p : ℕ} → x ≡ got a n → x ≡ bad k p → C
 got_not_bad e h = let z : ◌≡◌ {A = ℕ} 0 1 = cc in absurd (omega arith)
 
-pub item_bad : {A : Type 0} (f : A → ℕ) (x : Ran A) {n p : ℕ} {r : Refusal} → r ≡ refusal_of n p → x ≡ bad n p → Bad r ≡ as_item f x
+pub item_bad : {A : Type 0} (f : A → ℕ) (x : Ran A) {n p : ℕ} {r : Refusal} → r ≡ refusal_of n p → x ≡ bad n p → Err r ≡ as_item f x
 unfolding as_item
-item_bad f x e h = ap Bad e ∙ ap (as_item f) (sym h)
+item_bad f x e h = ap Err e ∙ ap (as_item f) (sym h)
 
 pub item_got : {A : Type 0} (f : A → ℕ) (x : Ran A) {a : A} {m v n : ℕ} → v ≡ f a → n ≡ m → x ≡ got a m
-    → Has (record { value = v; next = record { at = n } }) ≡ as_item f x
+    → Ok (found_at v n) ≡ as_item f x
 unfolding as_item
-item_got f x e d h = ap₂ (λ (v n : ℕ). Has (record { value = v; next = record { at = n } })) e d ∙ ap (as_item f) (sym h)
+item_got f x e d h = ap₂ (λ (v n : ℕ). Ok (found_at v n)) e d ∙ ap (as_item f) (sym h)
 
-pub has_found : {A : Type 0} (f : A → ℕ) (x : Ran A) {g : Got} → as_item f x ≡ Has g → Found f x g
+pub has_found : {A : Type 0} (f : A → ℕ) (x : Ran A) {g : Got} → Ok g ≡ as_item f x → Found f x g
 unfolding as_item
 has_found f (got a n) {g} e =
-    let e' : record { value = f a; next = record { at = n } } ≡ g = cc in
+    let e' : found_at (f a) n ≡ g = cc in
     record { found = a; is = ap (λ (g' : Got). got a g'.next.at) e'; sized = sym (ap (λ (g' : Got). g'.value) e') }
 has_found f (bad n p) {g} e = let z : ◌≡◌ {A = ℕ} 0 1 = cc in absurd (omega arith)
 
-pub item_found : {A : Type 0} (f : A → ℕ) (x : Ran A) {i : Item} {g : Got} → i ≡ as_item f x → i ≡ Has g → Found f x g
-item_found f x e h = has_found f x (sym e ∙ h)
-
-pub bad_found : {A : Type 0} (f : A → ℕ) (x : Ran A) {r : Refusal} → as_item f x ≡ Bad r → x ≡ bad r.number r.place
+pub bad_found : {A : Type 0} (f : A → ℕ) (x : Ran A) {r : Refusal} → Err r ≡ as_item f x → x ≡ bad r.number r.place
 unfolding as_item
 bad_found f (got a n) {r} e = let z : ◌≡◌ {A = ℕ} 0 1 = cc in absurd (omega arith)
 bad_found f (bad n p) {r} e =
     let e' : refusal_of n p ≡ r = cc in
     ap (λ (r' : Refusal). bad r'.number r'.place) e'
 
--- a refusal is handed on as it is
-pub handed_on : {A B : Type 0} (f : A → ℕ) (x : Ran A) (g : B → ℕ) (y : Ran B) {i : Item} {r : Refusal}
-    → ((n p : ℕ) → x ≡ bad n p → y ≡ bad n p) → i ≡ as_item f x → i ≡ Bad r → i ≡ as_item g y
-handed_on f x g y {i} {r} k e h = h ∙ item_bad g y refl (k r.number r.place (bad_found f x (sym e ∙ h)))
+-- what a `?` hands on is the refusal that it found
+pub handed : {A : Type 0} (i : Result A Refusal) {r : Refusal} → IsErrAnd i (λ q. q ≡ r) → i ≡ Err r
+handed i h = let p = err_from_is_err_and i h in p.1 ∙ ap Err p.2
 
--- the refusal that is in an item
-pub item_refusal : {A : Type 0} (g : A → ℕ) (x : Ran A) {i : Item} {q r : Refusal} → i ≡ as_item g x → i ≡ Bad q → r ≡ refusal_in i
-    → x ≡ bad r.number r.place
-unfolding item_told
-item_refusal g x {i} {q} {r} e h d =
-    let d' : r ≡ q = d ∙ ap refusal_in h in
-    bad_found g x (sym e ∙ h) ∙ ap (λ (r' : Refusal). bad r'.number r'.place) (sym d')
+-- a refusal is handed on as it is
+pub handed_on : {A B : Type 0} (f : A → ℕ) (x : Ran A) (g : B → ℕ) (y : Ran B) {i : Result Got Refusal} {r : Refusal}
+    → ((n p : ℕ) → x ≡ bad n p → y ≡ bad n p) → Err r ≡ as_item f x → IsErrAnd i (λ q. q ≡ r) → i ≡ as_item g y
+handed_on f x g y {i} {r} k e h = handed i h ∙ item_bad g y refl (k r.number r.place (bad_found f x e))
 
 -- an item whose value is the number itself
-pub has_number : (x : Ran ℕ) {g : Got} → as_item (λ n. n) x ≡ Has g → x ≡ got g.value g.next.at
+pub has_number : (x : Ran ℕ) {g : Got} → Ok g ≡ as_item (λ n. n) x → x ≡ got g.value g.next.at
 has_number x {g} e = let f = has_found (λ n. n) x e in f.is ∙ ap (λ (n : ℕ). got n g.next.at) (sym f.sized)
 
 ---- Bytes and numbers ----
@@ -153,43 +146,35 @@ module _ (s : List ℕ) (at : ℕ) (g : Range) (p : Plan ℕ) where
       by_number (got w last) a = by_least a (le_or_lt g.least w)
       by_number (bad k q) a = got_not_bad e (ranged_bad a)
 
-  -- the item is held to its range as the plan is
-  pub item_ranged : {i : Item} → i ≡ as_item (λ n. n) (run s at p) → item_in_range g at i ≡ as_item (λ n. n) (run s at (ranged g p))
-  unfolding item_in_range as_item
-  item_ranged {i} h = ap (item_in_range g at) h ∙ by (run s at p) refl
-    where
-      by_most : {w last : ℕ} → run s at p ≡ got w last → g.least ≤ w → (w ≤ g.most) ⊎ (g.most < w)
-          → item_in_range g at (as_item (λ n. n) (got w last)) ≡ as_item (λ n. n) (run s at (ranged g p))
-      by_most {w} a l (inl m) = rw (le-ltb w g.least l, le-ltb g.most w m) (item_got (λ n. n) _ refl refl (ranged_got a l m))
-      by_most {w} a l (inr m) = rw (le-ltb w g.least l, lt-ltb g.most w m) (item_bad (λ n. n) _ refl (ranged_many a l m))
-
-      by_least : {w last : ℕ} → run s at p ≡ got w last → (g.least ≤ w) ⊎ (w < g.least)
-          → item_in_range g at (as_item (λ n. n) (got w last)) ≡ as_item (λ n. n) (run s at (ranged g p))
-      by_least {w} a (inl l) = by_most a l (le_or_lt w g.most)
-      by_least {w} a (inr l) = rw (lt-ltb w g.least l) (item_bad (λ n. n) _ refl (ranged_few a l))
-
-      by : (x : Ran ℕ) → run s at p ≡ x → item_in_range g at (as_item (λ n. n) x) ≡ as_item (λ n. n) (run s at (ranged g p))
-      by (got w last) a = by_least a (le_or_lt g.least w)
-      by (bad k q) a = item_bad (λ n. n) _ refl (ranged_bad a)
-
--- an item held to its range, by its value
-module _ (g : Range) (at : ℕ) {i : Item} where
-  pub item_stays_bad : {r : Refusal} → i ≡ Bad r → i ≡ item_in_range g at i
+  -- what the plan finds is held to its range as the plan is
+  pub item_ranged : {h : Got} → Ok h ≡ as_item (λ n. n) (run s at p) → item_in_range g at h ≡ as_item (λ n. n) (run s at (ranged g p))
   unfolding item_in_range
-  item_stays_bad e = e ∙ sym (ap (item_in_range g at) e)
+  item_ranged {h} e = by_least (le_or_lt g.least h.value)
+    where
+      a : run s at p ≡ got h.value h.next.at
+      a = has_number (run s at p) e
 
-  module _ {h : Got} (e : i ≡ Has h) where
-    pub item_few : {r : Refusal} → r ≡ refusal_of g.few at → h.value < g.least → Bad r ≡ item_in_range g at i
-    unfolding item_in_range
-    item_few q l = ap Bad q ∙ sym (ap (item_in_range g at) e ∙ rw (lt-ltb h.value g.least l))
+      by_most : g.least ≤ h.value → (h.value ≤ g.most) ⊎ (g.most < h.value) → item_in_range g at h ≡ as_item (λ n. n) (run s at (ranged g p))
+      by_most l (inl m) = rw (le-ltb h.value g.least l, le-ltb g.most h.value m) (item_got (λ n. n) _ refl refl (ranged_got a l m))
+      by_most l (inr m) = rw (le-ltb h.value g.least l, lt-ltb g.most h.value m) (item_bad (λ n. n) _ refl (ranged_many a l m))
 
-    pub item_many : {r : Refusal} → r ≡ refusal_of g.many at → g.least ≤ h.value → g.most < h.value → Bad r ≡ item_in_range g at i
-    unfolding item_in_range
-    item_many q l m = ap Bad q ∙ sym (ap (item_in_range g at) e ∙ rw (le-ltb h.value g.least l, lt-ltb g.most h.value m))
+      by_least : (g.least ≤ h.value) ⊎ (h.value < g.least) → item_in_range g at h ≡ as_item (λ n. n) (run s at (ranged g p))
+      by_least (inl l) = by_most l (le_or_lt h.value g.most)
+      by_least (inr l) = rw (lt-ltb h.value g.least l) (item_bad (λ n. n) _ refl (ranged_few a l))
 
-    pub item_fits : g.least ≤ h.value → h.value ≤ g.most → Has h ≡ item_in_range g at i
-    unfolding item_in_range
-    item_fits l m = sym (ap (item_in_range g at) e ∙ rw (le-ltb h.value g.least l, le-ltb g.most h.value m))
+-- a value held to its range
+module _ (g : Range) (at : ℕ) (h : Got) where
+  pub item_few : {r : Refusal} → r ≡ refusal_of g.few at → h.value < g.least → Err r ≡ item_in_range g at h
+  unfolding item_in_range
+  item_few q l = ap Err q ∙ sym (rw (lt-ltb h.value g.least l))
+
+  pub item_many : {r : Refusal} → r ≡ refusal_of g.many at → g.least ≤ h.value → g.most < h.value → Err r ≡ item_in_range g at h
+  unfolding item_in_range
+  item_many q l m = ap Err q ∙ sym (rw (le-ltb h.value g.least l, lt-ltb g.most h.value m))
+
+  pub item_fits : g.least ≤ h.value → h.value ≤ g.most → Ok h ≡ item_in_range g at h
+  unfolding item_in_range
+  item_fits l m = sym (rw (le-ltb h.value g.least l, le-ltb g.most h.value m))
 
 ---- A name ----
 
@@ -234,7 +219,7 @@ length_there s at g {v} {next} e = by (le_or_lt (at + 1) (length s))
 
 -- the name behind a length byte that was read, as an item
 pub name_item : (s : List ℕ) (at : ℕ) (g : Range) {v next : ℕ} → run s at (ranged g byte) ≡ got v next → at + 1 + v ≤ length s
-    → Has (record { value = v; next = record { at = at + 1 + v } }) ≡ as_item length (run s at (name g))
+    → Ok (found_at v (at + 1 + v)) ≡ as_item length (run s at (name g))
 name_item s at g {v} {next} e h =
     let t = length_there s at g e in
     let l : length (take v (drop next s)) ≡ v = length-take-le v (drop next s) (rw length-drop (omega (arith, t.ends))) in

@@ -1,9 +1,8 @@
 -- What the functions of src/ answer: what a plan comes to as an item, and what stands at an offset where whole entries or numbers are
 -- known to stand. What an item tells is in Told. Definitions only. Assumes nothing.
-use Rattle.std.specs.Prelude.{ℕ, zero, suc, ◌+◌, ◌*◌, ◌≤◌, cond, List, [], ◌∷◌, ltb, length, get_or, take, drop}
+use Rattle.std.specs.Prelude.{ℕ, zero, suc, ◌+◌, ◌*◌, ◌≤◌, cond, Result, Ok, Err, List, [], ◌∷◌, ltb, length, get_or, take, drop}
 use Rattle.flow.specs.declared.Refusal.{Refusal}
-use Rattle.format.specs.declared.Item.{Item}
-use Rattle.format.specs.declared.Item.TheVariants.{Has, Bad}
+use Rattle.format.specs.declared.Got.{Got}
 use Rattle.format.specs.declared.Range.{Range}
 use Rattle.format.specs.Format.{Entry}
 pub use Rattle.format.specs.Told.{refusal_of, ItemTold, at_front}
@@ -13,22 +12,17 @@ use Rattle.format.specs.Plan.{Ran, got, bad}
 ---- Answers ----
 
 -- a value, and the offset behind it
-abbrev pub has : ℕ → ℕ → Item
-has value next = Has (record { value = value; next = record { at = next } })
+abbrev pub found_at : ℕ → ℕ → Got
+found_at value next = record { value = value; next = record { at = next } }
 
 -- a number for what was found, and the cursor behind it; or the refusal
-unfoldable pub as_item : {A : Type 0} → (A → ℕ) → Ran A → Item
-as_item f (got a next) = has (f a) next
-as_item f (bad n p) = Bad (refusal_of n p)
+unfoldable pub as_item : {A : Type 0} → (A → ℕ) → Ran A → Result Got Refusal
+as_item f (got a next) = Ok (found_at (f a) next)
+as_item f (bad n p) = Err (refusal_of n p)
 
-abbrev pub refusal_in : Item → Refusal
-refusal_in i = refusal_of (item_told i).number (item_told i).place
-
--- the item at an offset, if its value is in its range
-unfoldable pub item_in_range : Range → ℕ → Item → Item
-item_in_range g at (Bad r) = Bad r
-item_in_range g at (Has h) =
-    cond (ltb h.value g.least) (Bad (refusal_of g.few at)) (cond (ltb g.most h.value) (Bad (refusal_of g.many at)) (Has h))
+-- what was found at an offset, if its value is in its range
+unfoldable pub item_in_range : Range → ℕ → Got → Result Got Refusal
+item_in_range g at h = cond (ltb h.value g.least) (Err (refusal_of g.few at)) (cond (ltb g.most h.value) (Err (refusal_of g.many at)) (Ok h))
 
 ---- Where something is known to stand whole ----
 

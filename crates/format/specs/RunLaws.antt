@@ -2,20 +2,21 @@
 -- Assumes nothing.
 use Prim.Native.Nat.{ℕ, zero, suc, ◌+◌, ◌*◌, ◌-◌, ◌/◌, ◌≤◌, ◌<◌}
 use mathlib.Core.List.{List, [], ◌++◌}
-use Rattle.std.specs.Prelude.{◌⊎◌, ◌≡◌, refl, drop}
+use Rattle.std.specs.Prelude.{Result, Ok, ◌⊎◌, ◌≡◌, refl, drop}
 use Rattle.std.proofs.Common.{inl, inr, ◌∙◌, mul-suc, mul-le-mul_left, mul-le-mul_right, add-one, arith, length-drop, drop-drop, length-take-le, take-add}
 use Rattle.std.proofs.Math.Path.{ap, ap₂, sym}
 use Rattle.std.proofs.Math.Nat.{mul-zero, mul-div_cancel_left}
 use Rattle.std.proofs.Math.ListN.{length, take}
+use Rattle.flow.specs.declared.Refusal.{Refusal}
 use Rattle.flow.specs.Legends.{set_bytes}
-use Rattle.format.specs.declared.Item.{Item}
+use Rattle.format.specs.declared.Got.{Got}
 use Rattle.format.specs.declared.Range.{Range}
 use Rattle.format.specs.Format.{sets_section}
 use Rattle.format.specs.Plan.{Plan, done, ◌>>=◌, Ran, got, bad, run}
 use Rattle.format.specs.Plans.{bind_bad, bind_got, item_there, item_cut, ends_here, ends_later}
 use Rattle.format.specs.Sections.{number, ranged, sets_count, items, count_by, item_section, joint_sets}
 use Rattle.format.specs.Lengths.{sets_length}
-use Rattle.format.specs.Items.{has, as_item}
+use Rattle.format.specs.Items.{found_at, as_item}
 use Rattle.format.specs.ItemLaws.{le_or_lt, got_value, got_next, item_got, number_there, ranged_there, got_not_bad}
 pub use Rattle.format.specs.There.{ItemsThere, Cut, ItemSectionThere, SetsThere}
 
@@ -89,7 +90,7 @@ module _ (s : List ℕ) (size : ℕ) where
       by (inr h) = let c = items_cut k at l h in got_not_bad e (items_stop c.number k at c.before c.inside c.cut)
 
   -- they are as many as are wanted
-  pub items_item : (k at : ℕ) → 1 ≤ size → at + size * k ≤ length s → has k (at + size * k) ≡ as_item (count_by size) (run s at (items size k))
+  pub items_item : (k at : ℕ) → 1 ≤ size → at + size * k ≤ length s → Ok (found_at k (at + size * k)) ≡ as_item (count_by size) (run s at (items size k))
   items_item k at some h =
       let sized : length (take (size * k) (drop at s)) ≡ size * k = length-take-le (size * k) (drop at s) (rw length-drop (omega arith)) in
       let many : count_by size (take (size * k) (drop at s)) ≡ k = ap (λ (n : ℕ). n / size) sized ∙ mul-div_cancel_left k some in
@@ -118,7 +119,7 @@ module _ (s : List ℕ) (at : ℕ) (g : Range) (size each : ℕ) where
   items_from e = bind_got s at (ranged g number) counted_items e
 
   -- the answer of the items is that of the section
-  pub items_answer : {i : Item} {v next : ℕ} → run s at (ranged g number) ≡ got v next → i ≡ as_item (count_by size) (run s next (items size (each * v)))
+  pub items_answer : {i : Result Got Refusal} {v next : ℕ} → run s at (ranged g number) ≡ got v next → i ≡ as_item (count_by size) (run s next (items size (each * v)))
       → i ≡ as_item (count_by size) (run s at (item_section g size each))
   items_answer e h = h ∙ ap (as_item (count_by size)) (sym (items_from e))
 

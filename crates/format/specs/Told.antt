@@ -1,8 +1,7 @@
 -- What an item tells in 01's terms, and what a lent table is after it was written. Definitions only. Assumes nothing.
-use Rattle.std.specs.Prelude.{ℕ, List, ◌++◌, length, drop}
+use Rattle.std.specs.Prelude.{ℕ, Result, Ok, Err, List, ◌++◌, length, drop}
 use Rattle.flow.specs.declared.Refusal.{Refusal}
-use Rattle.format.specs.declared.Item.{Item}
-use Rattle.format.specs.declared.Item.TheVariants.{Has, Bad}
+use Rattle.format.specs.declared.Got.{Got}
 
 -- a refusal's number and place
 abbrev pub refusal_of : ℕ → ℕ → Refusal
@@ -21,9 +20,9 @@ item_found value next = record { number = 0; place = 0; value = value; next = ne
 abbrev pub item_refused : ℕ → ℕ → ItemTold
 item_refused number place = record { number = number; place = place; value = 0; next = 0 }
 
-unfoldable pub item_told : Item → ItemTold
-item_told (Has g) = item_found g.value g.next.at
-item_told (Bad r) = item_refused r.number r.place
+unfoldable pub item_told : Result Got Refusal → ItemTold
+item_told (Ok g) = item_found g.value g.next.at
+item_told (Err r) = item_refused r.number r.place
 
 -- "the first numbers of the two tables are the file's and the rest unchanged"
 abbrev pub at_front : List ℕ → List ℕ → List ℕ

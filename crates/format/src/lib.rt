@@ -8,11 +8,11 @@ ghost use Rattle.std.specs.Prelude.{◌≡◌, ◌+◌, ◌*◌, ◌<◌, ◌≤
 ghost use Rattle.flow.specs.Legends.{set_count};
 ghost use Rattle.flow.specs.Checks.{first};
 ghost use Rattle.format.specs.Plan.{run};
-ghost use Rattle.format.specs.Sections.{byte, number, name, entry, new_entry, names, items, count_by, item_section, section, joint_sets, same_bytes, same_step, same_entry, met};
+ghost use Rattle.format.specs.Sections.{byte, number, ranged, name, entry, new_entry, names, items, count_by, item_section, section, joint_sets, same_bytes, same_step, same_entry, met};
 ghost use Rattle.format.specs.Contents.{unnamed_leaf, unnamed_event};
 ghost use Rattle.format.specs.ContentChecks.{leaves_grounds, events_grounds, grounds_of};
 ghost use Rattle.format.specs.ListChecks.{section_alone, lists_check};
-ghost use Rattle.format.specs.Items.{refusal_of, refusal_in, has, as_item, item_in_range, numbers_at, at_front, name_at, name_end, entry_at, entry_end, entries_at, entries_end, Behind};
+ghost use Rattle.format.specs.Items.{refusal_of, found_at, as_item, item_in_range, numbers_at, at_front, name_at, name_end, entry_at, entry_end, entries_at, entries_end, Behind};
 
 use flow::{Extent, Refusal};
 
@@ -47,12 +47,6 @@ pub struct Cursor {
 pub struct Got {
     pub value: u16,
     pub next: Cursor,
-}
-
-#[derive(Clone, Copy)]
-pub enum Item {
-    Has(Got),
-    Bad(Refusal),
 }
 
 // What a count or a length may be, and the numbers that refuse it below `least` and above `most`.
@@ -93,17 +87,11 @@ const NAMES: Range = Range {
     many: TOO_MANY_NAMES,
 };
 
-fn wide(x: u8) -> u16
-    ensures { result ≡ x }
-{
-    x as u16
-}
-
 // Two bytes as a number, the low one first.
 pub fn number_from(low: u8, high: u8) -> u16
     ensures { result ≡ low + 256 * high }
 {
-    low as u16 + 256 * (high as u16)
+    u16::from_le_bytes([low, high])
 }
 
 // The refusal of what stands at an offset.
@@ -117,108 +105,94 @@ pub fn refusal(number: u16, at: usize) -> Refusal
     }
 }
 
-// What stands for a refusal where there is none.
-pub const NO_REFUSAL: Refusal = Refusal {
-    number: 0,
-    place: 0,
-};
-
-// The refusal that an item is, if it is one.
-pub fn refusal_in(item: Item) -> Refusal
-    ensures { result ≡ refusal_in item }
+// A value, and the offset behind it.
+fn found(value: u16, next: usize) -> Got
+    ensures { result ≡ found_at value next }
 {
-    match item {
-        Item::Has(_) => NO_REFUSAL,
-        Item::Bad(r) => r,
+    Got {
+        value,
+        next: Cursor { at: next },
     }
 }
 
-// A value, and the offset behind it.
-fn found(value: u16, next: usize) -> Item
-    ensures { result ≡ has value next }
-{
-    Item::Has(Got {
-        value,
-        next: Cursor { at: next },
-    })
-}
-
 // A byte, as a number.
-fn byte_at(file: &[u8], c: Cursor) -> Item
+fn byte_at(file: &[u8], c: Cursor) -> Result<Got, Refusal>
     requires { c.at < 65536 }
     ensures { result ≡ as_item (λ n. n) (run file.now c.at byte) }
 {
     let at = c.at;
     if file.len() < at + 1 {
-        return Item::Bad(refusal(CUT, at));
+        return Err(refusal(CUT, at));
     }
-    found(wide(file[at]), at + 1)
+    Ok(found(u16::from(file[at]), at + 1))
 }
 
 // A number of 16 bits, the low byte first.
-fn number_at(file: &[u8], c: Cursor) -> Item
+fn number_at(file: &[u8], c: Cursor) -> Result<Got, Refusal>
     requires { c.at < 65536 }
     ensures { result ≡ as_item (λ n. n) (run file.now c.at number) }
 {
     let at = c.at;
     if file.len() < at + 2 {
-        return Item::Bad(refusal(CUT, at));
+        return Err(refusal(CUT, at));
     }
-    found(number_from(file[at], file[at + 1]), at + 2)
+    Ok(found(number_from(file[at], file[at + 1]), at + 2))
 }
 
-// The item at an offset, refused there if its value is out of its range.
-fn in_range(item: Item, at: usize, range: Range) -> Item
+// What was found at an offset, refused there if its value is out of its range.
+fn in_range(got: Got, at: usize, range: Range) -> Result<Got, Refusal>
     requires { at < 65536 }
-    ensures { result ≡ item_in_range range at item }
+    ensures { result ≡ item_in_range range at got }
 {
-    let Item::Has(got) = item else {
-        return item;
-    };
     if got.value < range.least {
-        return Item::Bad(refusal(range.few, at));
+        return Err(refusal(range.few, at));
     }
     if range.most < got.value {
-        return Item::Bad(refusal(range.many, at));
+        return Err(refusal(range.many, at));
     }
-    item
+    Ok(got)
+}
+
+// A length byte, in its range.
+fn length_at(file: &[u8], c: Cursor, range: Range) -> Result<Got, Refusal>
+    requires { c.at < 65536 }
+    ensures { result ≡ as_item (λ n. n) (run file.now c.at (ranged range byte)) }
+{
+    in_range(byte_at(file, c)?, c.at, range)
+}
+
+// A count, in its range.
+fn count_at(file: &[u8], c: Cursor, range: Range) -> Result<Got, Refusal>
+    requires { c.at < 65536 }
+    ensures { result ≡ as_item (λ n. n) (run file.now c.at (ranged range number)) }
+{
+    in_range(number_at(file, c)?, c.at, range)
 }
 
 // A name: its length byte and its bytes. The value is the length.
-fn name_at(file: &[u8], c: Cursor, range: Range) -> Item
+fn name_at(file: &[u8], c: Cursor, range: Range) -> Result<Got, Refusal>
     requires { c.at < 65000 }
     ensures { result ≡ as_item length (run file.now c.at (name range)) }
 {
-    let at = c.at;
-    let head = in_range(byte_at(file, c), at, range);
-    let Item::Has(got) = head else {
-        return head;
-    };
-    let from = at + 1;
-    let end = from + got.value as usize;
+    let length = length_at(file, c, range)?;
+    let from = c.at + 1;
+    let end = from + usize::from(length.value);
     if file.len() < end {
-        return Item::Bad(refusal(CUT, from));
+        return Err(refusal(CUT, from));
     }
-    found(got.value, end)
+    Ok(found(length.value, end))
 }
 
 // An entry: a step name and a machine name. The value is the step name's length.
-fn entry_at(file: &[u8], c: Cursor) -> Item
+fn entry_at(file: &[u8], c: Cursor) -> Result<Got, Refusal>
     requires { c.at < 64000 }
     ensures { result ≡ as_item (λ e. length e.step) (run file.now c.at entry) }
 {
-    let step = name_at(file, c, STEP_BYTES);
-    let Item::Has(s) = step else {
-        return step;
-    };
-    let machine = name_at(file, s.next, MACHINE_BYTES);
-    let Item::Has(m) = machine else {
-        return machine;
-    };
-    let next = m.next;
-    Item::Has(Got {
-        value: s.value,
-        next,
+    let step = name_at(file, c, STEP_BYTES)?;
+    let machine = name_at(file, step.next, MACHINE_BYTES)?;
+    Ok(Got {
+        value: step.value,
+        next: machine.next,
     })
 }
 
@@ -244,7 +218,7 @@ pub fn end_of_name(file: &[u8], at: usize) -> usize
     requires { name_end file.now at ≤ length file.now }
     ensures { result ≡ name_end file.now at }
 {
-    at + 1 + wide(file[at]) as usize
+    at + 1 + usize::from(file[at])
 }
 
 // Whether the names at two offsets are equal byte by byte.
@@ -297,93 +271,70 @@ fn met_before(file: &[u8], count: u16, at: usize) -> bool
 }
 
 // An entry that is none of the `earlier` ones before it, which start at offset 2. The value is the step name's length.
-fn new_entry_at(file: &[u8], c: Cursor, earlier: u16) -> Item
+fn new_entry_at(file: &[u8], c: Cursor, earlier: u16) -> Result<Got, Refusal>
     requires { (c.at < 64000) × (entries_end file.now earlier 2 ≤ c.at) }
     ensures { result ≡ as_item (λ e. length e.step) (run file.now c.at (new_entry (entries_at file.now earlier 2))) }
 {
-    let at = c.at;
-    let item = entry_at(file, c);
-    let Item::Has(_) = item else {
-        return item;
-    };
-    if met_before(file, earlier, at) {
-        return Item::Bad(refusal(SAME_ENTRY, at));
+    let got = entry_at(file, c)?;
+    if met_before(file, earlier, c.at) {
+        return Err(refusal(SAME_ENTRY, c.at));
     }
-    item
+    Ok(got)
 }
 
 // The names section at the start of a file: the value is the number of names, the cursor stands behind the last entry.
-pub fn scan_names(file: &[u8]) -> Item
+pub fn scan_names(file: &[u8]) -> Result<Got, Refusal>
     ensures { result ≡ as_item length (run file.now 0 names) }
 {
-    let head = in_range(number_at(file, Cursor { at: 0 }), 0, NAMES);
-    let Item::Has(got) = head else {
-        return head;
-    };
-    let count = got.value;
-    let mut c = got.next;
-    let mut i: u16 = 0;
-    while i < count {
-        let item = new_entry_at(file, c, i);
-        let Item::Has(e) = item else {
-            return item;
-        };
-        c = e.next;
-        i += 1;
+    let count = count_at(file, Cursor { at: 0 }, NAMES)?;
+    let mut next = count.next;
+    for i in 0..count.value {
+        next = new_entry_at(file, next, i)?.next;
     }
-    Item::Has(Got {
-        value: count,
-        next: c,
+    Ok(Got {
+        value: count.value,
+        next,
     })
 }
 
 // A names section with nothing behind it: 15 to 18, and 21 at the first byte too many.
-pub fn scan_alone(names: &[u8]) -> Item
+pub fn scan_alone(names: &[u8]) -> Result<Got, Refusal>
     ensures { result ≡ as_item length (section_alone names.now) }
 {
-    let item = scan_names(names);
-    let Item::Has(got) = item else {
-        return item;
-    };
+    let got = scan_names(names)?;
     let end = got.next.at;
     if end < names.len() {
-        return Item::Bad(refusal(TOO_LONG, end));
+        return Err(refusal(TOO_LONG, end));
     }
-    item
+    Ok(got)
 }
 
 // So many items of a size, one after the other. The value is how many.
-fn run_of_items(file: &[u8], c: Cursor, count: u16, size: usize) -> Item
+fn run_of_items(file: &[u8], c: Cursor, count: u16, size: usize) -> Result<Got, Refusal>
     requires { (c.at < 64000) × (c.at ≤ length file.now) × (1 ≤ size) × (size * count ≤ 512) }
     ensures { result ≡ as_item (count_by size) (run file.now c.at (items size count)) }
 {
     let from = c.at;
-    let mut i: u16 = 0;
-    while i < count {
-        let at = from + size * i as usize;
+    for i in 0..usize::from(count) {
+        let at = from + size * i;
         if file.len() < at + size {
-            return Item::Bad(refusal(CUT, at));
+            return Err(refusal(CUT, at));
         }
-        i += 1;
     }
-    found(count, from + size * count as usize)
+    Ok(found(count, from + size * usize::from(count)))
 }
 
 // A section of items of a size: its count, in a range, and so many times `each` items. The value is how many items there are.
-fn items_at(file: &[u8], c: Cursor, range: Range, each: u16, size: usize) -> Item
+fn items_at(file: &[u8], c: Cursor, range: Range, each: u16, size: usize) -> Result<Got, Refusal>
     requires { (c.at < 60000) × (1 ≤ size) × (size * (each * range.most) ≤ 512) }
     ensures { result ≡ as_item (count_by size) (run file.now c.at (item_section range size each)) }
 {
-    let at = c.at;
-    let head = in_range(number_at(file, c), at, range);
-    let Item::Has(got) = head else {
-        return head;
-    };
-    run_of_items(file, got.next, each * got.value, size)
+    let count = count_at(file, c, range)?;
+    run_of_items(file, count.next, each * count.value, size)
 }
 
 // A section of numbers, `each` of which make one. The value is how many numbers there are.
-pub fn section_at(file: &[u8], c: Cursor, range: Range, each: u16) -> Item
+pub fn section_at(file: &[u8], c: Cursor, range: Range, each: u16) -> Result<Got, Refusal>
     requires { (c.at < 60000) × (each * range.most ≤ 256) }
     ensures { result ≡ as_item length (run file.now c.at (section range each)) }
 {
@@ -391,13 +342,12 @@ pub fn section_at(file: &[u8], c: Cursor, range: Range, each: u16) -> Item
 }
 
 // The sets; none where the file ends. The value is how many there are.
-pub fn sets_at(file: &[u8], c: Cursor) -> Item
+pub fn sets_at(file: &[u8], c: Cursor) -> Result<Got, Refusal>
     requires { c.at < 60000 }
     ensures { result ≡ as_item set_count (run file.now c.at joint_sets) }
 {
-    let at = c.at;
-    if file.len() <= at {
-        return found(0, at);
+    if file.len() <= c.at {
+        return Ok(found(0, c.at));
     }
     items_at(file, c, SETS, 1, flow::SET_BYTES)
 }
@@ -491,10 +441,7 @@ pub fn check_lists(
 ) -> Result<(), Refusal>
     ensures { result ≡ lists_check extent names.now sets.now nodes.now records.now }
 {
-    let section = scan_alone(names);
-    let Item::Has(got) = section else {
-        return Err(refusal_in(section));
-    };
+    let got = scan_alone(names)?;
     flow::check_table_length(nodes)?;
     flow::check_records_length(records, extent)?;
     flow::check_sets(sets)?;

@@ -2,9 +2,9 @@
 -- the file's own names section, nodes, records and sets.
 -- A reader need not believe how it is computed: promises/specs/Files tells of each answer when it is given. Definitions only. Assumes
 -- nothing.
-use Rattle.std.specs.Prelude.{ℕ, List, ◌≡◌}
-use Rattle.reader.specs.declared.Reading.{Reading}
-use Rattle.reader.specs.declared.Reading.TheVariants as read
+use Rattle.std.specs.Prelude.{ℕ, Result, Ok, Err, List, ◌≡◌}
+use Rattle.flow.specs.declared.Refusal.{Refusal}
+use Rattle.reader.specs.declared.Counts.{Counts}
 use Rattle.reader.specs.Reading.{reading}
 use Rattle.judge.specs.declared.Answer.{Answer}
 use Rattle.judge.specs.declared.Answer.TheVariants.{Refused}
@@ -17,10 +17,10 @@ use Rattle.program.specs.FileParts.{names_of, sets_of}
 ---- The answer ----
 
 -- a file that the reader refuses is refused so; any other is judged by its names, nodes, records and sets
-unfoldable pub answered : List ℕ → Reading → List ℕ → List ℕ → Answer
+unfoldable pub answered : List ℕ → Result Counts Refusal → List ℕ → List ℕ → Answer
 unfolding names_of
-answered file (read.Read c) ns rs = judged_named (names_of file) (sets_of c file) ns rs work_lent states_allowed
-answered file (read.Refused r) ns rs = Refused r
+answered file (Ok c) ns rs = judged_named (names_of file) (sets_of c file) ns rs work_lent states_allowed
+answered file (Err r) ns rs = Refused r
 
 unfoldable pub answer_of_file : List ℕ → Answer
 unfolding answered

@@ -1,13 +1,13 @@
 -- What the program `next` prints for the bytes of a file and a number of records, computed: the reader's refusal, or what `next_named` makes of
 -- the file's own names section, nodes, first records and sets.
 -- A reader need not believe how it is computed: promises tells of each text when it is printed. Definitions only. Assumes nothing.
-use Rattle.std.specs.Prelude.{ℕ, ◌≤◌, ◌<◌, List, length, get_or}
+use Rattle.std.specs.Prelude.{ℕ, ◌≤◌, ◌<◌, Result, Ok, Err, List, length, get_or}
+use Rattle.flow.specs.declared.Refusal.{Refusal}
 use Rattle.flow.specs.Records.{most_events}
 use Rattle.format.specs.ListChecks.{entries_in, Whole}
 use Rattle.judge.specs.declared.Answer.TheVariants as answer
 use Rattle.judge.specs.Judged.{named_flow}
-use Rattle.reader.specs.declared.Reading.{Reading}
-use Rattle.reader.specs.declared.Reading.TheVariants as read
+use Rattle.reader.specs.declared.Counts.{Counts}
 use Rattle.reader.specs.Reading.{reading}
 use Rattle.line.specs.Line.{line_of, Put}
 use Rattle.ahead.specs.declared.answer.Next.{Next}
@@ -28,10 +28,10 @@ unfolding entries_in following next_by answer_text
 tables_text s sets ns rs = answer_text (entries_in s) (following (named_flow s sets ns) rs) (next_answer s sets ns rs)
 
 -- a file that the reader refuses is refused so; of any other it is what may follow its first k records
-unfoldable pub text_by : List ℕ → ℕ → Reading → List ℕ → List ℕ → List ℕ
+unfoldable pub text_by : List ℕ → ℕ → Result Counts Refusal → List ℕ → List ℕ → List ℕ
 unfolding names_of tables_text beginning
-text_by file k (read.Read c) ns rs = tables_text (names_of file) (sets_of c file) ns (beginning k rs)
-text_by file k (read.Refused r) ns rs = line_of (line_for (answer.Refused r))
+text_by file k (Ok c) ns rs = tables_text (names_of file) (sets_of c file) ns (beginning k rs)
+text_by file k (Err r) ns rs = line_of (line_for (answer.Refused r))
 
 unfoldable pub file_text : List ℕ → ℕ → List ℕ
 unfolding text_by reading

@@ -38,8 +38,6 @@ use Rattle.ahead.specs.Outcome.{named_next_check, allowed, next_by, list_by, Nex
 use Rattle.judge.specs.declared.Answer.TheVariants as answer
 use Rattle.line.specs.Line.{line_of}
 use Rattle.reader.specs.declared.Counts.{Counts}
-use Rattle.reader.specs.declared.Reading.{Reading}
-use Rattle.reader.specs.declared.Reading.TheVariants as read
 use Rattle.reader.specs.Reading.{Outcome, reading}
 use Rattle.program.specs.Program.{states_allowed, work_lent, line_for}
 use Rattle.program.specs.FileParts.{names_of, sets_of}
@@ -196,9 +194,9 @@ so_many_within k n = by (eqb k all_but_last) (ltb k n) refl
     by false false e = omega arith
 
 module _ (file : List ℕ) (first : ℕ) where
-  pub refused_file : {q : Refusal} → (reading file 192 256).answer ≡ read.Refused q → line_of (line_for (answer.Refused q)) ≡ file_text file first
+  pub refused_file : {q : Refusal} → (reading file 192 256).answer ≡ Err q → line_of (line_for (answer.Refused q)) ≡ file_text file first
   unfolding file_text text_by
-  refused_file e = sym (ap (λ (a : Reading). text_by file first a (reading file 192 256).nodes (reading file 192 256).records) e)
+  refused_file e = sym (ap (λ (a : Result Counts Refusal). text_by file first a (reading file 192 256).nodes (reading file 192 256).records) e)
 
   module _ {nodes' records' : List ℕ} {c : Counts} {n k : ℕ} (h : Held file nodes' records' c n k) where
     pub beginning_inside : so_many first k ≤ length records'

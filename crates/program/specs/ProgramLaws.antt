@@ -1,5 +1,5 @@
 -- What the reader leaves in the two tables, the file's names section and its sets, and from there to the program's answer. Assumes nothing.
-use Rattle.std.specs.Prelude.{ℕ, ◌*◌, ◌-◌, ◌≤◌, ◌≡◌, length, take, drop}
+use Rattle.std.specs.Prelude.{ℕ, ◌*◌, ◌-◌, ◌≤◌, ◌≡◌, length, take, drop, Result, Ok, Err}
 use Rattle.std.proofs.Common.{arith, ap, ◌∙◌, length-append, length-drop, take_at, take_all}
 use mathlib.Core.List.{List, []}
 use Rattle.std.proofs.Math.Path.{sym, ap₂}
@@ -11,8 +11,6 @@ use Rattle.format.specs.Items.{at_front}
 use Rattle.judge.specs.declared.Answer.TheVariants.{Refused}
 use Rattle.judge.specs.Judged.{judged_named}
 use Rattle.reader.specs.declared.Counts.{Counts}
-use Rattle.reader.specs.declared.Reading.{Reading}
-use Rattle.reader.specs.declared.Reading.TheVariants as read
 use Rattle.reader.specs.Reading.{Outcome, reading, ReadAs}
 use Rattle.reader.specs.ReaderLaws.{read_file}
 use Rattle.program.specs.Program.{states_allowed, work_lent}
@@ -31,17 +29,17 @@ pub record Held (s nodes' records' : List ℕ) (c : Counts) (n k : ℕ) : Type 0
   pub nodes_inside : n ≤ length nodes'
   pub records_inside : k ≤ length records'
   pub sets_inside : c.sets_at ≤ length s
-  pub outcome : reading s 192 256 ≡ record { answer = read.Read c; nodes = take n nodes'; records = take k records' }
+  pub outcome : reading s 192 256 ≡ record { answer = Ok c; nodes = take n nodes'; records = take k records' }
 
-module _ {s nodes records nodes' records' : List ℕ} {r : Reading}
+module _ {s nodes records nodes' records' : List ℕ} {r : Result Counts Refusal}
     (node_room : length nodes ≡ 192) (record_room : length records ≡ 256) (h : ReadAs s nodes records nodes' records' r) where
   told_so : reading s (length nodes) (length records) ≡ reading s 192 256
   told_so = ap₂ (reading s) node_room record_room
 
-  pub file_refused : {q : Refusal} → r ≡ read.Refused q → (reading s 192 256).answer ≡ read.Refused q
+  pub file_refused : {q : Refusal} → r ≡ Err q → (reading s 192 256).answer ≡ Err q
   file_refused e = ap (λ (p : Outcome). p.answer) (sym told_so) ∙ sym h.answer ∙ e
 
-  pub file_read : {c : Counts} {n k : ℕ} → r ≡ read.Read c → n ≡ 3 * c.nodes → k ≡ c.records → Held s nodes' records' c n k
+  pub file_read : {c : Counts} {n k : ℕ} → r ≡ Ok c → n ≡ 3 * c.nodes → k ≡ c.records → Held s nodes' records' c n k
   file_read {c} {n} {k} e n_is k_is =
       let w = read_file s (length nodes) (length records) (sym h.answer ∙ e) in
       let f = w.file in
@@ -53,7 +51,7 @@ module _ {s nodes records nodes' records' : List ℕ} {r : Reading}
         nodes_inside = ns.0;
         records_inside = rs.0;
         sets_inside = w.sets_inside;
-        outcome = sym told_so ∙ o ∙ (λ i. record { answer = read.Read (sym w.counted i); nodes = sym ns.1 i; records = sym rs.1 i });
+        outcome = sym told_so ∙ o ∙ (λ i. record { answer = Ok (sym w.counted i); nodes = sym ns.1 i; records = sym rs.1 i });
       }
 
 ---- The names section ----
@@ -76,9 +74,9 @@ sets_all c file = take_all (length file - c.sets_at) (sets_of c file) (rw length
 ---- The answer, by what the reader answered ----
 
 module _ (s : List ℕ) where
-  pub refused_answered : {q : Refusal} → (reading s 192 256).answer ≡ read.Refused q → Refused q ≡ answer_of_file s
+  pub refused_answered : {q : Refusal} → (reading s 192 256).answer ≡ Err q → Refused q ≡ answer_of_file s
   unfolding answer_of_file answered
-  refused_answered e = sym (ap (λ (a : Reading). answered s a (reading s 192 256).nodes (reading s 192 256).records) e)
+  refused_answered e = sym (ap (λ (a : Result Counts Refusal). answered s a (reading s 192 256).nodes (reading s 192 256).records) e)
 
   pub held_answered : {nodes' records' : List ℕ} {c : Counts} {n k : ℕ} → Held s nodes' records' c n k
       → {part : List ℕ} → part ≡ names_of s → judged_named part (take (length s - c.sets_at) (sets_of c s)) (take n nodes') (take k records') work_lent states_allowed ≡ answer_of_file s

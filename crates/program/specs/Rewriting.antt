@@ -1,11 +1,10 @@
 -- What comes of a flow file that is read and written again, computed: the reader's refusal, or what the writer makes of the file's own
 -- names section, nodes, records and sets. A reader need not believe this file, but only that `FileRewritten` is what `rewrite_file` ensures:
 -- promises/specs/Rewritten proves that a file that is read comes out as it was. Definitions only. Assumes nothing.
-use Rattle.std.specs.Prelude.{ℕ, List, [], ◌≡◌, length}
+use Rattle.std.specs.Prelude.{ℕ, Result, Ok, Err, List, [], ◌≡◌, length}
 use Rattle.flow.specs.declared.Refusal.{Refusal}
 use Rattle.format.specs.Told.{at_front}
-use Rattle.reader.specs.declared.Reading.{Reading}
-use Rattle.reader.specs.declared.Reading.TheVariants as read
+use Rattle.reader.specs.declared.Counts.{Counts}
 use Rattle.reader.specs.Reading.{reading}
 use Rattle.writer.specs.declared.Writing.{Writing}
 use Rattle.writer.specs.declared.Writing.TheVariants.{Refused}
@@ -21,10 +20,10 @@ abbrev pub refused_copy : Refusal → Copy
 refused_copy r = record { answer = Refused r; bytes = [] }
 
 module _ (file : List ℕ) (room : ℕ) where
-  unfoldable pub copied : Reading → List ℕ → List ℕ → Copy
+  unfoldable pub copied : Result Counts Refusal → List ℕ → List ℕ → Copy
   unfolding names_of
-  copied (read.Refused r) ns rs = refused_copy r
-  copied (read.Read c) ns rs = record { answer = writing (names_of file) ns rs (sets_of c file) room; bytes = bytes_first (names_of file) ns rs (sets_of c file) room }
+  copied (Err r) ns rs = refused_copy r
+  copied (Ok c) ns rs = record { answer = writing (names_of file) ns rs (sets_of c file) room; bytes = bytes_first (names_of file) ns rs (sets_of c file) room }
 
   unfoldable pub rewriting : Copy
   unfolding copied reading

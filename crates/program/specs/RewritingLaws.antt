@@ -1,5 +1,5 @@
 -- From what the reader answered to what comes of a file that is written again. Assumes nothing.
-use Rattle.std.specs.Prelude.{ℕ, ◌-◌, ◌≡◌, take, drop}
+use Rattle.std.specs.Prelude.{ℕ, ◌-◌, ◌≡◌, take, drop, Result, Ok, Err}
 use Rattle.std.proofs.Common.{arith, ◌∙◌, length-append}
 use mathlib.Core.List.{List}
 use Rattle.std.proofs.Math.Path.{sym, ap, subst}
@@ -7,8 +7,6 @@ use Rattle.std.proofs.Math.ListN.{length}
 use Rattle.flow.specs.declared.Refusal.{Refusal}
 use Rattle.format.specs.Told.{at_front}
 use Rattle.reader.specs.declared.Counts.{Counts}
-use Rattle.reader.specs.declared.Reading.{Reading}
-use Rattle.reader.specs.declared.Reading.TheVariants as read
 use Rattle.reader.specs.Reading.{Outcome, reading}
 use Rattle.writer.specs.declared.Size.{Size}
 use Rattle.writer.specs.declared.Writing.{Writing}
@@ -23,11 +21,11 @@ use Rattle.program.specs.ProgramLaws.{Held, sets_all}
 ---- The file, by what the reader answered ----
 
 module _ {file out : List ℕ} where
-  pub refused_rewritten : {q : Refusal} → (reading file 192 256).answer ≡ read.Refused q → FileRewritten file out out (Refused q)
+  pub refused_rewritten : {q : Refusal} → (reading file 192 256).answer ≡ Err q → FileRewritten file out out (Refused q)
   unfolding rewriting copied
   refused_rewritten e =
       let o = reading file 192 256 in
-      let k = ap (λ (a : Reading). copied file (length out) a o.nodes o.records) e in
+      let k = ap (λ (a : Result Counts Refusal). copied file (length out) a o.nodes o.records) e in
       record { answer = sym (ap (λ (c : Copy). c.answer) k); out_after = sym (ap (λ (c : Copy). at_front c.bytes out) k) }
 
   pub held_rewritten : {nodes' records' out' : List ℕ} {c : Counts} {n k : ℕ} {r : Writing} → Held file nodes' records' c n k
@@ -54,9 +52,9 @@ module _ (file : List ℕ) (room : ℕ) where
   unfolding rewriting copied Sized
   rewriting_sized = by (reading file 192 256).answer (reading file 192 256).nodes (reading file 192 256).records
     where
-      by : (a : Reading) (ns rs : List ℕ) → Sized (copied file room a ns rs)
-      by (read.Refused r) ns rs = refused_sized r
-      by (read.Read c) ns rs = λ e h. let w = written_lists (names_of file) ns rs (sets_of c file) room h in w.sized ∙ ap length (sym w.first)
+      by : (a : Result Counts Refusal) (ns rs : List ℕ) → Sized (copied file room a ns rs)
+      by (Err r) ns rs = refused_sized r
+      by (Ok c) ns rs = λ e h. let w = written_lists (names_of file) ns rs (sets_of c file) room h in w.sized ∙ ap length (sym w.first)
 
 pub rewritten_within : {file out out' : List ℕ} {r : Writing} → FileRewritten file out out' r → WithinRoom out' r
 unfolding Sized

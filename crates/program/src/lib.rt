@@ -18,10 +18,8 @@ ghost use Rattle.program.specs.Listing.{so_many};
 ghost use Rattle.program.specs.NextFile.{tables_text, NextPrinted};
 
 use ahead::answer::Next;
-use format::Item;
 use judge::{Answer, Reach};
 use line::{Line, VerdictWord};
-use reader::Reading;
 use writer::Writing;
 
 // "allows 1,000,000 states"
@@ -33,22 +31,17 @@ const WORK: usize = 32896;
 // What stands for all records but the last, where a number of records is asked for.
 const ALL_BUT_LAST: u16 = 65535;
 
-fn wide(x: u16) -> usize
-    ensures { result ≡ x }
-{
-    x as usize
-}
-
 // The file's names section, to be handed on: its first bytes, as far as a scan goes.
 fn names_of(file: &[u8]) -> &[u8]
     ensures { result.now ≡ names_of file.now }
 {
-    let names = format::scan_names(file);
-    let Item::Has(got) = names else {
-        return &file[..0];
-    };
-    let at = got.next.at;
-    &file[..at]
+    match format::scan_names(file) {
+        Ok(got) => {
+            let at = got.next.at;
+            &file[..at]
+        }
+        Err(_) => &file[..0],
+    }
 }
 
 // The tables judged by these names and sets, with work bytes for the largest flow.
@@ -66,13 +59,13 @@ pub fn judge_file(file: &[u8]) -> Answer
     let mut nodes = [0u16; 192];
     let mut records = [0u16; 256];
     match reader::read(file, &mut nodes, &mut records) {
-        Reading::Read(counts) => {
-            let n = 3 * wide(counts.nodes);
-            let k = wide(counts.records);
+        Ok(counts) => {
+            let n = 3 * usize::from(counts.nodes);
+            let k = usize::from(counts.records);
             let at = counts.sets_at;
             judge_tables(names_of(file), &nodes[..n], &records[..k], &file[at..])
         }
-        Reading::Refused(r) => Answer::Refused(r),
+        Err(r) => Answer::Refused(r),
     }
 }
 
@@ -124,13 +117,13 @@ pub fn rewrite_file(file: &[u8], out: &mut [u8]) -> Writing
     let mut nodes = [0u16; 192];
     let mut records = [0u16; 256];
     match reader::read(file, &mut nodes, &mut records) {
-        Reading::Read(counts) => {
-            let n = 3 * wide(counts.nodes);
-            let k = wide(counts.records);
+        Ok(counts) => {
+            let n = 3 * usize::from(counts.nodes);
+            let k = usize::from(counts.records);
             let at = counts.sets_at;
             writer::write(names_of(file), &nodes[..n], &records[..k], &file[at..], out)
         }
-        Reading::Refused(r) => Writing::Refused(r),
+        Err(r) => Writing::Refused(r),
     }
 }
 
@@ -142,12 +135,12 @@ fn so_many(first: u16, records: u16) -> usize
         if records == 0 {
             return 0;
         }
-        return wide(records - 1);
+        return usize::from(records - 1);
     }
     if first < records {
-        return wide(first);
+        return usize::from(first);
     }
-    wide(records)
+    usize::from(records)
 }
 
 // Writes what may follow a beginning, by these names and sets, at the start of the room, leaves the rest, and answers the text's length. There is
@@ -191,12 +184,12 @@ pub fn next_file(file: &[u8], first: u16, out: &mut [u8; 90000]) -> usize
     let mut nodes = [0u16; 192];
     let mut records = [0u16; 256];
     match reader::read(file, &mut nodes, &mut records) {
-        Reading::Read(counts) => {
-            let n = 3 * wide(counts.nodes);
+        Ok(counts) => {
+            let n = 3 * usize::from(counts.nodes);
             let k = so_many(first, counts.records);
             let at = counts.sets_at;
             next_tables(names_of(file), &nodes[..n], &records[..k], &file[at..], out)
         }
-        Reading::Refused(r) => listing::put_answer(Answer::Refused(r), out),
+        Err(r) => listing::put_answer(Answer::Refused(r), out),
     }
 }

@@ -11,7 +11,6 @@ use Rattle.format.specs.Limits.{WithinLimits}
 use Rattle.format.specs.Contents.{file_order}
 use Rattle.format.specs.ContentChecks.{grounds_of, content_check}
 use Rattle.format.specs.Told.{refusal_of}
-use Rattle.reader.specs.declared.Reading.TheVariants.{Refused}
 use Rattle.reader.specs.Report.{reported, refused_report}
 use Rattle.reader.specs.Reading.{Outcome, checked, reading}
 use Rattle.reader.specs.ReaderLaws.{reading_laid, laid_checked, read_not_refused}
@@ -37,7 +36,7 @@ contents_refused_when f nr rr k p w h l = (
     is : reading (encode f) nr rr ≡ checked f (content_check f)
     is = reading_laid (encode f) nr rr h l ∙ laid_checked (encode f) (run (encode f) 0 layout) (layout_reads (encode f) f w (stands_all (encode f)) (inr (omega arith)))
 
-    by : (c : Result ⊤ Refusal) → content_check f ≡ c → (checked f c).answer ≡ Refused (refusal_of k p) → Earliest (refusal_of k p) (file_order f)
+    by : (c : Result ⊤ Refusal) → content_check f ≡ c → (checked f c).answer ≡ Err (refusal_of k p) → Earliest (refusal_of k p) (file_order f)
     by (Ok tt) q a = read_not_refused a
     by (Err r) q a =
         let d : r ≡ refusal_of k p = cc in

@@ -2,7 +2,7 @@
 -- refused by the judge: the reader's checks are the judge's, and the program lends work bytes enough. So the program refuses exactly
 -- what the reader refuses; and demand 2 for files, of the flow that the file's nodes draw with its names and sets, and the records that it
 -- holds. Theorems only. Assumes nothing.
-use Rattle.std.specs.Prelude.{ℕ, ◌+◌, ◌*◌, ◌<◌, ◌≤◌, not, ◌↔◌, ◌≡◌, T, Ok}
+use Rattle.std.specs.Prelude.{ℕ, ◌+◌, ◌*◌, ◌<◌, ◌≤◌, not, ◌↔◌, ◌≡◌, T, Ok, Result, Err}
 use Rattle.std.proofs.Math.Nat.{mul-le-mul}
 use Rattle.std.proofs.Common.{arith, sym, ◌∙◌, subst, le-ltb}
 use mathlib.Core.List.{List}
@@ -21,8 +21,7 @@ use Rattle.format.specs.Limits.{WithinLimits, Bytes}
 use Rattle.format.specs.Matching.{with_names}
 use Rattle.format.specs.Contents.{file_order}
 use Rattle.format.specs.Items.{refusal_of}
-use Rattle.reader.specs.declared.Reading.{Reading}
-use Rattle.reader.specs.declared.Reading.TheVariants as read
+use Rattle.reader.specs.declared.Counts.{Counts}
 use Rattle.reader.specs.Reading.{reported, Outcome, reading}
 use Rattle.reader.specs.Faults.{Refuses}
 use Rattle.reader.specs.ReaderLaws.{read_not_refused}
@@ -99,22 +98,22 @@ module _ (s : List ℕ) (f : File) (readable : Readable s 192 256 f) where
 -- 01: "It refuses bad input itself, by the numbers and in the order of document 01."
 
 module _ (s : List ℕ) (bytes : Bytes s) where
-  refused_told : (r : Refusal) → (reading s 192 256).answer ≡ read.Refused r → told (answer_of_file s) ≡ refusal r.number r.place
+  refused_told : (r : Refusal) → (reading s 192 256).answer ≡ Err r → told (answer_of_file s) ≡ refusal r.number r.place
   unfolding answer_of_file answered told
-  refused_told r e = ap (λ (a : Reading). told (answered s a (reading s 192 256).nodes (reading s 192 256).records)) e
+  refused_told r e = ap (λ (a : Result Counts Refusal). told (answered s a (reading s 192 256).nodes (reading s 192 256).records)) e
 
   -- the program refuses exactly what the reader refuses, with its number and place
   pub file_refused_exactly : (number place : ℕ)
-      → (told (answer_of_file s) ≡ refusal number place) ↔ ((reading s 192 256).answer ≡ read.Refused (refusal_of number place))
+      → (told (answer_of_file s) ≡ refusal number place) ↔ ((reading s 192 256).answer ≡ Err (refusal_of number place))
   file_refused_exactly number place = by (reading s 192 256).answer refl
     where
-      by : (a : Reading) → (reading s 192 256).answer ≡ a
-          → (told (answer_of_file s) ≡ refusal number place) ↔ ((reading s 192 256).answer ≡ read.Refused (refusal_of number place))
-      by (read.Read c) e =
+      by : (a : Result Counts Refusal) → (reading s 192 256).answer ≡ a
+          → (told (answer_of_file s) ≡ refusal number place) ↔ ((reading s 192 256).answer ≡ Err (refusal_of number place))
+      by (Ok c) e =
           let w = read_readable s bytes 192 256 c e in
           (λ t. absurd (file_passes s w.0 w.1 (ap (λ (x : Told). x.word) t)), λ q. read_not_refused (sym e ∙ q))
-      by (read.Refused r) e = (
-        λ t. e ∙ ap (λ (x : Told). read.Refused (refusal_of x.number x.place)) (sym (refused_told r e) ∙ t),
+      by (Err r) e = (
+        λ t. e ∙ ap (λ (x : Told). Err (refusal_of x.number x.place)) (sym (refused_told r e) ∙ t),
         λ q. refused_told (refusal_of number place) q,
       )
 
@@ -130,9 +129,9 @@ module _ (s : List ℕ) (bytes : Bytes s) where
   pub file_judged_when : ((told (answer_of_file s)).word ≡ VerdictWord.refused → ⊥) ↔ ((f : File) × Readable s 192 256 f)
   file_judged_when = (λ n. by (reading s 192 256).answer refl n, λ x. file_passes s x.0 x.1)
     where
-      by : (a : Reading) → (reading s 192 256).answer ≡ a → ((told (answer_of_file s)).word ≡ VerdictWord.refused → ⊥) → (f : File) × Readable s 192 256 f
-      by (read.Read c) e n = let w = read_readable s bytes 192 256 c e in (w.0, w.1)
-      by (read.Refused r) e n = absurd (n (ap (λ (x : Told). x.word) (refused_told r e)))
+      by : (a : Result Counts Refusal) → (reading s 192 256).answer ≡ a → ((told (answer_of_file s)).word ≡ VerdictWord.refused → ⊥) → (f : File) × Readable s 192 256 f
+      by (Ok c) e n = let w = read_readable s bytes 192 256 c e in (w.0, w.1)
+      by (Err r) e n = absurd (n (ap (λ (x : Told). x.word) (refused_told r e)))
 
 ---- Demand 2 for files ----
 -- "A batch that isn't refused is undecided exactly if the search that document 01 defines enters more states than the caller

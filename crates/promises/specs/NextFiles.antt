@@ -1,17 +1,18 @@
 -- A flow file through the program `next`, over the text that is printed of its bytes (`file_text`): a file that the reader refuses gets the line of
 -- its refusal, whatever number of records is asked for (`next_file_refused`); of any other the text is that of what `next_named` answers to
 -- the file's names, sets, nodes and first records (`next_file_read`). Theorems only. Assumes nothing.
-use Rattle.std.specs.Prelude.{ℕ, ◌≡◌}
+use Rattle.std.specs.Prelude.{ℕ, ◌≡◌, Result}
 use mathlib.Core.List.{List}
 use Rattle.std.proofs.Common.{◌∙◌}
 use Rattle.std.proofs.Math.Path.{ap, ap₂}
+use Rattle.flow.specs.declared.Refusal.{Refusal}
 use Rattle.flow.specs.Drawn.{flow_by}
 use Rattle.format.specs.Format.{Entry, names_section, File}
 use Rattle.format.specs.Limits.{Bytes}
 use Rattle.format.specs.Matching.{with_names}
 use Rattle.format.specs.ListLaws.{entries_in_is}
 use Rattle.format.specs.Items.{refusal_of}
-use Rattle.reader.specs.declared.Reading.{Reading}
+use Rattle.reader.specs.declared.Counts.{Counts}
 use Rattle.reader.specs.Reading.{Outcome, reading}
 use Rattle.reader.specs.Faults.{Refuses}
 use Rattle.judge.specs.declared.Answer.TheVariants as answer
@@ -51,5 +52,5 @@ module _ (s : List ℕ) (k : ℕ) where
   pub next_file_refused : Bytes s → (number place : ℕ) → Refuses s 192 256 number place → file_text s k ≡ line_of (line_for (answer.Refused (refusal_of number place)))
   unfolding file_text text_by
   next_file_refused bytes number place x =
-      ap (λ (a : Reading). text_by s k a (reading s 192 256).nodes (reading s 192 256).records)
+      ap (λ (a : Result Counts Refusal). text_by s k a (reading s 192 256).nodes (reading s 192 256).records)
       (report_refused s 192 256 number place ((refused_when s bytes 192 256 number place).1 x))

@@ -2,10 +2,10 @@
 -- within the limits and whose numbers mean something, gives their counts and numbers, and leaves one outcome for every input; and the
 -- same of the names scan. Stated of what an answer tells (`reported`, `item_told`).
 -- Not here: what is refused, and where (ReaderRefusals); cuts (Cuts). Assumes nothing.
-use Rattle.std.specs.Prelude.{ℕ, ◌+◌, ◌≤◌, List, ◌++◌, ◌↔◌, ◌≡◌, refl, length}
+use Rattle.std.specs.Prelude.{ℕ, ◌+◌, ◌≤◌, Result, Ok, Err, List, ◌++◌, ◌↔◌, ◌≡◌, refl, length}
 use Rattle.std.proofs.Common.{append-nil, inr, ap, sym, ◌∙◌, subst, arith, drop_of_length-le}
 use Rattle.flow.specs.declared.Refusal.{Refusal}
-use Rattle.format.specs.declared.Item.{Item}
+use Rattle.format.specs.declared.Got.{Got}
 use Rattle.format.specs.Format.{Entry, names_section, File, encode}
 use Rattle.format.specs.Plan.{Ran, got, run}
 use Rattle.format.specs.Sections.{names, layout}
@@ -16,8 +16,6 @@ use Rattle.format.specs.Told.{refusal_of, item_told, item_found}
 use Rattle.format.specs.Items.{as_item}
 use Rattle.format.specs.ItemLaws.{got_value}
 use Rattle.reader.specs.declared.Counts.{Counts}
-use Rattle.reader.specs.declared.Reading.{Reading}
-use Rattle.reader.specs.declared.Reading.TheVariants.{Read, Refused}
 use Rattle.reader.specs.Report.{Report, reported, counts_of}
 pub use Rattle.reader.specs.Report.{read_report, refused_report}
 pub use Rattle.reader.specs.Faults.{Readable}
@@ -45,11 +43,11 @@ readable_read s nr rr f r =
     ∙ ap (checked f) ((nowhere_exactly (file_order f)).1 r.fine)
 
 -- and only such a file is
-pub read_readable : (s : List ℕ) → Bytes s → (nr rr : ℕ) (c : Counts) → (reading s nr rr).answer ≡ Read c → (f : File) × Readable s nr rr f × (c ≡ counts_of f)
+pub read_readable : (s : List ℕ) → Bytes s → (nr rr : ℕ) (c : Counts) → (reading s nr rr).answer ≡ Ok c → (f : File) × Readable s nr rr f × (c ≡ counts_of f)
 unfolding grounds_of
 read_readable s b nr rr c e = by (way s nr rr) e
   where
-    by : {o : Outcome} → Way s nr rr o → o.answer ≡ Read c → (f : File) × Readable s nr rr f × (c ≡ counts_of f)
+    by : {o : Outcome} → Way s nr rr o → o.answer ≡ Ok c → (f : File) × Readable s nr rr f × (c ≡ counts_of f)
     by (few_nodes h) a = read_not_refused (sym a)
     by (few_records h) a = read_not_refused (sym a)
     by (stopped h l g) a = read_not_refused (sym a)
@@ -72,19 +70,19 @@ read_readable s b nr rr c e = by (way s nr rr) e
 ---- What is reported ----
 
 -- a report that counts no nodes is a refusal, since a file that is read has some
-pub report_refused : (s : List ℕ) (nr rr k p : ℕ) → reported (reading s nr rr).answer ≡ refused_report k p → (reading s nr rr).answer ≡ Refused (refusal_of k p)
+pub report_refused : (s : List ℕ) (nr rr k p : ℕ) → reported (reading s nr rr).answer ≡ refused_report k p → (reading s nr rr).answer ≡ Err (refusal_of k p)
 unfolding reported
 report_refused s nr rr k p e = by (reading s nr rr).answer refl e
   where
-    by : (a : Reading) → (reading s nr rr).answer ≡ a → reported a ≡ refused_report k p → a ≡ Refused (refusal_of k p)
-    by (Read c) h q = absurd (omega (arith, (read_file s nr rr h).some_nodes, ap (λ (r : Report). r.nodes) q))
-    by (Refused r) h q = λ i. Refused (refusal_of (q i).number (q i).place)
+    by : (a : Result Counts Refusal) → (reading s nr rr).answer ≡ a → reported a ≡ refused_report k p → a ≡ Err (refusal_of k p)
+    by (Ok c) h q = absurd (omega (arith, (read_file s nr rr h).some_nodes, ap (λ (r : Report). r.nodes) q))
+    by (Err r) h q = λ i. Err (refusal_of (q i).number (q i).place)
 
 -- and one that counts some is none
-report_read : (a : Reading) (c : Counts) → 1 ≤ c.nodes → reported a ≡ read_report c → a ≡ Read c
+report_read : (a : Result Counts Refusal) (c : Counts) → 1 ≤ c.nodes → reported a ≡ read_report c → a ≡ Ok c
 unfolding reported
-report_read (Read d) c h q = λ i. Read (record { names = (q i).names; nodes = (q i).nodes; records = (q i).records; sets_at = (q i).sets_at; sets = (q i).sets })
-report_read (Refused r) c h q = absurd (omega (arith, ap (λ (x : Report). x.nodes) q))
+report_read (Ok d) c h q = λ i. Ok (record { names = (q i).names; nodes = (q i).nodes; records = (q i).records; sets_at = (q i).sets_at; sets = (q i).sets })
+report_read (Err r) c h q = absurd (omega (arith, ap (λ (x : Report). x.nodes) q))
 
 -- what is read is told by the file alone
 pub read_exactly : (s : List ℕ) → Bytes s → (nr rr : ℕ) (c : Counts) → 1 ≤ c.nodes
@@ -104,13 +102,13 @@ encode_once f g v w e =
     got_value (sym a ∙ b)
 
 -- "if refused both are unchanged"
-pub refused_unchanged : (s : List ℕ) (nr rr : ℕ) (r : Refusal) → (reading s nr rr).answer ≡ Refused r → reading s nr rr ≡ refused_outcome r
+pub refused_unchanged : (s : List ℕ) (nr rr : ℕ) (r : Refusal) → (reading s nr rr).answer ≡ Err r → reading s nr rr ≡ refused_outcome r
 refused_unchanged s nr rr r e = by (way s nr rr) e
   where
-    is : {q : Refusal} → Refused q ≡ Refused r → refused_outcome q ≡ refused_outcome r
+    is : {q : Refusal} → ◌≡◌ {A = Result Counts Refusal} (Err q) (Err r) → refused_outcome q ≡ refused_outcome r
     is h = cc
 
-    by : {o : Outcome} → Way s nr rr o → o.answer ≡ Refused r → o ≡ refused_outcome r
+    by : {o : Outcome} → Way s nr rr o → o.answer ≡ Err r → o ≡ refused_outcome r
     by (few_nodes h) a = is a
     by (few_records h) a = is a
     by (stopped h l g) a = is a
@@ -121,7 +119,7 @@ refused_unchanged s nr rr r e = by (way s nr rr) e
 ---- The names scan ----
 
 -- what `scan_names` answers
-abbrev pub scanned : List ℕ → Item
+abbrev pub scanned : List ℕ → Result Got Refusal
 scanned s = as_item length (run s 0 names)
 
 -- good names at the start of a file are read: their number, and where they end
@@ -133,11 +131,11 @@ names_scanned s g h = ap (λ (x : Ran (List Entry)). item_told (as_item length x
 ---- One outcome ----
 
 -- the contract of `read` leaves one answer and one content of each table
-pub read_once : {s nodes records n1 n2 r1 r2 : List ℕ} {a b : Reading} → ReadAs s nodes records n1 r1 a → ReadAs s nodes records n2 r2 b
+pub read_once : {s nodes records n1 n2 r1 r2 : List ℕ} {a b : Result Counts Refusal} → ReadAs s nodes records n1 r1 a → ReadAs s nodes records n2 r2 b
     → (a ≡ b) × (n1 ≡ n2) × (r1 ≡ r2)
 read_once x y =
     (x.answer ∙ sym y.answer, x.nodes_after ∙ sym y.nodes_after, x.records_after ∙ sym y.records_after)
 
 -- and that of `scan_names` one item
-pub scan_names_once : (s : List ℕ) {a b : Item} → a ≡ scanned s → b ≡ scanned s → a ≡ b
+pub scan_names_once : (s : List ℕ) {a b : Result Got Refusal} → a ≡ scanned s → b ≡ scanned s → a ≡ b
 scan_names_once s x y = x ∙ sym y

@@ -1,7 +1,7 @@
 -- The reader refuses exactly as Faults says: each way of a refusal is answered with its number and place, and every refusal is one
 -- of these ways. Assumes nothing.
 use Prim.Native.Nat.{ℕ, zero, suc, ◌+◌, ◌*◌, ◌-◌, ◌≤◌, ◌<◌}
-use Rattle.std.specs.Prelude.{Bool, true, false, ◌⊎◌, ◌↔◌, get_or, drop}
+use Rattle.std.specs.Prelude.{Bool, true, false, ◌⊎◌, ◌↔◌, Result, Err, get_or, drop}
 use mathlib.Core.List.Memᴰ
 use mathlib.Core.List.{List, [], ◌∷◌, ◌++◌, append_assoc, append-nil, Memᴰ}
 use Rattle.std.proofs.Common.{inl, inr, sym, ◌∙◌, add-one, arith, lt-ltb, length-append, drop-cons}
@@ -19,7 +19,7 @@ use Rattle.format.specs.Items.{refusal_of, number_at}
 use Rattle.format.specs.ItemLaws.{le_or_lt, got_next, got_not_bad, byte_cut, byte_got, number_cut, number_there, ranged_bad, ranged_few, ranged_many, ranged_got, ranged_there, name_length_bad, name_cut, name_whole, name_there, length_there, entry_step_bad, entry_machine_bad, entry_got}
 use Rattle.format.specs.RunLaws.{items_got, items_stop, items_cut, items_count_bad, items_from, item_section_there, sets_none, sets_some}
 use Rattle.format.specs.SectionLaws.{names_bad, names_from, new_entry_bad, new_entry_met, new_entry_got, new_entry_there, entries_bad, entries_more, section_bad, section_got}
-use Rattle.reader.specs.declared.Reading.TheVariants.{Refused}
+use Rattle.reader.specs.declared.Counts.{Counts}
 use Rattle.reader.specs.Reading.{Report, reported, Outcome, refused_outcome, checked, laid, reading}
 use Rattle.reader.specs.Faults.{RangeFault, cut_count, below, above, NameFault, in_length, cut_bytes, EntryFault, in_step, in_machine, Entering, NamesFault, in_name_count, in_entry, met_again, SectionFault, in_count, cut_item, LayoutFault, in_names, in_nodes, in_records, in_sets, Refuses, no_node_room, no_record_room, in_layout, too_long, in_contents}
 use Rattle.reader.specs.LayoutLaws.{layout_names_bad, layout_nodes_bad, layout_records_bad, layout_sets_bad, layout_got, layout_runs}
@@ -338,13 +338,13 @@ module _ (s : List ℕ) where
       reading_laid s nr rr h l ∙ laid_checked s (run s 0 layout) r ∙ ap (checked f) ((contents_exactly f (refusal_of k p)).1 g)
 
   -- every refusal is one of these ways
-  pub refused_refuses : Bytes s → (nr rr : ℕ) (r : Refusal) → (reading s nr rr).answer ≡ Refused r → Refuses s nr rr r.number r.place
+  pub refused_refuses : Bytes s → (nr rr : ℕ) (r : Refusal) → (reading s nr rr).answer ≡ Err r → Refuses s nr rr r.number r.place
   refused_refuses b nr rr r e = by (way s nr rr) e
     where
-      is : {q : Refusal} → Refused q ≡ Refused r → Refuses s nr rr q.number q.place → Refuses s nr rr r.number r.place
+      is : {q : Refusal} → ◌≡◌ {A = Result Counts Refusal} (Err q) (Err r) → Refuses s nr rr q.number q.place → Refuses s nr rr r.number r.place
       is {q} h x = let d : q ≡ r = cc in subst (λ (q' : Refusal). Refuses s nr rr q'.number q'.place) d x
 
-      by : {o : Outcome} → Way s nr rr o → o.answer ≡ Refused r → Refuses s nr rr r.number r.place
+      by : {o : Outcome} → Way s nr rr o → o.answer ≡ Err r → Refuses s nr rr r.number r.place
       by (few_nodes h) a = is a (no_node_room h)
       by (few_records h) a = is a (no_record_room h)
       by (stopped h l g) a = is a (in_layout h l (layout_fault b g))

@@ -1,11 +1,12 @@
 -- What `read` and `scan_names` do, for every file and for whatever is lent, by their contracts: told by the format alone (`format`,
 -- Format, Limits, Contents; `reader`, Report, Faults). So how a file is gone through (Plan, Sections, Reading) need not be believed.
 -- Theorems only. Assumes nothing.
-use Rattle.std.specs.Prelude.{ℕ, ◌≤◌, ◌⊎◌, ◌↔◌, ◌≡◌, drop}
+use Rattle.std.specs.Prelude.{ℕ, ◌≤◌, ◌⊎◌, ◌↔◌, ◌≡◌, drop, Result, Ok, Err}
 use mathlib.Core.List.{List, [], ◌∷◌, ◌++◌, append_assoc}
 use Rattle.std.proofs.Common.{inl, inr, ◌∙◌, subst, arith, length-append, drop_at}
 use Rattle.std.proofs.Math.Path.{refl, ap, ap₂, sym}
 use Rattle.std.proofs.Math.ListN.{length}
+use Rattle.flow.specs.declared.Refusal.{Refusal}
 use Rattle.flow.specs.Legends.{set_count}
 use Rattle.format.specs.Format.{number_bytes, Entry, entries_bytes, names_section, sets_section, File, encode}
 use Rattle.format.specs.Lengths.{number_bytes_length}
@@ -15,8 +16,6 @@ use Rattle.format.specs.Plan.{Ran, got, bad, run}
 use Rattle.format.specs.Sections.{names}
 use Rattle.format.specs.Items.{as_item}
 use Rattle.reader.specs.declared.Counts.{Counts}
-use Rattle.reader.specs.declared.Reading.{Reading}
-use Rattle.reader.specs.declared.Reading.TheVariants.{Read, Refused}
 use Rattle.reader.specs.Report.{reported, sets_offset, counts_of, read_report, refused_report}
 use Rattle.reader.specs.Faults.{NamesFault, Refuses, Readable}
 use Rattle.reader.specs.Reading.{Outcome, reading, ReadAs}
@@ -31,9 +30,9 @@ use Rattle.promises.specs.ReaderRefusals.{names_refused, names_fault, refuses_re
 pub read_or_refused : (s : List ℕ) → Bytes s → (nr rr : ℕ) → ((f : File) × Readable s nr rr f) ⊎ ((k : ℕ) × (p : ℕ) × Refuses s nr rr k p)
 read_or_refused s b nr rr = by (reading s nr rr).answer refl
   where
-    by : (a : Reading) → (reading s nr rr).answer ≡ a → ((f : File) × Readable s nr rr f) ⊎ ((k : ℕ) × (p : ℕ) × Refuses s nr rr k p)
-    by (Read c) e = let w = read_readable s b nr rr c e in inl (w.0, w.1)
-    by (Refused r) e = inr (r.number, r.place, refused_refuses s b nr rr r e)
+    by : (a : Result Counts Refusal) → (reading s nr rr).answer ≡ a → ((f : File) × Readable s nr rr f) ⊎ ((k : ℕ) × (p : ℕ) × Refuses s nr rr k p)
+    by (Ok c) e = let w = read_readable s b nr rr c e in inl (w.0, w.1)
+    by (Err r) e = inr (r.number, r.place, refused_refuses s b nr rr r e)
 
 -- and not both
 pub readable_not_refused : (s : List ℕ) {nr rr k p : ℕ} {f : File} → Readable s nr rr f → Refuses s nr rr k p → ⊥
@@ -55,18 +54,18 @@ read_sets s f x =
     encode_sets f ∙ ap (λ (xs : List ℕ). encode (without_sets f) ++ xs) t.1 ∙ sym (append_assoc (encode (without_sets f)) t.0 f.sets) in
     ap (drop (sets_offset f)) (x.encoded ∙ e) ∙ drop_at before f.sets (sets_offset f) (omega (arith, ap length e, length-append before f.sets))
 
-module _ {s nodes records nodes' records' : List ℕ} {r : Reading} (bytes : Bytes s) (ensured : ReadAs s nodes records nodes' records' r) where
+module _ {s nodes records nodes' records' : List ℕ} {r : Result Counts Refusal} (bytes : Bytes s) (ensured : ReadAs s nodes records nodes' records' r) where
   -- a refusal is reported exactly when one of its ways holds
   pub read_refuses : (k p : ℕ) → (reported r ≡ refused_report k p) ↔ Refuses s (length nodes) (length records) k p
   read_refuses k p =
-      subst (λ (a : Reading). (reported a ≡ refused_report k p) ↔ Refuses s (length nodes) (length records) k p) (sym ensured.answer)
+      subst (λ (a : Result Counts Refusal). (reported a ≡ refused_report k p) ↔ Refuses s (length nodes) (length records) k p) (sym ensured.answer)
       (refused_when s bytes (length nodes) (length records) k p)
 
   -- counts are reported exactly if they are those of a readable file
   pub read_counts : (c : Counts) → 1 ≤ c.nodes
       → (reported r ≡ read_report c) ↔ ((f : File) × Readable s (length nodes) (length records) f × (c ≡ counts_of f))
   read_counts c h =
-      subst (λ (a : Reading). (reported a ≡ read_report c) ↔ ((f : File) × Readable s (length nodes) (length records) f × (c ≡ counts_of f))) (sym ensured.answer)
+      subst (λ (a : Result Counts Refusal). (reported a ≡ read_report c) ↔ ((f : File) × Readable s (length nodes) (length records) f × (c ≡ counts_of f))) (sym ensured.answer)
       (read_exactly s bytes (length nodes) (length records) c h)
 
   -- the two tables, by what the reading came to

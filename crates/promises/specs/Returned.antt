@@ -1,11 +1,12 @@
 -- What the round trip is stated with: what a reading gives back of lists that were written, and that some lists are written as a file.
 -- `s` are the bytes of a names section, `ns` the numbers of the nodes, `rs` the records, `sets` the bytes of the sets. Definitions only:
 -- RoundTrip has the theorems. Assumes nothing.
-use Rattle.std.specs.Prelude.{ℕ, ◌≤◌, List, ◌≡◌, length, take, drop}
+use Rattle.std.specs.Prelude.{ℕ, ◌≤◌, Result, List, ◌≡◌, length, take, drop}
+use Rattle.flow.specs.declared.Refusal.{Refusal}
 use Rattle.format.specs.Format.{Entry, names_section}
 use Rattle.format.specs.Limits.{Bytes}
 use Rattle.format.specs.Told.{at_front}
-use Rattle.reader.specs.declared.Reading.{Reading}
+use Rattle.reader.specs.declared.Counts.{Counts}
 use Rattle.reader.specs.Report.{reported, read_report, counts_of}
 use Rattle.writer.specs.declared.Writing.{Writing}
 use Rattle.writer.specs.Told.{writing_told, writing_written}
@@ -13,7 +14,7 @@ use Rattle.writer.specs.Writing.{WrittenAs}
 
 -- 02, One: "the reader reads back .. the same three lists", and the sets of Four: the bytes t, read into lent nodes and records with the
 -- answer a
-pub record ReadBack (s ns rs sets t nodes records nodes' records' : List ℕ) (a : Reading) : Type 0 where
+pub record ReadBack (s ns rs sets t nodes records nodes' records' : List ℕ) (a : Result Counts Refusal) : Type 0 where
   -- the names section is the file's first bytes
   pub entries : List Entry
   pub names_lent : s ≡ names_section entries

@@ -1,17 +1,17 @@
 -- The round trip. 02, One: "What it writes the reader reads back as the same three lists, and writing what was read gives the same
 -- bytes"; with Four the sets too. For every input, by the contracts of `write`, `read` and `scan_names`; and the files that are written are
 -- exactly those that are read. What it is stated with is in Returned. Assumes nothing.
-use Rattle.std.specs.Prelude.{ℕ, ◌*◌, ◌≤◌, ◌↔◌, ◌≡◌, refl, length}
+use Rattle.std.specs.Prelude.{ℕ, ◌*◌, ◌≤◌, ◌↔◌, ◌≡◌, refl, length, Result}
 use mathlib.Core.List.{List, [], ◌∷◌, ◌++◌, append_assoc}
 use Rattle.std.proofs.Math.Path.{ap, sym, subst}
 use Rattle.std.proofs.Common.{◌∙◌, arith, length-append, take_at, drop_at}
 use Rattle.std.proofs.Math.ListN.{take, drop}
+use Rattle.flow.specs.declared.Refusal.{Refusal}
 use Rattle.flow.specs.Legends.{set_count}
 use Rattle.format.specs.Format.{number_bytes, names_section, numbers_section, sets_section, File, encode}
 use Rattle.format.specs.Limits.{Bytes, Stands}
 use Rattle.format.specs.Told.{ItemTold, item_told, item_found, at_front}
 use Rattle.reader.specs.declared.Counts.{Counts}
-use Rattle.reader.specs.declared.Reading.{Reading}
 use Rattle.reader.specs.Report.{Report, reported, read_report, counts_of, sets_offset}
 use Rattle.reader.specs.Faults.{Readable}
 use Rattle.reader.specs.Reading.{Outcome, read_outcome, reading, ReadAs}
@@ -81,7 +81,7 @@ module _ {s ns rs sets file file' : List ℕ} {w : Writing} (bytes : Bytes s) (s
       (x.0, x.1, front_taken (encode x.0) file (write_fills written x.1) x.2)
 
   -- "What it writes the reader reads back as the same three lists", and the same sets
-  pub written_read : {nodes records nodes' records' : List ℕ} {a : Reading} → 192 ≤ length nodes → 256 ≤ length records
+  pub written_read : {nodes records nodes' records' : List ℕ} {a : Result Counts Refusal} → 192 ≤ length nodes → 256 ≤ length records
       → ReadAs (take n file') nodes records nodes' records' a → ReadBack s ns rs sets (take n file') nodes records nodes' records' a
   unfolding reported
   written_read {nodes} {records} h l ensured =
@@ -133,7 +133,7 @@ parts_written {file} e v written = (
 
 -- "writing what was read gives the same bytes": from the file's first bytes, up to where a scan ends, the numbers that were read, and the
 -- file's last bytes, from where the reader says that the sets are
-pub read_written : {t nodes records nodes' records' file file' : List ℕ} {a : Reading} {c : Counts} {k at : ℕ} {w : Writing} → Bytes t
+pub read_written : {t nodes records nodes' records' file file' : List ℕ} {a : Result Counts Refusal} {c : Counts} {k at : ℕ} {w : Writing} → Bytes t
     → ReadAs t nodes records nodes' records' a → reported a ≡ read_report c → 1 ≤ c.nodes → item_told (scanned t) ≡ item_found k at
     → WrittenAs (take at t) (take (3 * c.nodes) nodes') (take c.records records') (drop c.sets_at t) file file' w → length t ≤ length file
     → (writing_told w ≡ writing_written (length t)) × (file' ≡ at_front t file)

@@ -1,22 +1,15 @@
--- What the functions on the way to `read` answer: the refusal in a layout, where the numbers of a file stand, and what
--- `lay_out` answers; and what is known of a layout, of a reading and of a file that is read. Definitions only: LayoutLaws and ReaderLaws
--- prove them. Assumes nothing.
-use Rattle.std.specs.Prelude.{ℕ, ◌+◌, ◌*◌, ◌≤◌, ◌<◌, List, ◌≡◌, length, drop, Ok, Err}
+-- What the functions on the way to `read` answer: where the numbers of a file stand, and what `lay_out` answers; and what is known of a
+-- layout, of a reading and of a file that is read. Definitions only: LayoutLaws and ReaderLaws prove them. Assumes nothing.
+use Rattle.std.specs.Prelude.{ℕ, ◌+◌, ◌*◌, ◌≤◌, ◌<◌, Result, Ok, Err, List, ◌≡◌, length, drop}
 use Rattle.flow.specs.declared.Refusal.{Refusal}
 use Rattle.format.specs.Format.{File}
 use Rattle.format.specs.Plan.{got, bad, run}
 use Rattle.format.specs.Sections.{names, section, joint_sets, node_count, record_count, layout}
 use Rattle.format.specs.Items.{refusal_of}
 use Rattle.reader.specs.declared.Offsets.{Offsets}
-use Rattle.reader.specs.declared.Layout.{Layout}
-use Rattle.reader.specs.declared.Layout.TheVariants.{At, Bad}
 use Rattle.format.specs.ContentChecks.{content_check}
 use Rattle.reader.specs.declared.Counts.{Counts}
 use Rattle.reader.specs.Reading.{Outcome, refused_outcome, read_outcome, counts_of, reading}
-
-unfoldable pub layout_refusal : Layout → Refusal
-layout_refusal (At o) = refusal_of 0 0
-layout_refusal (Bad r) = r
 
 -- the numbers of so many nodes and records stand at their offsets
 pub record Inside (s : List ℕ) (o : Offsets) : Type 0 where
@@ -45,10 +38,10 @@ pub record Placed (s : List ℕ) (f : File) (o : Offsets) : Type 0 where
   pub ends : o.end ≡ length s
 
 -- the offsets of the sections, or the refusal up to 21
-pub data Lays (s : List ℕ) : Layout → Type 0 where
-  lays_bad : {r : Refusal} → run s 0 layout ≡ bad r.number r.place → Lays s (Bad r)
-  lays_long : {f : File} {end : ℕ} → run s 0 layout ≡ got f end → end < length s → Lays s (Bad (refusal_of 21 end))
-  lays_at : {o : Offsets} (f : File) → Placed s f o → Lays s (At o)
+pub data Lays (s : List ℕ) : Result Offsets Refusal → Type 0 where
+  lays_bad : {r : Refusal} → run s 0 layout ≡ bad r.number r.place → Lays s (Err r)
+  lays_long : {f : File} {end : ℕ} → run s 0 layout ≡ got f end → end < length s → Lays s (Err (refusal_of 21 end))
+  lays_at : {o : Offsets} (f : File) → Placed s f o → Lays s (Ok o)
 
 ---- What is known of a reading ----
 

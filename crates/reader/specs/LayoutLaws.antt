@@ -1,7 +1,8 @@
 -- What the plan of the four sections comes to, by the runs of the sections, and what is known of a file whose sections are gone
 -- through to the end. Assumes nothing.
-use Rattle.std.specs.Prelude.{ℕ, ◌+◌, ◌*◌, ◌-◌, ◌/◌, ◌≤◌, ◌<◌, List, ◌++◌, ◌≡◌, refl, length}
-use Rattle.std.proofs.Common.{ap, ap₂, sym, ◌∙◌}
+use Rattle.std.specs.Prelude.{ℕ, ◌+◌, ◌*◌, ◌-◌, ◌/◌, ◌≤◌, ◌<◌, Result, Ok, Err, List, ◌++◌, ◌≡◌, refl, length}
+use Rattle.std.specs.Result.{IsErrAnd}
+use Rattle.std.proofs.Common.{ap, ap₂, sym, ◌∙◌, subst}
 use native.Mathlib.Omega.{arith}
 use Rattle.std.proofs.Math.ListN.{length-append}
 use Rattle.flow.specs.declared.Refusal.{Refusal}
@@ -11,14 +12,13 @@ use Rattle.format.specs.Plan.{Plan, done, ◌>>=◌, Ran, got, bad, run}
 use Rattle.format.specs.Sections.{names, section, joint_sets, node_count, record_count, layout}
 use Rattle.format.specs.Items.{refusal_of, numbers_at}
 use Rattle.format.specs.Plans.{bind_bad, bind_got}
-use Rattle.format.specs.ItemLaws.{got_value, got_next, got_not_bad}
+use Rattle.format.specs.ItemLaws.{got_value, got_next, got_not_bad, handed}
 use Rattle.format.specs.RunLaws.{SetsThere, sets_there, sets_end}
 use Rattle.format.specs.SectionLaws.{SectionThere, section_there, section_end, names_there, names_end}
 use Rattle.reader.specs.declared.Counts.{Counts}
 use Rattle.reader.specs.declared.Offsets.{Offsets}
-use Rattle.reader.specs.declared.Layout.TheVariants.{At, Bad}
 use Rattle.reader.specs.Report.{sets_offset}
-use Rattle.reader.specs.Laying.{Inside, Placed, Lays, lays_long, lays_at}
+use Rattle.reader.specs.Laying.{Inside, Placed, Lays, lays_bad, lays_long, lays_at}
 pub use Rattle.reader.specs.Laying.{LayoutRuns}
 
 ---- The sections ----
@@ -188,20 +188,24 @@ abbrev pub found_runs : (s : List ℕ) {es : List Entry} {ns rs sets : List ℕ}
     → LayoutRuns s (record { names = es; nodes = ns; records = rs; sets = sets }) end
 found_runs s {from} {mid} {last} a b c d = record { from = from; mid = mid; last = last; names_run = a; nodes_run = b; records_run = c; sets_run = d }
 
+-- a refusal that is handed on
+pub lays_refusal : (s : List ℕ) {l : Result Offsets Refusal} {r : Refusal} → IsErrAnd l (λ q. q ≡ r) → run s 0 layout ≡ bad r.number r.place → Lays s l
+lays_refusal s {l} h e = subst (Lays s) (sym (handed l h)) (lays_bad e)
+
 module _ (s : List ℕ) {f : File} {end : ℕ} (runs : LayoutRuns s f end) where
-  pub lays_too_long : {r : Refusal} → r ≡ refusal_of 21 end → end < length s → Lays s (Bad r)
+  pub lays_too_long : {r : Refusal} → r ≡ refusal_of 21 end → end < length s → Lays s (Err r)
   lays_too_long e h = rw e (lays_long (runs_layout s runs) h)
 
-  pub lays_whole : {n k r m : ℕ} → n ≡ length f.names → k ≡ length f.nodes → r ≡ length f.records → m ≡ set_count f.sets → length s ≤ end
-      → Lays s (At (record {
-        counts = record { names = n; nodes = k / 3; records = r; sets_at = end - 32 * m; sets = m };
+  pub lays_whole : {n k r m w : ℕ} → n ≡ length f.names → k ≡ length f.nodes → r ≡ length f.records → m ≡ set_count f.sets → w ≡ m → length s ≤ end
+      → Lays s (Ok (record {
+        counts = record { names = n; nodes = k / 3; records = r; sets_at = end - 32 * w; sets = m };
         nodes = runs.from + 2;
         records = runs.mid + 2;
         end = end;
       }))
-  lays_whole {n} {k} {r} {m} d e g h l =
+  lays_whole {n} {k} {r} {m} {w} d e g h q l =
       let t = lent_there s runs in
-      let from : end - 32 * m ≡ sets_offset f = omega (arith, h, t.sized, runs_end s runs) in
+      let from : end - 32 * w ≡ sets_offset f = omega (arith, h, q, t.sized, runs_end s runs) in
       lays_at f (record {
         runs = runs;
         counts_are = λ i. record { names = d i; nodes = e i / 3; records = g i; sets_at = from i; sets = h i };

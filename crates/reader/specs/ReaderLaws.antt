@@ -15,13 +15,9 @@ use Rattle.format.specs.ContentChecks.{grounds_of, content_check}
 use Rattle.format.specs.Items.{refusal_of, at_front, numbers_at}
 use Rattle.format.specs.ItemLaws.{le_or_lt}
 use Rattle.reader.specs.declared.Counts.{Counts}
-use Rattle.reader.specs.declared.Reading.{Reading}
-use Rattle.reader.specs.declared.Reading.TheVariants.{Read, Refused}
 use Rattle.reader.specs.declared.Offsets.{Offsets}
-use Rattle.reader.specs.declared.Layout.{Layout}
-use Rattle.reader.specs.declared.Layout.TheVariants.{At, Bad}
 use Rattle.reader.specs.Reading.{Outcome, refused_outcome, counts_of, checked, laid, reading, ReadAs}
-use Rattle.reader.specs.Laying.{layout_refusal, Placed, Lays, lays_bad, lays_long, lays_at}
+use Rattle.reader.specs.Laying.{Placed, Lays, lays_bad, lays_long, lays_at}
 use Rattle.reader.specs.LayoutLaws.{layout_runs, nodes_there, lent_there, runs_end, placed_run, placed_nodes, placed_records}
 pub use Rattle.reader.specs.Laying.{Way, few_nodes, few_records, stopped, longer, faulty, whole, ReadFile}
 
@@ -50,20 +46,22 @@ module _ (s : List ℕ) where
 
 -- a layout that is no refusal is placed, and any other is refused so
 module _ (s : List ℕ) where
-  pub lays_placed : {l : Layout} {o : Offsets} → Lays s l → l ≡ At o → (f : File) × Placed s f o
+  pub lays_placed : {l : Result Offsets Refusal} {o : Offsets} → Lays s l → l ≡ Ok o → (f : File) × Placed s f o
   lays_placed (lays_bad e) h = let z : ◌≡◌ {A = ℕ} 0 1 = cc in absurd (omega arith)
   lays_placed (lays_long e g) h = let z : ◌≡◌ {A = ℕ} 0 1 = cc in absurd (omega arith)
   lays_placed {o} (lays_at {o = o₁} f p) h = let d : o₁ ≡ o = cc in (f, subst (Placed s f) d p)
 
-  pub lays_refused : {l : Layout} {q r : Refusal} → Lays s l → l ≡ Bad q → r ≡ layout_refusal l → laid s (run s 0 layout) ≡ refused_outcome r
-  unfolding laid layout_refusal
-  lays_refused {r} (lays_bad {r = r₁} e) h d = ap (laid s) e ∙ ap refused_outcome (sym d)
-  lays_refused {r} (lays_long {f} {end} e g) h d = ap (laid s) e ∙ rw (lt-ltb end (length s) g) (ap refused_outcome (sym d))
-  lays_refused (lays_at f p) h d = let z : ◌≡◌ {A = ℕ} 0 1 = cc in absurd (omega arith)
+  pub lays_refused : {l : Result Offsets Refusal} {r : Refusal} → Lays s l → l ≡ Err r → laid s (run s 0 layout) ≡ refused_outcome r
+  unfolding laid
+  lays_refused {r} (lays_bad {r = r₁} e) h = let d : r₁ ≡ r = cc in ap (laid s) e ∙ ap refused_outcome d
+  lays_refused {r} (lays_long {f} {end} e g) h =
+      let d : refusal_of 21 end ≡ r = cc in
+      ap (laid s) e ∙ rw (lt-ltb end (length s) g) (ap refused_outcome d)
+  lays_refused (lays_at f p) h = let z : ◌≡◌ {A = ℕ} 0 1 = cc in absurd (omega arith)
 
 module _ (s nodes records : List ℕ) where
   -- an answer and two tables after, by what `reading` comes to
-  pub read_as : {o : Outcome} {r : Reading} {nodes' records' : List ℕ} → reading s (length nodes) (length records) ≡ o
+  pub read_as : {o : Outcome} {r : Result Counts Refusal} {nodes' records' : List ℕ} → reading s (length nodes) (length records) ≡ o
       → r ≡ o.answer → nodes' ≡ at_front o.nodes nodes → records' ≡ at_front o.records records → ReadAs s nodes records nodes' records' r
   read_as {o} e a n k =
       record {
@@ -72,8 +70,9 @@ module _ (s nodes records : List ℕ) where
         records_after = k ∙ ap (λ (o' : Outcome). at_front o'.records records) (sym e);
       }
 
-  pub read_refused : {r : Refusal} → reading s (length nodes) (length records) ≡ refused_outcome r → ReadAs s nodes records nodes records (Refused r)
-  read_refused e = read_as e refl refl refl
+  pub read_refused : {a : Result Counts Refusal} {r : Refusal} → a ≡ Err r → reading s (length nodes) (length records) ≡ refused_outcome r
+      → ReadAs s nodes records nodes records a
+  read_refused h e = read_as e h refl refl
 
   module _ {f : File} {o : Offsets} (p : Placed s f o) (h : 192 ≤ length nodes) (l : 256 ≤ length records) where
     -- the check of the numbers at their offsets
@@ -91,11 +90,11 @@ module _ (s nodes records : List ℕ) where
 
     pub read_fine : {k : Result ⊤ Refusal} → k ≡ checked_at → k ≡ Ok tt
         → reading s (length nodes) (length records)
-        ≡ record { answer = Read o.counts; nodes = numbers_at s (3 * o.counts.nodes) o.nodes; records = numbers_at s o.counts.records o.records }
+        ≡ record { answer = Ok o.counts; nodes = numbers_at s (3 * o.counts.nodes) o.nodes; records = numbers_at s o.counts.records o.records }
     unfolding checked
     read_fine e g =
         laid_contents ∙ ap (checked f) (sym e ∙ g)
-        ∙ (λ i. record { answer = Read (sym p.counts_are i); nodes = placed_nodes s p i; records = placed_records s p i })
+        ∙ (λ i. record { answer = Ok (sym p.counts_are i); nodes = placed_nodes s p i; records = placed_records s p i })
 
 ---- The ways of a reading ----
 
@@ -125,13 +124,13 @@ way s nr rr = by_nodes (le_or_lt 192 nr)
     by_nodes (inr h) = subst (Way s nr rr) (sym (reading_short s nr rr (inl h))) (few_nodes h)
 
 -- what is read is not refused
-pub read_not_refused : {c : Counts} {r : Refusal} {C : Type 0} → Read c ≡ Refused r → C
+pub read_not_refused : {c : Counts} {r : Refusal} {C : Type 0} → ◌≡◌ {A = Result Counts Refusal} (Ok c) (Err r) → C
 read_not_refused h = let z : ◌≡◌ {A = ℕ} 0 1 = cc in absurd (omega arith)
 
-pub read_file : (s : List ℕ) (nr rr : ℕ) {c : Counts} → (reading s nr rr).answer ≡ Read c → ReadFile s nr rr c
+pub read_file : (s : List ℕ) (nr rr : ℕ) {c : Counts} → (reading s nr rr).answer ≡ Ok c → ReadFile s nr rr c
 read_file s nr rr {c} e = by (way s nr rr) refl e
   where
-    by : {o : Outcome} → Way s nr rr o → reading s nr rr ≡ o → o.answer ≡ Read c → ReadFile s nr rr c
+    by : {o : Outcome} → Way s nr rr o → reading s nr rr ≡ o → o.answer ≡ Ok c → ReadFile s nr rr c
     by (few_nodes h) q a = read_not_refused (sym a)
     by (few_records h) q a = read_not_refused (sym a)
     by (stopped h l g) q a = read_not_refused (sym a)

@@ -9,8 +9,7 @@ use Rattle.format.specs.Plan.{Ran, got, bad, run}
 use Rattle.format.specs.Sections.{layout}
 use Rattle.format.specs.ContentChecks.{content_check}
 use Rattle.format.specs.Items.{refusal_of, at_front}
-use Rattle.reader.specs.declared.Reading.{Reading}
-use Rattle.reader.specs.declared.Reading.TheVariants.{Read, Refused}
+use Rattle.reader.specs.declared.Counts.{Counts}
 pub use Rattle.reader.specs.Report.{Report, counts_of}
 unfoldable pub use Rattle.reader.specs.Report.{reported}
 
@@ -18,15 +17,15 @@ unfoldable pub use Rattle.reader.specs.Report.{reported}
 
 -- the answer, and the numbers that stand first in the two tables then
 pub record Outcome : Type 0 where
-  pub answer : Reading
+  pub answer : Result Counts Refusal
   pub nodes : List ℕ
   pub records : List ℕ
 
 abbrev pub refused_outcome : Refusal → Outcome
-refused_outcome r = record { answer = Refused r; nodes = []; records = [] }
+refused_outcome r = record { answer = Err r; nodes = []; records = [] }
 
 abbrev pub read_outcome : File → Outcome
-read_outcome f = record { answer = Read (counts_of f); nodes = f.nodes; records = f.records }
+read_outcome f = record { answer = Ok (counts_of f); nodes = f.nodes; records = f.records }
 
 unfoldable pub checked : File → Result ⊤ Refusal → Outcome
 checked f (Ok tt) = read_outcome f
@@ -47,7 +46,7 @@ reading s nodes_room records_room =
 ---- The contract ----
 
 -- of `read`: the answer and the two tables are those of `reading`
-pub record ReadAs (s nodes records nodes' records' : List ℕ) (r : Reading) : Type 0 where
+pub record ReadAs (s nodes records nodes' records' : List ℕ) (r : Result Counts Refusal) : Type 0 where
   pub answer : r ≡ (reading s (length nodes) (length records)).answer
   pub nodes_after : nodes' ≡ at_front (reading s (length nodes) (length records)).nodes nodes
   pub records_after : records' ≡ at_front (reading s (length nodes) (length records)).records records

@@ -1,11 +1,10 @@
 -- What an answer of the reader tells: 01's number, place and counts for each case, with the place of the sets (02, Four). Every promise is
 -- stated of it. Definitions only. Assumes nothing.
-use Rattle.std.specs.Prelude.{ℕ, ◌-◌, ◌/◌, length}
+use Rattle.std.specs.Prelude.{ℕ, ◌-◌, ◌/◌, Result, Ok, Err, length}
+use Rattle.flow.specs.declared.Refusal.{Refusal}
 use Rattle.flow.specs.Legends.{set_count}
 use Rattle.format.specs.Format.{File, encode}
 use Rattle.reader.specs.declared.Counts.{Counts}
-use Rattle.reader.specs.declared.Reading.{Reading}
-use Rattle.reader.specs.declared.Reading.TheVariants.{Read, Refused}
 
 -- the refusal number or 0, and its place; "the counts of names, nodes and records"; of the sets "their offset and count"
 pub record Report : Type 0 where
@@ -24,9 +23,9 @@ read_report c =
 abbrev pub refused_report : ℕ → ℕ → Report
 refused_report k p = record { number = k; place = p; names = 0; nodes = 0; records = 0; sets_at = 0; sets = 0 }
 
-unfoldable pub reported : Reading → Report
-reported (Read c) = read_report c
-reported (Refused r) = refused_report r.number r.place
+unfoldable pub reported : Result Counts Refusal → Report
+reported (Ok c) = read_report c
+reported (Err r) = refused_report r.number r.place
 
 -- the sets are the last bytes of a file; without sets this is its length
 abbrev pub sets_offset : File → ℕ

@@ -8,10 +8,10 @@ ghost use Rattle.flow.specs.Checks.{first};
 ghost use Rattle.format.specs.ContentChecks.{grounds_of};
 ghost use Rattle.format.specs.Items.{numbers_at};
 ghost use Rattle.reader.specs.Reading.{ReadAs};
-ghost use Rattle.reader.specs.Laying.{layout_refusal, Lays, Inside};
+ghost use Rattle.reader.specs.Laying.{Lays, Inside};
 
 use flow::{Extent, Refusal};
-use format::{Item, Range};
+use format::Range;
 
 // How many nodes and records there may be.
 const NODES: Range = Range {
@@ -44,12 +44,6 @@ pub struct Counts {
     pub sets: u16,
 }
 
-#[derive(Clone, Copy)]
-pub enum Reading {
-    Read(Counts),
-    Refused(Refusal),
-}
-
 // Where the numbers of a file stand: of its nodes, of its records, and where they end.
 #[derive(Clone, Copy)]
 struct Offsets {
@@ -59,58 +53,30 @@ struct Offsets {
     end: usize,
 }
 
-#[derive(Clone, Copy)]
-enum Layout {
-    At(Offsets),
-    Bad(Refusal),
-}
-
-// The refusal of a file that is not laid out, and of numbers that are not fine, if there is one.
-fn layout_refusal(layout: Layout) -> Refusal
-    ensures { result ≡ layout_refusal layout }
-{
-    match layout {
-        Layout::At(_) => format::NO_REFUSAL,
-        Layout::Bad(r) => r,
-    }
-}
-
 // The sections, to the end of the file: their counts and offsets, or the first refusal of 15 to 18, 1, 3, 10, 11, 23 and 21. The sets are
 // the last bytes of a file.
-fn lay_out(file: &[u8]) -> Layout
+fn lay_out(file: &[u8]) -> Result<Offsets, Refusal>
     ensures { Lays file.now result }
 {
-    let names = format::scan_names(file);
-    let Item::Has(e) = names else {
-        return Layout::Bad(format::refusal_in(names));
-    };
-    let nodes = format::section_at(file, e.next, NODES, 3);
-    let Item::Has(n) = nodes else {
-        return Layout::Bad(format::refusal_in(nodes));
-    };
-    let records = format::section_at(file, n.next, RECORDS, 1);
-    let Item::Has(k) = records else {
-        return Layout::Bad(format::refusal_in(records));
-    };
-    let sets = format::sets_at(file, k.next);
-    let Item::Has(t) = sets else {
-        return Layout::Bad(format::refusal_in(sets));
-    };
-    let end = t.next.at;
+    let names = format::scan_names(file)?;
+    let nodes = format::section_at(file, names.next, NODES, 3)?;
+    let records = format::section_at(file, nodes.next, RECORDS, 1)?;
+    let sets = format::sets_at(file, records.next)?;
+    let end = sets.next.at;
     if end < file.len() {
-        return Layout::Bad(format::refusal(format::TOO_LONG, end));
+        return Err(format::refusal(format::TOO_LONG, end));
     }
     let counts = Counts {
-        names: e.value,
-        nodes: n.value / 3,
-        records: k.value,
-        sets_at: end - flow::SET_BYTES * t.value as usize,
-        sets: t.value,
+        names: names.value,
+        nodes: nodes.value / 3,
+        records: records.value,
+        sets_at: end - flow::SET_BYTES * usize::from(sets.value),
+        sets: sets.value,
     };
-    Layout::At(Offsets {
+    Ok(Offsets {
         counts,
-        nodes: e.next.at + 2,
-        records: n.next.at + 2,
+        nodes: names.next.at + 2,
+        records: nodes.next.at + 2,
         end,
     })
 }
@@ -121,8 +87,8 @@ fn check_numbers(file: &[u8], o: Offsets) -> Result<(), Refusal>
     ensures { result ≡ first (grounds_of Whole o.counts.names o.counts.sets (numbers_at file.now (3 * o.counts.nodes) o.nodes) (numbers_at file.now o.counts.records o.records)) }
 {
     let counts = o.counts;
-    let n = 3 * counts.nodes as usize;
-    let k = counts.records as usize;
+    let n = 3 * usize::from(counts.nodes);
+    let k = usize::from(counts.records);
     let mut nodes = [0u16; 192];
     let mut records = [0u16; 256];
     format::fill(file, o.nodes, n, &mut nodes);
@@ -131,33 +97,25 @@ fn check_numbers(file: &[u8], o: Offsets) -> Result<(), Refusal>
         &nodes[..n],
         &records[..k],
         counts.names,
-        counts.sets as usize,
+        usize::from(counts.sets),
         Extent::Whole,
     )
 }
 
 // A flow file's bytes: the counts of names, nodes and records and the place of the sets, with the numbers of the nodes and the records at
 // the front of the two tables, whose rest stays; or a refusal, and both tables stay.
-pub fn read(file: &[u8], nodes: &mut [u16], records: &mut [u16]) -> Reading
+pub fn read(file: &[u8], nodes: &mut [u16], records: &mut [u16]) -> Result<Counts, Refusal>
     ensures { ReadAs file.now nodes.old records.old nodes.new records.new result }
 {
-    if nodes.len() < NODE_ROOM {
-        return Reading::Refused(format::refusal(flow::NO_ROOM, 0));
+    if nodes.len() < NODE_ROOM || records.len() < RECORD_ROOM {
+        return Err(format::refusal(flow::NO_ROOM, 0));
     }
-    if records.len() < RECORD_ROOM {
-        return Reading::Refused(format::refusal(flow::NO_ROOM, 0));
-    }
-    let layout = lay_out(file);
-    let Layout::At(o) = layout else {
-        return Reading::Refused(layout_refusal(layout));
-    };
-    if let Err(refusal) = check_numbers(file, o) {
-        return Reading::Refused(refusal);
-    }
+    let o = lay_out(file)?;
+    check_numbers(file, o)?;
     let counts = o.counts;
-    let n = 3 * counts.nodes as usize;
-    let k = counts.records as usize;
+    let n = 3 * usize::from(counts.nodes);
+    let k = usize::from(counts.records);
     format::fill(file, o.nodes, n, nodes);
     format::fill(file, o.records, k, records);
-    Reading::Read(counts)
+    Ok(counts)
 }

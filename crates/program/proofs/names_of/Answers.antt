@@ -6,15 +6,15 @@ use Rattle.format.specs.SectionLaws.{names_there}
 use Rattle.program.specs.ProgramLaws.{names_found, names_bad}
 use Rattle.program.proofs.names_of.Goals as goal
 
-pub returns-in_default : goal.returns-in_default
-returns-in_default c = names_bad _ (bad_found _ _ (sym c.scan_names-names.ensures ∙ c.in_default.is))
+pub returns-in-Err : goal.returns-in-Err
+returns-in-Err c = names_bad _ (bad_found _ _ (sym c.in-Err.is ∙ c.scan_names.ensures))
 
-pub slice_bounds-result-end-2 : goal.slice_bounds-result-end-2
-slice_bounds-result-end-2 c =
-    let a = has_found _ _ (sym c.scan_names-names.ensures ∙ c.in-Has.is) in
+pub slice_bounds-result-end : goal.slice_bounds-result-end
+slice_bounds-result-end c =
+    let a = has_found _ _ (sym c.in-Ok.is ∙ c.scan_names.ensures) in
     sym (length-take-le _ _ (names_there _ a.is).inside)
 
-pub returns : goal.returns
-returns c =
-    let a = has_found _ _ (sym c.scan_names-names.ensures ∙ c.in-Has.is) in
+pub returns-in-Ok : goal.returns-in-Ok
+returns-in-Ok c =
+    let a = has_found _ _ (sym c.in-Ok.is ∙ c.scan_names.ensures) in
     names_found _ a.is

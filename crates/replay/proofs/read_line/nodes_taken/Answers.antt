@@ -3,10 +3,10 @@ use mathlib.Core.Path.{sym, ap}
 use Rattle.replay.specs.ReadLine.{nodes_taken}
 use Rattle.replay.proofs.read_line.nodes_taken.Goals as goal
 
-pub returns-in-Read : goal.returns-in-Read
+pub returns-in-Ok : goal.returns-in-Ok
 unfolding nodes_taken
-returns-in-Read c = sym (ap nodes_taken c.in-Read.is)
+returns-in-Ok c = sym (ap nodes_taken c.in-Ok.is)
 
-pub returns-in-Refused : goal.returns-in-Refused
+pub returns-in-Err : goal.returns-in-Err
 unfolding nodes_taken
-returns-in-Refused c = sym (ap nodes_taken c.in-Refused.is)
+returns-in-Err c = sym (ap nodes_taken c.in-Err.is)

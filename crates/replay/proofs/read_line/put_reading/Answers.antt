@@ -6,23 +6,23 @@ use Rattle.replay.proofs.read_line.put_reading.Goals as goal
 pub put_counts-requires : goal.put_counts-requires
 unfolding sets_place
 put_counts-requires c =
-    let e = c.in-Read.is in record {
+    let e = c.in-Ok.is in record {
       sets_at_bound = rw e at c.requires.answer_bound;
       in_bounds = c.requires.in_bounds;
     }
 
-pub returns-in-Read : goal.returns-in-Read
+pub returns-in-Ok : goal.returns-in-Ok
 unfolding read_text
-returns-in-Read c =
+returns-in-Ok c =
     record {
-      put = rw c.in-Read.is c.put_counts.ensures.put;
+      put = rw c.in-Ok.is c.put_counts.ensures.put;
       upper_bound = c.put_counts.ensures.upper_bound;
     }
 
-pub returns-in-Refused : goal.returns-in-Refused
+pub returns-in-Err : goal.returns-in-Err
 unfolding read_text
-returns-in-Refused c =
+returns-in-Err c =
     record {
-      put = rw c.in-Refused.is c.put_refused.ensures.put;
+      put = rw c.in-Err.is c.put_refused.ensures.put;
       upper_bound = omega arith;
     }

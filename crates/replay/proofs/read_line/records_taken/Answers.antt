@@ -3,10 +3,10 @@ use mathlib.Core.Path.{sym, ap}
 use Rattle.replay.specs.ReadLine.{records_taken}
 use Rattle.replay.proofs.read_line.records_taken.Goals as goal
 
-pub returns-in-Read : goal.returns-in-Read
+pub returns-in-Ok : goal.returns-in-Ok
 unfolding records_taken
-returns-in-Read c = sym (ap records_taken c.in-Read.is)
+returns-in-Ok c = sym (ap records_taken c.in-Ok.is)
 
-pub returns-in-Refused : goal.returns-in-Refused
+pub returns-in-Err : goal.returns-in-Err
 unfolding records_taken
-returns-in-Refused c = sym (ap records_taken c.in-Refused.is)
+returns-in-Err c = sym (ap records_taken c.in-Err.is)
