@@ -25,10 +25,9 @@ use Rattle.states.specs.Clauses.{Spot}
 use Rattle.states.specs.declared.Role.{Role}
 use Rattle.states.specs.declared.Role.TheVariants.{Plain, Running}
 use Rattle.memory.specs.declared.Sight.{Sight}
-use Rattle.memory.specs.declared.Recalled.TheVariants.{Known as Recall}
 use Rattle.memory.specs.Memory.{Fitting, recalled}
 use Rattle.memory.specs.MemoryLaws.{recalled_held}
-use Rattle.std.specs.Prelude.{Option, Some, None}
+use Rattle.std.specs.Prelude.{Option, Some, None, Ok}
 use Rattle.search.specs.declared.Trip.{Trip}
 use Rattle.search.specs.Visits.{state, role_next, out_of, onward, stretches, Known, VisitReady, Used, Strikes, Settled, Memory, key_of, saw_none, Has, Truthful, Learned, KeptOut, quest, AsksAfter, Began, Visited, Tried, Followed, Inner, ends, RightCounts, successor_count, Applied}
 use Rattle.search.specs.Searches.{answered}
@@ -150,7 +149,7 @@ module _ {ns xs t : List ℕ} {role : Role} (ready : VisitReady ns xs t role) (m
       }
 
   -- it is recalled
-  pub visited_known : {qs : List ℕ} → Truthful ns xs qs m → (left : ℕ) {x : Sight} (o : Option Trip) → recalled m.modes m.marks t (count ns) key ≡ Recall x → out_of o ≡ left_of (saw_none x) left
+  pub visited_known : {qs : List ℕ} → Truthful ns xs qs m → (left : ℕ) {x : Sight} (o : Option Trip) → recalled m.modes m.marks t (count ns) key ≡ Ok x → out_of o ≡ left_of (saw_none x) left
       → Visited (quest ns xs t role qs left m) t qs m o
   visited_known {qs} f left {x} o h k =
       let has = subst (λ z. Has ns xs m z t x) e (recalled_held m.modes m.marks t (count ns) key x h) in

@@ -20,7 +20,7 @@ ghost use Rattle.search.specs.Room.{room_of, cleared};
 ghost use Rattle.search.specs.Searches.{role_of, LeftWithin, SearchReady, Searched, answered, went_through, Asked};
 ghost use Rattle.search.specs.Visits.{state, role_next, out_of, closing_of, ends_by, onward, VisitReady, Asking, memory, key_of, saw_none, Truthful, KeptOut, quest, Began, Visited, Tried, Followed, Inner, ends, RightCounts, successor_count, SuccessorsCounted, Applied};
 
-use memory::{Recalled, Sight};
+use memory::Sight;
 use states::{Role, Sense};
 use tallies::{View, Weight};
 
@@ -341,8 +341,8 @@ fn visit(
     let n = ns.len() / 3;
     let key = key_of(cues.len(), role);
     match memory::recall(modes, marks, work, n, key) {
-        Recalled::Known(seen) => known(seen, left),
-        Recalled::Unknown(slot) => {
+        Ok(seen) => known(seen, left),
+        Err(slot) => {
             let out = enter(ns, cues, work, role, asks, left, modes, marks);
             keep(out, left, modes, marks, slot, work, n, key);
             out

@@ -259,13 +259,13 @@ visit-keep-requires t c =
       left_within = visit_within (cue_records a.cues.now) (state a.ns.now a.role a.work.now) a.left c.enter-out.result c.enter-out.ensures.out;
     }
 
-pub visit-returns-in-Known : goal.visit-returns-in-Known
-visit-returns-in-Known t c =
+pub visit-returns-in-Ok : goal.visit-returns-in-Ok
+visit-returns-in-Ok t c =
     let a = c.args in
-    visited_known c.requires.visit_ready (memory a.modes.now a.marks.now) c.key_of-key.ensures c.requires.truthful a.left c.known.result (sym c.recall.ensures ∙ c.in-Known.is) c.known.ensures
+    visited_known c.requires.visit_ready (memory a.modes.now a.marks.now) c.key_of-key.ensures c.requires.truthful a.left c.known.result (sym c.recall.ensures ∙ c.in-Ok.is) c.known.ensures
 
-pub visit-returns-in-Unknown : goal.visit-returns-in-Unknown
-visit-returns-in-Unknown t c =
+pub visit-returns-in-Err : goal.visit-returns-in-Err
+visit-returns-in-Err t c =
     let a = c.args in
     visited_kept c.requires.visit_ready (memory a.modes.now a.marks.now) c.key_of-key.ensures a.asks.now a.left c.enter-out.new.work c.enter-out.new.asks (memory c.enter-out.new.modes c.enter-out.new.marks) (memory c.keep.new.modes c.keep.new.marks) c.enter-out.result c.enter-out.ensures c.keep.ensures
 
