@@ -32,8 +32,7 @@ use Rattle.format.specs.Told.{at_front}
 use Rattle.format.specs.Matching.{with_names}
 use Rattle.format.specs.ListChecks.{entries_in}
 use Rattle.format.specs.ListLaws.{ListsPassed}
-use Rattle.search.specs.declared.Out.{Out}
-use Rattle.search.specs.declared.Out.TheVariants.{Spent, Back}
+use Rattle.std.specs.Prelude.{Option, Some, None}
 use Rattle.search.specs.declared.Trip.{Trip}
 use Rattle.search.specs.Room.{room_of, cleared}
 use Rattle.search.specs.Visits.{out_of, follows_mark}
@@ -61,7 +60,7 @@ abbrev what_left : Found → ℕ
 what_left spent = 0
 what_left (back b d m) = m
 
-module _ {ns xs qs list work : List ℕ} (ready : NextReady ns xs qs list work) {allowance : ℕ} {o : Out} {after qs' : List ℕ} (asked : Asked ns xs allowance work qs o after qs') where
+module _ {ns xs qs list work : List ℕ} (ready : NextReady ns xs qs list work) {allowance : ℕ} {o : Option Trip} {after qs' : List ℕ} (asked : Asked ns xs allowance work qs o after qs') where
   abbrev flow : State
   flow = flow_by cued ns
 
@@ -79,10 +78,10 @@ module _ {ns xs qs list work : List ℕ} (ready : NextReady ns xs qs list work) 
   within : LeftWithin allowance o
   within = visit_within rs flow allowance o asked.search.out
 
-  pub left_within : {trip : Trip} → o ≡ Back trip → trip.left ≤ allowance
+  pub left_within : {trip : Trip} → o ≡ Some trip → trip.left ≤ allowance
   left_within e = subst (LeftWithin allowance) e within
 
-  pub undecided_by : o ≡ Spent → NextAnswered ns xs qs allowance list work (Undecided (record { length = 0; count = allowance })) list after
+  pub undecided_by : o ≡ None → NextAnswered ns xs qs allowance list work (Undecided (record { length = 0; count = allowance })) list after
   unfolding out_of
   undecided_by e = by (leb (cost ns xs qs allowance) allowance) refl
     where
@@ -94,7 +93,7 @@ module _ {ns xs qs list work : List ℕ} (ready : NextReady ns xs qs list work) 
         leaves = asked.search.leaves;
       }
 
-  pub listed_by : {trip : Trip} → o ≡ Back trip → {n k : ℕ} {list' : List ℕ} → n ≡ length (picked all_numbers qs') → list' ≡ at_front (picked all_numbers qs') list → k ≡ allowance - trip.left
+  pub listed_by : {trip : Trip} → o ≡ Some trip → {n k : ℕ} {list' : List ℕ} → n ≡ length (picked all_numbers qs') → list' ≡ at_front (picked all_numbers qs') list → k ≡ allowance - trip.left
       → NextAnswered ns xs qs allowance list work (Listed (record { length = n; count = k })) list' after
   unfolding out_of asks_after went_through
   listed_by {trip} e {n} {k} {list'} en el ek = by (leb (cost ns xs qs allowance) allowance) refl

@@ -12,7 +12,6 @@ ghost use Rattle.ahead.specs.Answering.{next_room_check, picked, NextReady, Next
 
 use answer::{Found, Next};
 use flow::{Extent, Refusal};
-use search::Out;
 
 // 14, with so many numbers and so many work bytes lent.
 fn check_next_room(
@@ -96,11 +95,11 @@ fn next_by(
     ensures { NextAnswered nodes.now cues.now asks.old allowance list.old work.old result list.new work.new }
 {
     match search::ask(nodes, cues, work, asks, allowance) {
-        Out::Spent => Next::Undecided(Found {
+        None => Next::Undecided(Found {
             length: 0,
             count: allowance,
         }),
-        Out::Back(trip) => {
+        Some(trip) => {
             let length = write_listed(asks, list);
             Next::Listed(Found {
                 length,

@@ -2,7 +2,7 @@
 -- and by those that a names section makes (`named_ready`, `named_judged`). What both share is said once, of any legend (`Cueing`), and
 -- of records of any extent where they need not be whole. The cues of all events are known to be right, not only those of a call's records
 -- (`plain_cueing`, `named_cueing`, and `events_heard` of any known numbers). Assumes nothing.
-use Rattle.std.specs.Prelude.{ℕ, zero, suc, ◌<◌, ◌≤◌, ◌≡◌, refl, Bool, true, false, ◌||◌, List, map, T, eqb, length, get_or, take, drop, Ok}
+use Rattle.std.specs.Prelude.{ℕ, zero, suc, ◌<◌, ◌≤◌, ◌≡◌, refl, Bool, true, false, ◌||◌, List, map, T, eqb, length, get_or, take, drop, Ok, Option}
 use Rattle.std.proofs.Common.{sym, ap, ◌∙◌, subst, arith, take_at}
 use Rattle.std.proofs.lemmas.List.{length-map}
 use Rattle.calculus.specs.Search as search
@@ -21,7 +21,7 @@ use Rattle.flow.specs.Cues.{cued, cue_record, cue_records, cue_of, itself, maske
 use Rattle.flow.specs.CuedFlows.{cued_judge, cued_within, cues_low}
 use Rattle.flow.specs.FineTable.{fine_table}
 use Rattle.flow.specs.RecordsFit.{fine_records, records_within}
-use Rattle.search.specs.declared.Out.{Out}
+use Rattle.search.specs.declared.Trip.{Trip}
 use Rattle.search.specs.Room.{room_of, cleared}
 use Rattle.search.specs.Searches.{SearchReady, Searched, LeftWithin}
 use Rattle.search.specs.SearchLaws.{visit_within}
@@ -47,7 +47,7 @@ answer_is rs n spent = refl
 answer_is rs n (back true d m) = refl
 answer_is rs n (back false d m) = refl
 
-module _ {ns xs work : List ℕ} {allowance : ℕ} {o : Out} {after : List ℕ} (s : Searched ns xs allowance work o after) where
+module _ {ns xs work : List ℕ} {allowance : ℕ} {o : Option Trip} {after : List ℕ} (s : Searched ns xs allowance work o after) where
   pub searched_within : LeftWithin allowance o
   searched_within = visit_within (cue_records xs) (flow_by cued ns) allowance o s.out
 

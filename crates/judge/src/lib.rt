@@ -9,7 +9,7 @@ ghost use Rattle.judge.specs.Judged.{judge_check, named_judge_check, Judged, Nam
 ghost use Rattle.judge.specs.Settled.{answer_to, room_check, Answered};
 
 use flow::{Extent, Refusal};
-use search::Out;
+use search::Trip;
 
 // How far the records were followed, and how many states were entered.
 #[derive(Clone, Copy)]
@@ -27,17 +27,17 @@ pub enum Answer {
 }
 
 // The answer that comes of a search through so many records.
-fn answer_of(out: Out, records: usize, allowance: u32) -> Answer
+fn answer_of(out: Option<Trip>, records: usize, allowance: u32) -> Answer
     requires left_within { LeftWithin allowance out }
     requires records_bound { records ≤ 256 }
     ensures { result ≡ answer_to records allowance (out_of out) }
 {
     match out {
-        Out::Spent => Answer::Undecided(Reach {
+        None => Answer::Undecided(Reach {
             place: 0,
             count: allowance,
         }),
-        Out::Back(trip) => {
+        Some(trip) => {
             let count = allowance - trip.left;
             if trip.found {
                 Answer::Accepted(Reach {

@@ -2,10 +2,8 @@
 -- what it means that a memory holds a state. `ms` are the modes, two words a slot, `ks` the marks, one number a slot; slots 2 p and
 -- 2 p + 1 are pair p. A state is a key and the first n modes of t.
 -- Definitions only; their laws are in MemoryLaws. A caller needs `Held` and its laws, and not how a pair is chosen. Assumes nothing.
-use Rattle.std.specs.Prelude.{ℕ, zero, suc, ◌+◌, ◌*◌, ◌/◌, ◌%◌, ◌<◌, ◌≤◌, ◌≡◌, Bool, true, ◌&&◌, cond, List, eqb, ltb, length, get_or, set}
+use Rattle.std.specs.Prelude.{ℕ, zero, suc, ◌+◌, ◌*◌, ◌/◌, ◌%◌, ◌<◌, ◌≤◌, ◌≡◌, Bool, true, ◌&&◌, cond, List, eqb, ltb, length, get_or, set, Result, Ok, Err}
 use Rattle.memory.specs.declared.Sight.{Sight}
-use Rattle.memory.specs.declared.Recalled.{Recalled}
-use Rattle.memory.specs.declared.Recalled.TheVariants.{Known, Unknown}
 
 -- Two words of a state ----------------------------------------------------------------------------------------------------
 
@@ -68,18 +66,18 @@ unfoldable pub sight_at : List ℕ → ℕ → Sight
 sight_at ks s = record { entered = get_or ks s 0 / 4294967296; reached = get_or ks s 0 / 65536 % 65536 }
 
 -- what slot s has of it, or else what is said otherwise
-unfoldable pub recalled_at : List ℕ → List ℕ → ℕ → ℕ → ℕ → ℕ → Recalled → Recalled
-recalled_at ms ks low high key s r = cond (has ms ks s low high key) (Known (sight_at ks s)) r
+unfoldable pub recalled_at : List ℕ → List ℕ → ℕ → ℕ → ℕ → ℕ → Result Sight ℕ → Result Sight ℕ
+recalled_at ms ks low high key s r = cond (has ms ks s low high key) (Ok (sight_at ks s)) r
 
 -- what a pair has of it; one that is not there has nothing
-unfoldable pub recalled_in : List ℕ → List ℕ → ℕ → ℕ → ℕ → ℕ → Recalled
+unfoldable pub recalled_in : List ℕ → List ℕ → ℕ → ℕ → ℕ → ℕ → Result Sight ℕ
 recalled_in ms ks low high key p = cond (ltb p (pairs ks))
-    (recalled_at ms ks low high key (2 * p) (recalled_at ms ks low high key (2 * p + 1) (Unknown p))) (Unknown p)
+    (recalled_at ms ks low high key (2 * p) (recalled_at ms ks low high key (2 * p + 1) (Err p))) (Err p)
 
 -- what its own pair has of it, where all modes fit; with no pairs, nothing
-unfoldable pub recalled : List ℕ → List ℕ → List ℕ → ℕ → ℕ → Recalled
-recalled ms ks t n key = cond (eqb (pairs ks) 0) (Unknown 0)
-    (cond (two_bits t n) (recalled_in ms ks (low_of t n) (high_of t n) key (pair_of (low_of t n) (high_of t n) key)) (Unknown (pairs ks)))
+unfoldable pub recalled : List ℕ → List ℕ → List ℕ → ℕ → ℕ → Result Sight ℕ
+recalled ms ks t n key = cond (eqb (pairs ks) 0) (Err 0)
+    (cond (two_bits t n) (recalled_in ms ks (low_of t n) (high_of t n) key (pair_of (low_of t n) (high_of t n) key)) (Err (pairs ks)))
 
 -- What is remembered ------------------------------------------------------------------------------------------------------
 

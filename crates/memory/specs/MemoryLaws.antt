@@ -2,7 +2,7 @@
 -- 64 bits; what is recalled is held; what is held after one more is put in was held before, or is that one; what an empty memory holds;
 -- and that the contracts leave one outcome. Assumes nothing.
 use Prim.Native.Nat.{ℕ, zero, suc, ◌+◌, ◌-◌, ◌*◌, ◌%◌, ◌<◌, ◌≤◌}
-use Rattle.std.specs.Prelude.{◌≡◌, Bool, ◌&&◌, ◌⊎◌, List, [], set}
+use Rattle.std.specs.Prelude.{◌≡◌, Bool, ◌&&◌, ◌⊎◌, List, [], set, Result, Ok, Err}
 use Rattle.std.proofs.Math.Path.{refl, ap, subst}
 use Rattle.std.proofs.Common.{sym, ◌∙◌, inr, ⊎_elim, mul-le-mul, eq-or-lt_of_le, add-one, length-set, get_or-set_same, get_or-set_other}
 use Rattle.std.proofs.Math.Bool.{true, false, cond}
@@ -13,8 +13,6 @@ use Rattle.std.proofs.Math.Dec.{eqb, ltb}
 use Rattle.std.proofs.Math.ListN.{length, get_or}
 use borrow.Author.Tests.{eqb-true, eqb-false, ltb-true, ltb-false, eq-eqb, ne_eqb, lt-ltb, le-ltb}
 use Rattle.memory.specs.declared.Sight.{Sight}
-use Rattle.memory.specs.declared.Recalled.{Recalled}
-use Rattle.memory.specs.declared.Recalled.TheVariants.{Known, Unknown}
 use Rattle.memory.specs.Memory.{two_bits, padded, bytes, most_bytes, packed, low_of, high_of, slots, pairs, pair_of, mark_of, has, sight_at, recalled_at, recalled_in, recalled, lesser, takes, words_put, remembered_marks, remembered_modes, Fitting, Remembered, Holds, Held, Same}
 
 both_true : (a b : Bool) → (a && b) ≡ true → (a ≡ true) × (b ≡ true)
@@ -224,52 +222,52 @@ sight_mark ks s key e = omega arith
 -- What is recalled --------------------------------------------------------------------------------------------------------
 
 module _ (ms ks t : List ℕ) (n key : ℕ) where
-  pub recalled_none : pairs ks ≡ 0 → Unknown 0 ≡ recalled ms ks t n key
+  pub recalled_none : pairs ks ≡ 0 → Err 0 ≡ recalled ms ks t n key
   unfolding recalled
   recalled_none h = rw (eq-eqb (pairs ks) 0 h)
 
   module _ (some : pairs ks ≡ 0 → ⊥) where
-    pub recalled_unfit : two_bits t n ≡ false → Unknown (pairs ks) ≡ recalled ms ks t n key
+    pub recalled_unfit : two_bits t n ≡ false → Err (pairs ks) ≡ recalled ms ks t n key
     unfolding recalled
     recalled_unfit h = rw (ne_eqb (pairs ks) 0 some, h)
 
-    pub recalled_fit : two_bits t n ≡ true → {low high : ℕ} → low ≡ low_of t n → high ≡ high_of t n → {r : Recalled} → r ≡ recalled_in ms ks low high key (pair_of low high key)
+    pub recalled_fit : two_bits t n ≡ true → {low high : ℕ} → low ≡ low_of t n → high ≡ high_of t n → {r : Result Sight ℕ} → r ≡ recalled_in ms ks low high key (pair_of low high key)
         → r ≡ recalled ms ks t n key
     unfolding recalled
     recalled_fit h l g e = e ∙ (λ i. recalled_in ms ks (l i) (g i) key (pair_of (l i) (g i) key)) ∙ rw (ne_eqb (pairs ks) 0 some, h)
 
 module _ (ms ks : List ℕ) (low high key p : ℕ) where
-  pub recalled_away : pairs ks ≤ p → Unknown p ≡ recalled_in ms ks low high key p
+  pub recalled_away : pairs ks ≤ p → Err p ≡ recalled_in ms ks low high key p
   unfolding recalled_in
   recalled_away h = rw (le-ltb p (pairs ks) h)
 
   module _ (h : p < pairs ks) where
-    pub recalled_first : has ms ks (2 * p) low high key ≡ true → Known (sight_at ks (2 * p)) ≡ recalled_in ms ks low high key p
+    pub recalled_first : has ms ks (2 * p) low high key ≡ true → Ok (sight_at ks (2 * p)) ≡ recalled_in ms ks low high key p
     unfolding recalled_in recalled_at
     recalled_first e = rw (lt-ltb p (pairs ks) h, e)
 
     module _ (not : has ms ks (2 * p) low high key ≡ false) where
-      pub recalled_second : has ms ks (2 * p + 1) low high key ≡ true → Known (sight_at ks (2 * p + 1)) ≡ recalled_in ms ks low high key p
+      pub recalled_second : has ms ks (2 * p + 1) low high key ≡ true → Ok (sight_at ks (2 * p + 1)) ≡ recalled_in ms ks low high key p
       unfolding recalled_in recalled_at
       recalled_second e = rw (lt-ltb p (pairs ks) h, not, e)
 
-      pub recalled_neither : has ms ks (2 * p + 1) low high key ≡ false → Unknown p ≡ recalled_in ms ks low high key p
+      pub recalled_neither : has ms ks (2 * p + 1) low high key ≡ false → Err p ≡ recalled_in ms ks low high key p
       unfolding recalled_in recalled_at
       recalled_neither e = rw (lt-ltb p (pairs ks) h, not, e)
 
 module _ (ms ks t : List ℕ) (n key : ℕ) (x : Sight) where
-  unknown_not : {p : ℕ} → Unknown p ≡ Known x → ⊥
+  unknown_not : {p : ℕ} → Err p ≡ Ok x → ⊥
   unknown_not k = let z : ◌≡◌ {A = ℕ} 0 1 = cc in absurd (omega arith)
 
-  known_same : {y : Sight} → Known y ≡ Known x → y ≡ x
+  known_same : {y : Sight} → ◌≡◌ {A = Result Sight ℕ} (Ok y) (Ok x) → y ≡ x
   known_same k = cc
 
   module _ (fit : two_bits t n ≡ true) where
     -- by whether a slot has the state
-    at_held : (s : ℕ) → s < slots ks → (r : Recalled) → (r ≡ Known x → Held ms ks n key t x) → recalled_at ms ks (low_of t n) (high_of t n) key s r ≡ Known x → Held ms ks n key t x
+    at_held : (s : ℕ) → s < slots ks → (r : Result Sight ℕ) → (r ≡ Ok x → Held ms ks n key t x) → recalled_at ms ks (low_of t n) (high_of t n) key s r ≡ Ok x → Held ms ks n key t x
     unfolding recalled_at has sight_at
     at_held s h r f = by (has ms ks s (low_of t n) (high_of t n) key) refl where
-      by : (b : Bool) → has ms ks s (low_of t n) (high_of t n) key ≡ b → cond b (Known (sight_at ks s)) r ≡ Known x → Held ms ks n key t x
+      by : (b : Bool) → has ms ks s (low_of t n) (high_of t n) key ≡ b → cond b (Ok (sight_at ks s)) r ≡ Ok x → Held ms ks n key t x
       by true e k =
           let p = both_true (eqb (get_or ks s 0 % 65536) key) (eqb (get_or ms (2 * s) 0) (low_of t n) && eqb (get_or ms (2 * s + 1) 0) (high_of t n)) e in
           let w = both_true (eqb (get_or ms (2 * s) 0) (low_of t n)) (eqb (get_or ms (2 * s + 1) 0) (high_of t n)) p.1 in
@@ -289,24 +287,24 @@ module _ (ms ks t : List ℕ) (n key : ℕ) (x : Sight) where
           }
       by false e k = f k
 
-    in_held : (p : ℕ) → recalled_in ms ks (low_of t n) (high_of t n) key p ≡ Known x → Held ms ks n key t x
+    in_held : (p : ℕ) → recalled_in ms ks (low_of t n) (high_of t n) key p ≡ Ok x → Held ms ks n key t x
     unfolding recalled_in
     in_held p = by (ltb p (pairs ks)) refl where
       by : (b : Bool) → ltb p (pairs ks) ≡ b
-          → cond b (recalled_at ms ks (low_of t n) (high_of t n) key (2 * p) (recalled_at ms ks (low_of t n) (high_of t n) key (2 * p + 1) (Unknown p))) (Unknown p) ≡ Known x
+          → cond b (recalled_at ms ks (low_of t n) (high_of t n) key (2 * p) (recalled_at ms ks (low_of t n) (high_of t n) key (2 * p + 1) (Err p))) (Err p) ≡ Ok x
           → Held ms ks n key t x
       by true e k = let l = ltb-true p (pairs ks) e in at_held (2 * p) (omega arith) _ (at_held (2 * p + 1) (omega arith) _ (λ z. absurd (unknown_not z))) k
       by false e k = absurd (unknown_not k)
 
-  pub recalled_held : recalled ms ks t n key ≡ Known x → Held ms ks n key t x
+  pub recalled_held : recalled ms ks t n key ≡ Ok x → Held ms ks n key t x
   unfolding recalled
   recalled_held = some (eqb (pairs ks) 0) where
     fit : (b : Bool) → two_bits t n ≡ b
-        → cond b (recalled_in ms ks (low_of t n) (high_of t n) key (pair_of (low_of t n) (high_of t n) key)) (Unknown (pairs ks)) ≡ Known x → Held ms ks n key t x
+        → cond b (recalled_in ms ks (low_of t n) (high_of t n) key (pair_of (low_of t n) (high_of t n) key)) (Err (pairs ks)) ≡ Ok x → Held ms ks n key t x
     fit true e k = in_held e (pair_of (low_of t n) (high_of t n) key) k
     fit false e k = absurd (unknown_not k)
 
-    some : (b : Bool) → cond b (Unknown 0) (cond (two_bits t n) (recalled_in ms ks (low_of t n) (high_of t n) key (pair_of (low_of t n) (high_of t n) key)) (Unknown (pairs ks))) ≡ Known x
+    some : (b : Bool) → cond b (Err 0) (cond (two_bits t n) (recalled_in ms ks (low_of t n) (high_of t n) key (pair_of (low_of t n) (high_of t n) key)) (Err (pairs ks))) ≡ Ok x
         → Held ms ks n key t x
     some true k = absurd (unknown_not k)
     some false k = fit (two_bits t n) refl k
@@ -449,7 +447,7 @@ empty_held h = let l = h.there in omega arith
 
 -- One outcome -------------------------------------------------------------------------------------------------------------
 
-pub recall_once : (ms ks t : List ℕ) (n key : ℕ) {r r' : Recalled} → r ≡ recalled ms ks t n key → r' ≡ recalled ms ks t n key → r ≡ r'
+pub recall_once : (ms ks t : List ℕ) (n key : ℕ) {r r' : Result Sight ℕ} → r ≡ recalled ms ks t n key → r' ≡ recalled ms ks t n key → r ≡ r'
 recall_once ms ks t n key p q = p ∙ sym q
 
 pub remember_once : {ms ks : List ℕ} {slot : ℕ} {t : List ℕ} {n key : ℕ} {x : Sight} {ms' ks' ms'' ks'' : List ℕ}

@@ -15,13 +15,6 @@ pub struct Sight {
     pub reached: u32,
 }
 
-// What a memory has of a state, or else the pair of slots to put it into.
-#[derive(Clone, Copy)]
-pub enum Recalled {
-    Known(Sight),
-    Unknown(usize),
-}
-
 // So many pairs of slots are used, as far as they are there: of `MARKS` marks and `MODES` words, 168 KiB. To clear more costs a search of
 // few states more than it spares a search of many.
 const PAIRS: u64 = 3584;
@@ -136,38 +129,38 @@ fn sight_at(marks: &[u64], s: usize) -> Sight
 }
 
 // What the pair of the state has of it.
-fn recall_in(modes: &[u64], marks: &[u64], low: u64, high: u64, key: u32) -> Recalled
+fn recall_in(modes: &[u64], marks: &[u64], low: u64, high: u64, key: u32) -> Result<Sight, usize>
     requires { 2 * length marks.now ≤ length modes.now }
     ensures { result ≡ recalled_in modes.now marks.now low high key (pair_of low high key) }
 {
     let pair = pair_of(low, high, key);
     if pair >= marks.len() / 2 {
-        return Recalled::Unknown(pair);
+        return Err(pair);
     }
     if has(modes, marks, 2 * pair, low, high, key) {
         let seen = sight_at(marks, 2 * pair);
-        return Recalled::Known(seen);
+        return Ok(seen);
     }
     if has(modes, marks, 2 * pair + 1, low, high, key) {
         let seen = sight_at(marks, 2 * pair + 1);
-        return Recalled::Known(seen);
+        return Ok(seen);
     }
-    Recalled::Unknown(pair)
+    Err(pair)
 }
 
-// What the memory has of the state with this key and the first n modes of t.
-pub fn recall(modes: &[u64], marks: &[u64], t: &[u8], n: usize, key: u32) -> Recalled
+// What the memory has of the state with this key and the first n modes of t, or else the pair of slots to put it into.
+pub fn recall(modes: &[u64], marks: &[u64], t: &[u8], n: usize, key: u32) -> Result<Sight, usize>
     requires { Fitting modes.now marks.now t.now n key }
     ensures { result ≡ recalled modes.now marks.now t.now n key }
 {
     let among = marks.len() / 2;
     if among == 0 {
-        return Recalled::Unknown(0);
+        return Err(0);
     }
     if fits(t, n) {
         return recall_in(modes, marks, pack(t, 0, n), pack(t, 32, n), key);
     }
-    Recalled::Unknown(among)
+    Err(among)
 }
 
 // What was seen of a state, and its key.

@@ -4,10 +4,9 @@
 -- entry points of `line` and `program`. The others have theirs beside their promises: `judge_unique` (Demands), `named_unique` (NamedDemands), `read_once` and `scan_names_once`
 -- (Reader), `write_once` (Writer), `rewrite_once` (Rewritten), `next_unique` and `named_next_unique` (Following).
 -- Theorems only. Assumes nothing.
-use Rattle.std.specs.Prelude.{ℕ, ◌+◌, List, ◌++◌, ◌≡◌, refl, length, take, drop}
+use Rattle.std.specs.Prelude.{ℕ, ◌+◌, List, ◌++◌, ◌≡◌, refl, length, take, drop, Option, Some, None}
 use Rattle.std.proofs.Common.{sym, ap, ◌∙◌, arith}
-use Rattle.search.specs.declared.Out.{Out}
-use Rattle.search.specs.declared.Out.TheVariants.{Spent, Back}
+use Rattle.search.specs.declared.Trip.{Trip}
 use Rattle.search.specs.Visits.{out_of}
 use Rattle.flow.specs.Cues.{cued, cue_records}
 use Rattle.flow.specs.Drawn.{flow_by}
@@ -38,26 +37,26 @@ line_for_once a = equation_once (AnswerTold a) (line_for a) (λ r e. e)
 ---- What searches ----
 
 -- what a search brings back is told in full
-out_once : (a b : Out) → out_of a ≡ out_of b → a ≡ b
+out_once : (a b : Option Trip) → out_of a ≡ out_of b → a ≡ b
 unfolding out_of
-out_once Spent Spent e = refl
-out_once Spent (Back trip) e = let z : ◌≡◌ {A = ℕ} 0 1 = cc in absurd (omega arith)
-out_once (Back trip) Spent e = let z : ◌≡◌ {A = ℕ} 0 1 = cc in absurd (omega arith)
-out_once (Back trip) (Back trip') e =
+out_once None None e = refl
+out_once None (Some trip) e = let z : ◌≡◌ {A = ℕ} 0 1 = cc in absurd (omega arith)
+out_once (Some trip) None e = let z : ◌≡◌ {A = ℕ} 0 1 = cc in absurd (omega arith)
+out_once (Some trip) (Some trip') e =
     let f : trip.found ≡ trip'.found = cc in
     let d : trip.far ≡ trip'.far = cc in
     let l : trip.left ≡ trip'.left = cc in
-    λ i. Back (record { found = f i; far = d i; left = l i })
+    λ i. Some (record { found = f i; far = d i; left = l i })
 
-pub search_once : {ns xs : List ℕ} {allowance : ℕ} {work : List ℕ} {a b : Out} {after after' : List ℕ}
+pub search_once : {ns xs : List ℕ} {allowance : ℕ} {work : List ℕ} {a b : Option Trip} {after after' : List ℕ}
     → Searched ns xs allowance work a after → Searched ns xs allowance work b after' → (a ≡ b) × (after ≡ after')
 search_once {a = a} {b} p q = (out_once a b (p.out ∙ sym q.out), p.leaves ∙ sym q.leaves)
 
-pub ask_once : {ns xs : List ℕ} {allowance : ℕ} {work qs : List ℕ} {a b : Out} {after after' qs' qs'' : List ℕ}
+pub ask_once : {ns xs : List ℕ} {allowance : ℕ} {work qs : List ℕ} {a b : Option Trip} {after after' qs' qs'' : List ℕ}
     → Asked ns xs allowance work qs a after qs' → Asked ns xs allowance work qs b after' qs'' → (a ≡ b) × (after ≡ after') × (qs' ≡ qs'')
 ask_once {ns} {xs} {qs = qs} p q =
     let o = search_once p.search q.search in
-    (o.0, o.1, p.asks ∙ ap (λ (x : Out). asks_after (flow_by cued ns) (cue_records xs) (out_of x) qs) o.0 ∙ sym q.asks)
+    (o.0, o.1, p.asks ∙ ap (λ (x : Option Trip). asks_after (flow_by cued ns) (cue_records xs) (out_of x) qs) o.0 ∙ sym q.asks)
 
 ---- What writes ----
 

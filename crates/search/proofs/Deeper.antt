@@ -25,11 +25,9 @@ use Rattle.states.specs.Clauses.{Spot}
 use Rattle.states.specs.declared.Role.{Role}
 use Rattle.states.specs.declared.Role.TheVariants.{Plain, Running}
 use Rattle.memory.specs.declared.Sight.{Sight}
-use Rattle.memory.specs.declared.Recalled.TheVariants.{Known as Recall}
 use Rattle.memory.specs.Memory.{Fitting, recalled}
 use Rattle.memory.specs.MemoryLaws.{recalled_held}
-use Rattle.search.specs.declared.Out.{Out}
-use Rattle.search.specs.declared.Out.TheVariants.{Spent, Back}
+use Rattle.std.specs.Prelude.{Option, Some, None, Ok}
 use Rattle.search.specs.declared.Trip.{Trip}
 use Rattle.search.specs.Visits.{state, role_next, out_of, onward, stretches, Known, VisitReady, Used, Strikes, Settled, Memory, key_of, saw_none, Has, Truthful, Learned, KeptOut, quest, AsksAfter, Began, Visited, Tried, Followed, Inner, ends, RightCounts, successor_count, Applied}
 use Rattle.search.specs.Searches.{answered}
@@ -88,7 +86,7 @@ pub asks_spent : (s : State) (rs : List Record) (qs : List ℕ) → AsksAfter s 
 asks_spent s rs qs = record { strikes = strikes_same qs; settles = λ far left e. absurd (no_trip e) }
 
 module _ (ns xs t : List ℕ) (role : Role) (qs : List ℕ) (left : ℕ) (m : Memory) where
-  pub visited_spent : left ≡ 0 → Visited (quest ns xs t role qs left m) t qs m Spent
+  pub visited_spent : left ≡ 0 → Visited (quest ns xs t role qs left m) t qs m None
   unfolding out_of
   visited_spent z = record {
     out = sym (ap (visit_b (cue_records xs) (state ns role t)) z ∙ visit_none (cue_records xs) (state ns role t));
@@ -104,7 +102,7 @@ module _ (ns xs t : List ℕ) (role : Role) (qs : List ℕ) (left : ℕ) (m : Me
         sym (visit_some (state ns role t) r xs' (left - 1)) ∙ ap (λ l. visit_b (cue_records l) (state ns role t) (suc (left - 1))) (sym e) ∙ ap (visit_b (cue_records xs) (state ns role t)) q
 
     -- the records end here
-    pub visited_arrived : (o : Out) {qs' : List ℕ} → length xs ≡ 0 → o ≡ Back (record { found = false; far = 0; left = left - 1 }) → qs' ≡ map (answered (state ns role t) []) qs
+    pub visited_arrived : (o : Option Trip) {qs' : List ℕ} → length xs ≡ 0 → o ≡ Some (record { found = false; far = 0; left = left - 1 }) → qs' ≡ map (answered (state ns role t) []) qs
         → Visited (quest ns xs t role qs left m) t qs' m o
     unfolding out_of
     visited_arrived o {qs'} h e g =
@@ -120,7 +118,7 @@ module _ (ns xs t : List ℕ) (role : Role) (qs : List ℕ) (left : ℕ) (m : Me
 
     module _ (ready : VisitReady ns xs t role) (one : 1 ≤ length xs) where
       -- the last record ends it
-      pub visited_last : (o : Out) → ends role (get_or xs 0 0) ≡ true → out_of o ≡ onward (state ns role t) (get_or xs 0 0) [] (left - 1) → Visited (quest ns xs t role qs left m) t qs m o
+      pub visited_last : (o : Option Trip) → ends role (get_or xs 0 0) ≡ true → out_of o ≡ onward (state ns role t) (get_or xs 0 0) [] (left - 1) → Visited (quest ns xs t role qs left m) t qs m o
       visited_last o h e =
           let r : ℕ = get_or xs 0 0 in
           let d : xs ≡ r ∷ [] = first_rest xs one ∙ ap (λ l. r ∷ l) (ends_alone ns t r (first_low ready one) role (drop 1 xs) h (subst (λ l. Within (state ns role t) (cue_records l)) (first_rest xs one) ready.fits)) in
@@ -132,7 +130,7 @@ module _ (ns xs t : List ℕ) (role : Role) (qs : List ℕ) (left : ℕ) (m : Me
             learned = learned_same ns xs qs m;
           }
 
-      pub visited_tried : (o : Out) (t' qs' : List ℕ) (m' : Memory) → Tried (quest ns xs t role qs (left - 1) m) t' qs' m' o → Visited (quest ns xs t role qs left m) t' qs' m' o
+      pub visited_tried : (o : Option Trip) (t' qs' : List ℕ) (m' : Memory) → Tried (quest ns xs t role qs (left - 1) m) t' qs' m' o → Visited (quest ns xs t role qs left m) t' qs' m' o
       visited_tried o t' qs' m' e = record { out = e.out ∙ visit_on (get_or xs 0 0) (drop 1 xs) (first_rest xs one); used = e.used; asked = e.asked; learned = e.learned }
 
 -- What is remembered of the state ---------------------------------------------------------------------------------------------
@@ -151,7 +149,7 @@ module _ {ns xs t : List ℕ} {role : Role} (ready : VisitReady ns xs t role) (m
       }
 
   -- it is recalled
-  pub visited_known : {qs : List ℕ} → Truthful ns xs qs m → (left : ℕ) {x : Sight} (o : Out) → recalled m.modes m.marks t (count ns) key ≡ Recall x → out_of o ≡ left_of (saw_none x) left
+  pub visited_known : {qs : List ℕ} → Truthful ns xs qs m → (left : ℕ) {x : Sight} (o : Option Trip) → recalled m.modes m.marks t (count ns) key ≡ Ok x → out_of o ≡ left_of (saw_none x) left
       → Visited (quest ns xs t role qs left m) t qs m o
   visited_known {qs} f left {x} o h k =
       let has = subst (λ z. Has ns xs m z t x) e (recalled_held m.modes m.marks t (count ns) key x h) in
@@ -163,7 +161,7 @@ module _ {ns xs t : List ℕ} {role : Role} (ready : VisitReady ns xs t role) (m
       }
 
   -- it is kept
-  pub visited_kept : (qs : List ℕ) (left : ℕ) (t' qs' : List ℕ) (m' m'' : Memory) (o : Out) → Visited (quest ns xs t role qs left m) t' qs' m' o → KeptOut (count ns) key t' left (out_of o) m' m''
+  pub visited_kept : (qs : List ℕ) (left : ℕ) (t' qs' : List ℕ) (m' m'' : Memory) (o : Option Trip) → Visited (quest ns xs t role qs left m) t' qs' m' o → KeptOut (count ns) key t' left (out_of o) m' m''
       → Visited (quest ns xs t role qs left m) t' qs' m'' o
   visited_kept qs left t' qs' m' m'' o v k = record {
     out = v.out;
@@ -184,7 +182,7 @@ module _ {ns xs t : List ℕ} {role : Role} (ready : VisitReady ns xs t role) (t
   same_state = state_same ns ready.sound ready.some t t' same_modes role
 
   -- a second search goes on with the asks of the first
-  pub began_again : (left left' : ℕ) {qs qs' t'' qs'' : List ℕ} {o : Out} → Strikes (state ns role t) (cue_records xs) qs qs' → Began ns xs t' role qs' left' t'' qs'' o → Began ns xs t role qs left' t'' qs'' o
+  pub began_again : (left left' : ℕ) {qs qs' t'' qs'' : List ℕ} {o : Option Trip} → Strikes (state ns role t) (cue_records xs) qs qs' → Began ns xs t' role qs' left' t'' qs'' o → Began ns xs t role qs left' t'' qs'' o
   began_again left left' {qs} {qs'} {t''} {qs''} {o} f b =
       let a : AsksAfter (state ns role t) (cue_records xs) (out_of o) qs' qs'' = subst (λ s. AsksAfter s (cue_records xs) (out_of o) qs' qs'') (sym same_state) b.asked in
       record {
@@ -208,8 +206,8 @@ module _ {ns xs t : List ℕ} {role : Role} (ready : VisitReady ns xs t role) (t
   goes_still a k {into} g = subst (λ s. At (next s (cue_record a)) k into) (sym same_state) g
 
 -- a search of fewer states was enough
-pub began_more : (ns xs t : List ℕ) (role : Role) (qs : List ℕ) (few left : ℕ) {t' qs' : List ℕ} {o : Out} {trip : Trip} → Began ns xs t role qs few t' qs' o → o ≡ Back trip → trip.left ≤ few → few ≤ left
-    → Began ns xs t role qs left t' qs' (Back (record { found = trip.found; far = trip.far; left = left - (few - trip.left) }))
+pub began_more : (ns xs t : List ℕ) (role : Role) (qs : List ℕ) (few left : ℕ) {t' qs' : List ℕ} {o : Option Trip} {trip : Trip} → Began ns xs t role qs few t' qs' o → o ≡ Some trip → trip.left ≤ few → few ≤ left
+    → Began ns xs t role qs left t' qs' (Some (record { found = trip.found; far = trip.far; left = left - (few - trip.left) }))
 unfolding out_of
 began_more ns xs t role qs few left {t'} {qs'} {o} {trip} b e h k = record {
   out = sym (more_left (cue_records xs) (state ns role t) few (sym b.out ∙ ap out_of e) left h k);
@@ -268,20 +266,20 @@ module _ (s : State) (xs : List ℕ) where
     }
 
     -- one more
-    module _ {k : ℕ} {into : State} (at : Successor s xs k into) (o : Out) {qs'' : List ℕ} (asked : AsksAfter into (cue_records (drop 1 xs)) (out_of o) qs' qs'') where
+    module _ {k : ℕ} {into : State} (at : Successor s xs k into) (o : Option Trip) {qs'' : List ℕ} (asked : AsksAfter into (cue_records (drop 1 xs)) (out_of o) qs' qs'') where
       both : Strikes s (cue_records xs) qs qs''
       both = strikes_trans struck (subst (λ l. Strikes s (cue_records l) qs' qs'') (sym (first_rest xs one))
           (strikes_into s (cue_record (get_or xs 0 0)) (cue_records (drop 1 xs)) (at_member at) asked.strikes))
 
-      pub tried_spent : o ≡ Spent → AsksAfter s (cue_records xs) (out_of Spent) qs qs''
+      pub tried_spent : o ≡ None → AsksAfter s (cue_records xs) (out_of None) qs qs''
       unfolding out_of
       tried_spent e = record { strikes = both; settles = λ far left g. absurd (no_trip g) }
 
-      pub tried_found : (far left : ℕ) → AsksAfter s (cue_records xs) (out_of (Back (record { found = true; far = far; left = left }))) qs qs''
+      pub tried_found : (far left : ℕ) → AsksAfter s (cue_records xs) (out_of (Some (record { found = true; far = far; left = left }))) qs qs''
       unfolding out_of
       tried_found far left = record { strikes = both; settles = λ far left g. absurd (let z : ◌≡◌ {A = ℕ} 0 1 = cc g in omega arith) }
 
-      pub tried_on : Tries s xs qs' k → (trip : Trip) → o ≡ Back trip → trip.found ≡ false → Strikes s (cue_records xs) qs qs'' × Tries s xs qs'' (k + 1)
+      pub tried_on : Tries s xs qs' k → (trip : Trip) → o ≡ Some trip → trip.found ≡ false → Strikes s (cue_records xs) qs qs'' × Tries s xs qs'' (k + 1)
       unfolding out_of
       tried_on tried trip e none = (
         both,
@@ -404,7 +402,7 @@ module _ {ns xs d : List ℕ} {role : Role} (ready : VisitReady ns xs d role) (o
       pub visit_asked : VisitReady ns xs' part' role'
       visit_asked = subst (λ l. VisitReady ns l part' role') (sym er) (subst (λ l. VisitReady ns (drop 1 xs) l role') (sym part'_is) (subst (λ o. VisitReady ns (drop 1 xs) p o) (sym eo) deeper))
 
-      pub followed : (qs : List ℕ) (left : ℕ) (o : Out) (q qs' : List ℕ) (m m' : Memory) → Visited (quest ns xs' part' role' qs left m) q qs' m' o
+      pub followed : (qs : List ℕ) (left : ℕ) (o : Option Trip) (q qs' : List ℕ) (m m' : Memory) → Visited (quest ns xs' part' role' qs left m) q qs' m' o
           → Followed (quest ns xs d role qs left m) (put_mid (2 * count ns) (length y - 2 * count ns) y q) qs' m' o k
       followed qs left o q qs' m m' v =
           let v' : Visited (quest ns (drop 1 xs) p (role_next role (get_or xs 0 0)) qs left m) q qs' m' o

@@ -23,8 +23,7 @@ use Rattle.memory.specs.declared.Sight.{Sight}
 use Rattle.memory.specs.Memory.{slots, Fitting, Remembered, Held, Same}
 use Rattle.memory.specs.MemoryLaws.{remembered_held, zeros_held}
 use Rattle.search.specs.declared.Trip.{Trip}
-use Rattle.search.specs.declared.Out.{Out}
-use Rattle.search.specs.declared.Out.TheVariants.{Spent, Back}
+use Rattle.std.specs.Prelude.{Option, Some, None}
 use Rattle.search.specs.Visits.{state, out_of, Memory, memory, role_number, key_of, saw_none, last, Has, Strikes, Settled, Asking, Knows, Truthful, SearchedState, Learned, Added, KeptOut}
 use Rattle.search.proofs.Asks.{asking_still, settled_still}
 use Rattle.search.proofs.Stretches.{state_same}
@@ -176,7 +175,7 @@ module _ {ns xs qs : List ℕ} {m : Memory} (f : Truthful ns xs qs m) (role : Ro
   found : Finds ns xs qs role t x
   found = let k = f.right role (length xs) (omega arith) t x h in subst (λ l. Finds ns l qs role t x) (last_all xs) (k.saw, k.settled)
 
-  pub recalled_out : (o : Out) → out_of o ≡ left_of (saw_none x) left → out_of o ≡ visit_b (cue_records xs) (state ns role t) left
+  pub recalled_out : (o : Option Trip) → out_of o ≡ left_of (saw_none x) left → out_of o ≡ visit_b (cue_records xs) (state ns role t) left
   recalled_out o e = e ∙ ap (λ z. left_of z left) (sym found.0) ∙ sym (visit_left (cue_records xs) (state ns role t) left)
 
   pub recalled_settled : Settled (state ns role t) (cue_records xs) qs
@@ -184,17 +183,17 @@ module _ {ns xs qs : List ℕ} {m : Memory} (f : Truthful ns xs qs m) (role : Ro
 
 -- the code's two ways
 module _ (x : Sight) (left : ℕ) where
-  pub known_spent : left < x.entered → out_of Spent ≡ left_of (saw_none x) left
+  pub known_spent : left < x.entered → out_of None ≡ left_of (saw_none x) left
   unfolding out_of left_of
   known_spent h = sym (ap (λ c. cond c (back false x.reached (left - x.entered)) spent) (lt-leb x.entered left h))
 
-  pub known_back : x.entered ≤ left → out_of (Back (record { found = false; far = x.reached; left = left - x.entered })) ≡ left_of (saw_none x) left
+  pub known_back : x.entered ≤ left → out_of (Some (record { found = false; far = x.reached; left = left - x.entered })) ≡ left_of (saw_none x) left
   unfolding out_of left_of
   known_back h = sym (ap (λ c. cond c (back false x.reached (left - x.entered)) spent) (le-leb x.entered left h))
 
 pub added : {ms ks : List ℕ} {t : List ℕ} {n key slot left : ℕ} {trip : Trip} {x₀ : Sight} {ms' ks' : List ℕ}
     → Fitting ms ks t n key → trip.left ≤ left → trip.found ≡ false → x₀.entered ≡ left - trip.left → x₀.reached ≡ trip.far
-    → Remembered ms ks slot t n key x₀ ms' ks' → KeptOut n key t left (out_of (Back trip)) (memory ms ks) (memory ms' ks')
+    → Remembered ms ks slot t n key x₀ ms' ks' → KeptOut n key t left (out_of (Some trip)) (memory ms ks) (memory ms' ks')
 unfolding out_of
 added {ms} {ks} {t} {n} {key} {slot} {left} {trip} {x₀} {ms'} {ks'} fit less none ee er r = record { adds = λ key' t' x h. by key' t' x (remembered_held fit r h) }
   where

@@ -6,6 +6,8 @@ use mathlib.Core.List.{List, [], ◌∷◌}
 use native.Mathlib.Omega.{arith}
 use native.Mathlib.Numerals.{add-one}
 use lib.ListN.{length, drop, drop_of_length-le, length-map}
+use Rattle.std.specs.Ordering.{nat_cmp, ord_max}
+use Rattle.std.proofs.lemmas.Bool.Decides.{nat_tests}
 use Rattle.calculus.specs.Records.{Record, State}
 use Rattle.calculus.specs.Search.{next}
 use Rattle.calculus.specs.Spending.{Out as Found, spent, back, bump, chain, tries_b, visit_b}
@@ -14,9 +16,12 @@ use Rattle.tallies.specs.Capped.{cap, most}
 use Rattle.tallies.specs.Places.{At}
 use Rattle.tallies.specs.PlacesLaws.{at_drop}
 use Rattle.search.specs.declared.Trip.{Trip}
-use Rattle.search.specs.declared.Out.{Out}
-use Rattle.search.specs.declared.Out.TheVariants.{Spent, Back}
+use Rattle.std.specs.Prelude.{Option, Some, None}
 use Rattle.search.specs.Visits.{out_of, onward}
+
+-- the greater of two, as the code tells
+pub greater : (a b : ℕ) → ord_max nat_cmp a b ≡ max a b
+greater a b = grind (arith, nat_tests)
 
 -- What it costs -----------------------------------------------------------------------------------------------------------
 
@@ -63,7 +68,7 @@ pub record Cost (e n : ℕ) (trip : Trip) : Type 0 where
   pub far : trip.far ≤ e
   pub left : trip.left < n
 
-pub visit_cost : (xs : List Record) (s : State) (n : ℕ) (o : Out) (trip : Trip) → out_of o ≡ visit_b xs s n → o ≡ Back trip → Cost (length xs) n trip
+pub visit_cost : (xs : List Record) (s : State) (n : ℕ) (o : Option Trip) (trip : Trip) → out_of o ≡ visit_b xs s n → o ≡ Some trip → Cost (length xs) n trip
 unfolding out_of visit_b
 visit_cost xs s n o trip e g = by n (sym (ap out_of g) ∙ e)
   where
@@ -103,7 +108,7 @@ module _ (s : State) (r : ℕ) (xs : List ℕ) (left : ℕ) where
     pub turn_all : cap (length (next s (cue_record r))) ≤ k → left < most → length (next s (cue_record r)) ≤ k
     turn_all h l = omega (arith, t.spends)
 
-    pub turn_over : cap (length (next s (cue_record r))) ≤ k → left < most → out_of (Back (record { found = false; far = far; left = rest })) ≡ onward s r xs left
+    pub turn_over : cap (length (next s (cue_record r))) ≤ k → left < most → out_of (Some (record { found = false; far = far; left = rest })) ≡ onward s r xs left
     unfolding out_of bump tries_b
     turn_over h l =
         let few = turn_all h l in
@@ -111,7 +116,7 @@ module _ (s : State) (r : ℕ) (xs : List ℕ) (left : ℕ) where
         sym (t.same ∙ ap (λ l. bump far (tries_b (λ t m. visit_b (cue_records xs) t m) l rest)) (drop_of_length-le (next s (cue_record r)) few) ∙ ap (λ d. back false d rest) z)
 
     -- the k-th successor is entered
-    module _ {into : State} (o : Out) (a : At (next s (cue_record r)) k into) (e : out_of o ≡ visit_b (cue_records xs) into rest) where
+    module _ {into : State} (o : Option Trip) (a : At (next s (cue_record r)) k into) (e : out_of o ≡ visit_b (cue_records xs) into rest) where
       abbrev others : ℕ → Found
       others m = tries_b (λ t m. visit_b (cue_records xs) t m) (drop (suc k) (next s (cue_record r))) m
 
@@ -121,11 +126,11 @@ module _ (s : State) (r : ℕ) (xs : List ℕ) (left : ℕ) where
           ∙ ap (λ l. bump far (tries_b (λ t m. visit_b (cue_records xs) t m) l rest)) (at_drop a)
           ∙ ap (λ x. bump far (chain x others)) (sym e)
 
-      pub turn_spent : o ≡ Spent → out_of Spent ≡ onward s r xs left
+      pub turn_spent : o ≡ None → out_of None ≡ onward s r xs left
       unfolding out_of chain bump
       turn_spent g = sym (turned ∙ ap (λ x. bump far (chain (out_of x) others)) g)
 
-      module _ (trip : Trip) (g : o ≡ Back trip) where
+      module _ (trip : Trip) (g : o ≡ Some trip) where
         came : onward s r xs left ≡ bump far (chain (back trip.found trip.far trip.left) others)
         unfolding out_of
         came = turned ∙ ap (λ x. bump far (chain (out_of x) others)) g
@@ -133,7 +138,7 @@ module _ (s : State) (r : ℕ) (xs : List ℕ) (left : ℕ) where
         pub turn_cost : Cost (length xs) rest trip
         turn_cost = subst (λ l. Cost l rest trip) (length-map xs cue_record) (visit_cost (cue_records xs) into rest o trip e g)
 
-        pub turn_found : (far' : ℕ) → far' ≡ max far (trip.far + 1) → trip.found ≡ true → out_of (Back (record { found = true; far = far'; left = trip.left })) ≡ onward s r xs left
+        pub turn_found : (far' : ℕ) → far' ≡ max far (trip.far + 1) → trip.found ≡ true → out_of (Some (record { found = true; far = far'; left = trip.left })) ≡ onward s r xs left
         unfolding out_of chain bump
         turn_found far' q b =
             let w : far' ≡ max far (suc trip.far) = omega (arith, q) in

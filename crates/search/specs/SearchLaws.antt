@@ -1,7 +1,7 @@
 -- What ties the code of `search` to what it leaves: all modes 0 are the drawn flow (`state_drawn`), what a search asks is what a visit
 -- asks (`visit_ready`), and clearing, searching and clearing again bring back what the counted search does, leave the bytes as promised,
 -- and answer what is asked: all of it where the search went through (`asked_all`), and else nothing (`asked_nothing`). Assumes nothing.
-use Rattle.std.specs.Prelude.{ℕ, zero, suc, ◌+◌, ◌*◌, ◌-◌, ◌<◌, ◌≤◌, ◌≡◌, Bool, true, false, length, get_or, set}
+use Rattle.std.specs.Prelude.{ℕ, zero, suc, ◌+◌, ◌*◌, ◌-◌, ◌<◌, ◌≤◌, ◌≡◌, Bool, true, false, length, get_or, set, Option, Some, None}
 use Rattle.std.proofs.Math.Path.{refl, sym, ap}
 use Rattle.std.proofs.Common.{◌∙◌, subst, mul-le-mul, mul-suc, add-one, length-append, length-drop, drop_at, le-leb}
 use Rattle.std.proofs.Math.Bool.{cond}
@@ -32,8 +32,7 @@ use Rattle.states.specs.declared.Role.TheVariants.{Plain, Running}
 use Rattle.states.specs.State.{Part, part, modes}
 use Rattle.states.specs.StateLaws.{part_frame}
 use Rattle.states.specs.DrawnLaws.{none_done, Means, drawn_means}
-use Rattle.search.specs.declared.Out.{Out}
-use Rattle.search.specs.declared.Out.TheVariants.{Spent, Back}
+use Rattle.search.specs.declared.Trip.{Trip}
 use Rattle.search.specs.Room.{room_of, cleared}
 use Rattle.search.specs.Visits.{state, out_of, stretches, VisitReady, Used, follows_mark, Answers, as_was, can, AsksAfter, Began}
 use Rattle.search.specs.Searches.{role_of, LeftWithin, SearchReady, Searched, answered, went_through, asks_after, Asked}
@@ -174,13 +173,13 @@ visit_left [] s (suc n) = omega arith
 visit_left (r ∷ xs) s zero = tt
 visit_left (r ∷ xs) s (suc n) = lower_left (suc n) n (tries_b (λ t m. visit_b xs t m) (next s r) n) (omega arith) (tries_left (λ t m. visit_b xs t m) (λ t m. visit_left xs t m) (next s r) n)
 
-out_within : (allowance : ℕ) (o : Out) → LeftOver allowance (out_of o) → LeftWithin allowance o
+out_within : (allowance : ℕ) (o : Option Trip) → LeftOver allowance (out_of o) → LeftWithin allowance o
 unfolding LeftOver out_of
-out_within allowance Spent l = l
-out_within allowance (Back trip) l = l
+out_within allowance None l = l
+out_within allowance (Some trip) l = l
 
 -- what is left of the allowance that a visit had
-pub visit_within : (xs : List Record) (s : State) (n : ℕ) (o : Out) → out_of o ≡ visit_b xs s n → LeftWithin n o
+pub visit_within : (xs : List Record) (s : State) (n : ℕ) (o : Option Trip) → out_of o ≡ visit_b xs s n → LeftWithin n o
 visit_within xs s n o e = out_within n o (subst (LeftOver n) (sym e) (visit_left xs s n))
 
 ---- What is asked ----
@@ -238,7 +237,7 @@ module _ {ns xs work : List ℕ} (asked : SearchReady ns xs work) where
     visit_ready = subst (VisitReady ns xs t) (sym d) (subst (λ (l : List ℕ). VisitReady ns xs l (role_of ns)) (sym e) (ready asked))
 
     -- what the search leaves there and brings back, and what is cleared after it
-    module _ {allowance : ℕ} {qs t' qs' : List ℕ} {o : Out} (v : Began ns xs t role qs allowance t' qs' o)
+    module _ {allowance : ℕ} {qs t' qs' : List ℕ} {o : Option Trip} (v : Began ns xs t role qs allowance t' qs' o)
         {room : ℕ} {after : List ℕ} (er : room ≡ room_of (count ns) (length xs)) (ea : after ≡ cleared room t') where
       drawn : state ns role t ≡ flow_by cued ns
       drawn = (λ z. state ns (d z) (e z)) ∙ state_clear asked

@@ -1,6 +1,6 @@
 -- What a search of a whole flow asks and leaves: a table that checks 1 to 9 passed, the cues of no more records than its root can
 -- take, and room. Definitions only. Assumes nothing.
-use Rattle.std.specs.Prelude.{ℕ, ◌<◌, ◌≤◌, ◌≡◌, Bool, false, not, cond, List, map, leb, length, get_or, replicate}
+use Rattle.std.specs.Prelude.{ℕ, ◌<◌, ◌≤◌, ◌≡◌, Bool, false, not, cond, List, map, leb, length, get_or, replicate, Option, Some, None}
 use Rattle.calculus.specs.Records.{Record, State}
 use Rattle.calculus.specs.Within.{Within}
 use Rattle.calculus.specs.Ahead.{may_follow}
@@ -13,8 +13,7 @@ use Rattle.flow.specs.Drawn.{flow_by}
 use Rattle.states.specs.declared.Sense.TheVariants.{Drawn}
 use Rattle.states.specs.declared.Role.{Role}
 use Rattle.states.specs.declared.Role.TheVariants.{Plain, Running}
-use Rattle.search.specs.declared.Out.{Out}
-use Rattle.search.specs.declared.Out.TheVariants.{Spent, Back}
+use Rattle.search.specs.declared.Trip.{Trip}
 use Rattle.search.specs.Room.{room_of, cleared}
 use Rattle.search.specs.Visits.{out_of, follows_mark}
 
@@ -23,9 +22,9 @@ unfoldable pub role_of : List ℕ → Role
 role_of ns = cond (is_standard (node ns (root ns))) (Plain Drawn) Running
 
 -- what is left is no more than was allowed
-abbrev pub LeftWithin : ℕ → Out → Type 0
-LeftWithin allowance Spent = Unit {0}
-LeftWithin allowance (Back trip) = trip.left ≤ allowance
+abbrev pub LeftWithin : ℕ → Option Trip → Type 0
+LeftWithin allowance None = Unit {0}
+LeftWithin allowance (Some trip) = trip.left ≤ allowance
 
 pub record SearchReady (ns xs work : List ℕ) : Type 0 where
   pub table : FineTable ns
@@ -35,7 +34,7 @@ pub record SearchReady (ns xs work : List ℕ) : Type 0 where
   pub room : room_of (count ns) (length xs) ≤ length work
 
 -- what the search of the drawn flow brings back, and what becomes of the work bytes
-pub record Searched (ns xs : List ℕ) (allowance : ℕ) (work : List ℕ) (o : Out) (after : List ℕ) : Type 0 where
+pub record Searched (ns xs : List ℕ) (allowance : ℕ) (work : List ℕ) (o : Option Trip) (after : List ℕ) : Type 0 where
   pub out : out_of o ≡ visit_b (cue_records xs) (flow_by cued ns) allowance
   pub leaves : after ≡ cleared (room_of (count ns) (length xs)) work
 
@@ -54,6 +53,6 @@ unfolding answered went_through
 asks_after s rs o qs = cond (went_through o) (map (answered s rs) qs) (replicate (length qs) 0)
 
 -- the search with asks
-pub record Asked (ns xs : List ℕ) (allowance : ℕ) (work qs : List ℕ) (o : Out) (after qs' : List ℕ) : Type 0 where
+pub record Asked (ns xs : List ℕ) (allowance : ℕ) (work qs : List ℕ) (o : Option Trip) (after qs' : List ℕ) : Type 0 where
   pub search : Searched ns xs allowance work o after
   pub asks : qs' ≡ asks_after (flow_by cued ns) (cue_records xs) (out_of o) qs

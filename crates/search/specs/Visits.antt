@@ -1,7 +1,7 @@
 -- What the functions of the counted search promise: the state that a stretch of the work bytes holds in a role, what a search
 -- brings back and what it remembers, and for each function what it asks and what it leaves, as records that the contracts name.
 -- Definitions only; the search itself and its count are defined in the crate calculus (Search, Spending). Assumes nothing.
-use Rattle.std.specs.Prelude.{ℕ, suc, ◌+◌, ◌*◌, ◌-◌, ◌<◌, ◌≤◌, ◌≡◌, Bool, false, cond, List, ◌⊎◌, T, eqb, ltb, leb, length, get_or, take, drop}
+use Rattle.std.specs.Prelude.{ℕ, suc, ◌+◌, ◌*◌, ◌-◌, ◌<◌, ◌≤◌, ◌≡◌, Bool, false, cond, List, ◌⊎◌, T, eqb, ltb, leb, length, get_or, take, drop, Option, Some, None}
 use Rattle.calculus.specs.Term.{Closing, done, withdrawn, failed}
 use Rattle.calculus.specs.Records.{Record, State, std, cmp}
 use Rattle.calculus.specs.Within.{Within}
@@ -22,8 +22,7 @@ use Rattle.states.specs.Rows.{notes}
 use Rattle.states.specs.Clauses.{Sound, Kept, scene, noted_at}
 use Rattle.memory.specs.declared.Sight.{Sight}
 use Rattle.memory.specs.Memory.{slots, Held, Same}
-use Rattle.search.specs.declared.Out.{Out}
-use Rattle.search.specs.declared.Out.TheVariants.{Spent, Back}
+use Rattle.search.specs.declared.Trip.{Trip}
 
 -- States ----------------------------------------------------------------------------------------------------------------
 
@@ -37,9 +36,9 @@ unfoldable pub role_next : Role → ℕ → Role
 role_next (Plain s) r = Plain s
 role_next Running r = cond (ltb r done_cue) Running (Plain Undoing)
 
-unfoldable pub out_of : Out → Found
-out_of Spent = spent
-out_of (Back trip) = back trip.found trip.far trip.left
+unfoldable pub out_of : Option Trip → Found
+out_of None = spent
+out_of (Some trip) = back trip.found trip.far trip.left
 
 -- the closing that a cue above those of events is
 abbrev pub closing_of : ℕ → Closing
@@ -198,13 +197,13 @@ pub record AsksAfter (s : State) (rs : List Record) (o : Found) (qs qs' : List �
   pub settles : (far left : ℕ) → o ≡ back false far left → Settled s rs qs'
 
 -- of a search from a state, whatever is remembered
-pub record Began (ns xs t : List ℕ) (role : Role) (qs : List ℕ) (left : ℕ) (t' qs' : List ℕ) (o : Out) : Type 0 where
+pub record Began (ns xs t : List ℕ) (role : Role) (qs : List ℕ) (left : ℕ) (t' qs' : List ℕ) (o : Option Trip) : Type 0 where
   pub out : out_of o ≡ visit_b (cue_records xs) (state ns role t) left
   pub used : Used (count ns) (suc (length xs)) t t'
   pub asked : AsksAfter (state ns role t) (cue_records xs) (out_of o) qs qs'
 
 -- what comes of it: the work bytes t', the asks qs', the memory m', and the answer o
-module _ (q : Quest) (t' qs' : List ℕ) (m' : Memory) (o : Out) where
+module _ (q : Quest) (t' qs' : List ℕ) (m' : Memory) (o : Option Trip) where
   abbrev pub QuestUsed : Type 0
   QuestUsed = Used (count q.ns) (suc (length q.cues)) q.t t'
 

@@ -3,7 +3,7 @@
 // is for those that call it.
 #![tactic(auto)]
 
-ghost use Rattle.std.specs.Prelude.{◌≡◌, [], ◌∷◌, map, ◌+◌, ◌*◌, ◌-◌, ◌<◌, ◌≤◌, max, length, get_or, replicate, true, false};
+ghost use Rattle.std.specs.Prelude.{◌≡◌, [], ◌∷◌, map, ◌+◌, ◌*◌, ◌-◌, ◌<◌, ◌≤◌, length, get_or, replicate, true, false, Some};
 ghost use Rattle.std.proofs.Math.Seq.{paste};
 ghost use Rattle.calculus.specs.Records.{Fits, over};
 ghost use Rattle.calculus.specs.Search.{next};
@@ -16,27 +16,21 @@ ghost use Rattle.tallies.specs.Capped.{most};
 ghost use Rattle.tallies.specs.Formulas.{closing};
 ghost use Rattle.states.specs.Clauses.{Spot};
 ghost use Rattle.memory.specs.Memory.{Fitting};
-ghost use Rattle.search.specs.declared.Out.TheVariants.{Back};
 ghost use Rattle.search.specs.Room.{room_of, cleared};
 ghost use Rattle.search.specs.Searches.{role_of, LeftWithin, SearchReady, Searched, answered, went_through, Asked};
 ghost use Rattle.search.specs.Visits.{state, role_next, out_of, closing_of, ends_by, onward, VisitReady, Asking, memory, key_of, saw_none, Truthful, KeptOut, quest, Began, Visited, Tried, Followed, Inner, ends, RightCounts, successor_count, SuccessorsCounted, Applied};
 
-use memory::{Recalled, Sight};
+use memory::Sight;
 use states::{Role, Sense};
 use tallies::{View, Weight};
 
-// What a search brings back: whether it found the end, how many records at most it followed, and what is left of the allowance.
+// What a search brings back, unless its allowance is used up: whether it found the end, how many records at most it followed, and what is
+// left of the allowance.
 #[derive(Clone, Copy)]
 pub struct Trip {
     pub found: bool,
     pub far: u32,
     pub left: u32,
-}
-
-#[derive(Clone, Copy)]
-pub enum Out {
-    Spent,
-    Back(Trip),
 }
 
 // An ask whose record can follow. No cue is as low, and neither is 0, which asks nothing.
@@ -176,22 +170,22 @@ fn can_end(ns: &[u16], t: &[u8], cue: u64, role: Role) -> bool
 }
 
 // The last record, a closing: nothing left, if the root can end so.
-fn finish(ns: &[u16], t: &[u8], cue: u64, role: Role, left: u32) -> Out
+fn finish(ns: &[u16], t: &[u8], cue: u64, role: Role, left: u32) -> Option<Trip>
     requires spot { Spot ns.now t.now (root ns.now) }
     requires in_bounds { (3 ≤ length ns.now) × Fits (state ns.now role t.now) (cue_records (cue ∷ [])) }
     ensures { out_of result ≡ onward (state ns.now role t.now) cue [] left }
 {
     if !can_end(ns, t, cue, role) {
-        return Out::Back(Trip {
+        return Some(Trip {
             found: false,
             far: 0,
             left: left,
         });
     }
     if left == 0 {
-        Out::Spent
+        None
     } else {
-        Out::Back(Trip {
+        Some(Trip {
             found: true,
             far: 1,
             left: left - 1,
@@ -243,14 +237,14 @@ fn gather(ns: &[u16], t: &[u8], role: Role, asks: &mut [u64])
 }
 
 // The records end here: what is asked is answered, and there is no more to follow.
-fn arrive(ns: &[u16], t: &[u8], role: Role, asks: &mut [u64], left: u32) -> Out
+fn arrive(ns: &[u16], t: &[u8], role: Role, asks: &mut [u64], left: u32) -> Option<Trip>
     requires spot { Spot ns.now t.now (root ns.now) }
     requires in_bounds { (3 ≤ length ns.now) × Asking asks.old }
-    ensures value { result ≡ Back (record { found = false; far = 0; left = left }) }
+    ensures value { result ≡ Some (record { found = false; far = 0; left = left }) }
     ensures asked { asks.new ≡ map (answered (state ns.now role t.now) []) asks.old }
 {
     gather(ns, t, role, asks);
-    Out::Back(Trip {
+    Some(Trip {
         found: false,
         far: 0,
         left: left,
@@ -273,16 +267,14 @@ fn key_of(records: usize, role: Role) -> u32
 }
 
 // What comes of a state that is remembered: all that its search entered is spent at once.
-fn known(seen: Sight, left: u32) -> Out
+fn known(seen: Sight, left: u32) -> Option<Trip>
     ensures { out_of result ≡ left_of (saw_none seen) left }
 {
-    if left < seen.entered {
-        return Out::Spent;
-    }
-    Out::Back(Trip {
+    let rest = left.checked_sub(seen.entered)?;
+    Some(Trip {
         found: false,
         far: seen.reached,
-        left: left - seen.entered,
+        left: rest,
     })
 }
 
@@ -299,7 +291,7 @@ fn keep_trip(
 )
     requires fitting { Fitting modes.old marks.old t.now n key }
     requires left_le_left { trip.left ≤ left }
-    ensures { KeptOut n key t.now left (out_of (Back trip)) (memory modes.old marks.old) (memory modes.new marks.new) }
+    ensures { KeptOut n key t.now left (out_of (Some trip)) (memory modes.old marks.old) (memory modes.new marks.new) }
 {
     if !trip.found {
         let seen = Sight {
@@ -312,7 +304,7 @@ fn keep_trip(
 
 // What came of a state is remembered, if its search was over and found no end.
 fn keep(
-    out: Out,
+    out: Option<Trip>,
     left: u32,
     modes: &mut [u64],
     marks: &mut [u64],
@@ -325,9 +317,8 @@ fn keep(
     requires left_within { LeftWithin left out }
     ensures { KeptOut n key t.now left (out_of out) (memory modes.old marks.old) (memory modes.new marks.new) }
 {
-    match out {
-        Out::Spent => {}
-        Out::Back(trip) => keep_trip(trip, left, modes, marks, slot, t, n, key),
+    if let Some(trip) = out {
+        keep_trip(trip, left, modes, marks, slot, t, n, key);
     }
 }
 
@@ -342,7 +333,7 @@ fn visit(
     left: u32,
     modes: &mut [u64],
     marks: &mut [u64],
-) -> Out
+) -> Option<Trip>
     requires visit_ready { VisitReady ns.now cues.now work.old role }
     requires truthful { Truthful ns.now cues.now asks.old (memory modes.old marks.old) }
     ensures { Visited (quest ns.now cues.now work.old role asks.old left (memory modes.old marks.old)) work.new asks.new (memory modes.new marks.new) result }
@@ -350,8 +341,8 @@ fn visit(
     let n = ns.len() / 3;
     let key = key_of(cues.len(), role);
     match memory::recall(modes, marks, work, n, key) {
-        Recalled::Known(seen) => known(seen, left),
-        Recalled::Unknown(slot) => {
+        Ok(seen) => known(seen, left),
+        Err(slot) => {
             let out = enter(ns, cues, work, role, asks, left, modes, marks);
             keep(out, left, modes, marks, slot, work, n, key);
             out
@@ -370,13 +361,13 @@ fn enter(
     left: u32,
     modes: &mut [u64],
     marks: &mut [u64],
-) -> Out
+) -> Option<Trip>
     requires visit_ready { VisitReady ns.now cues.now work.old role }
     requires truthful { Truthful ns.now cues.now asks.old (memory modes.old marks.old) }
     ensures { Visited (quest ns.now cues.now work.old role asks.old left (memory modes.old marks.old)) work.new asks.new (memory modes.new marks.new) result }
 {
     if left == 0 {
-        return Out::Spent;
+        return None;
     }
     if cues.len() == 0 {
         return arrive(ns, work, role, asks, left - 1);
@@ -386,14 +377,6 @@ fn enter(
     } else {
         visit_each(ns, cues, work, role, asks, left - 1, modes, marks)
     }
-}
-
-// How many records at most were followed: so far, or by way of a successor, whose own record counts too.
-fn further(far: u32, below: u32) -> u32
-    requires { below < 4294967295 }
-    ensures { result ≡ max far (below + 1) }
-{
-    if far < below + 1 { below + 1 } else { far }
 }
 
 // Whether a standard part closes: then nothing is left of it.
@@ -417,7 +400,7 @@ fn visit_each(
     left: u32,
     modes: &mut [u64],
     marks: &mut [u64],
-) -> Out
+) -> Option<Trip>
     requires visit_ready { VisitReady ns.now cues.now work.old role }
     requires truthful { Truthful ns.now cues.now asks.old (memory modes.old marks.old) }
     requires in_bounds { (1 ≤ length cues.now) × (left < most) }
@@ -444,7 +427,7 @@ fn try_each(
     c: &[u32; 64],
     d: &[u32],
     many: u32,
-) -> Out
+) -> Option<Trip>
     requires visit_ready { VisitReady ns.now cues.now work.old role }
     requires truthful { Truthful ns.now cues.now asks.old (memory modes.old marks.old) }
     requires in_bounds { (1 ≤ length cues.now) × (left < most) }
@@ -453,29 +436,22 @@ fn try_each(
     requires many_is { many ≡ successor_count ns.now role (get_or cues.now 0 0) work.old }
     ensures { Tried (quest ns.now cues.now work.old role asks.old left (memory modes.old marks.old)) work.new asks.new (memory modes.new marks.new) result }
 {
-    let mut k = 0;
     let mut far = 0;
     let mut rest = left;
-    while k < many {
-        match follow(ns, cues, c, d, work, role, asks, k, rest, modes, marks) {
-            Out::Spent => {
-                return Out::Spent;
-            }
-            Out::Back(trip) => {
-                far = further(far, trip.far);
-                rest = trip.left;
-                if trip.found {
-                    return Out::Back(Trip {
-                        found: true,
-                        far: far,
-                        left: rest,
-                    });
-                }
-            }
+    for k in 0..many {
+        let trip = follow(ns, cues, c, d, work, role, asks, k, rest, modes, marks)?;
+        // the record into the successor counts too
+        far = far.max(trip.far + 1);
+        rest = trip.left;
+        if trip.found {
+            return Some(Trip {
+                found: true,
+                far: far,
+                left: rest,
+            });
         }
-        k += 1;
     }
-    Out::Back(Trip {
+    Some(Trip {
         found: false,
         far: far,
         left: rest,
@@ -509,7 +485,7 @@ fn follow(
     left: u32,
     modes: &mut [u64],
     marks: &mut [u64],
-) -> Out
+) -> Option<Trip>
     requires visit_ready { VisitReady ns.now cues.now work.old role }
     requires truthful { Truthful ns.now cues.now asks.old (memory modes.old marks.old) }
     requires in_bounds { 1 ≤ length cues.now }
@@ -579,7 +555,7 @@ fn first_search(
     role: Role,
     asks: &mut [u64],
     allowance: u32,
-) -> Out
+) -> Option<Trip>
     requires { VisitReady ns.now cues.now work.old role × Asking asks.old }
     ensures { Began ns.now cues.now work.old role asks.old allowance work.new asks.new result }
 {
@@ -605,7 +581,7 @@ fn long_search(
     role: Role,
     asks: &mut [u64],
     allowance: u32,
-) -> Out
+) -> Option<Trip>
     requires { VisitReady ns.now cues.now work.old role × Asking asks.old }
     ensures { Began ns.now cues.now work.old role asks.old allowance work.new asks.new result }
 {
@@ -617,16 +593,16 @@ fn long_search(
 }
 
 // What came of a search of fewer states, with the whole allowance.
-fn with_more(trip: Trip, few: u32, allowance: u32) -> Out
+fn with_more(trip: Trip, few: u32, allowance: u32) -> Trip
     requires { (trip.left ≤ few) × (few ≤ allowance) }
-    ensures { result ≡ Back (record { found = trip.found; far = trip.far; left = allowance - (few - trip.left) }) }
+    ensures { result ≡ record { found = trip.found; far = trip.far; left = allowance - (few - trip.left) } }
 {
     let spent = few - trip.left;
-    Out::Back(Trip {
+    Trip {
         found: trip.found,
         far: trip.far,
         left: allowance - spent,
-    })
+    }
 }
 
 // First without a memory; if that is not enough, once more with it. What the first answered is right, so the second need not ask it.
@@ -637,7 +613,7 @@ fn search_twice(
     role: Role,
     asks: &mut [u64],
     allowance: u32,
-) -> Out
+) -> Option<Trip>
     requires { VisitReady ns.now cues.now work.old role × Asking asks.old }
     ensures { Began ns.now cues.now work.old role asks.old allowance work.new asks.new result }
 {
@@ -645,19 +621,16 @@ fn search_twice(
         return first_search(ns, cues, work, role, asks, allowance);
     }
     match first_search(ns, cues, work, role, asks, FEW_STATES) {
-        Out::Spent => long_search(ns, cues, work, role, asks, allowance),
-        Out::Back(trip) => with_more(trip, FEW_STATES, allowance),
+        None => long_search(ns, cues, work, role, asks, allowance),
+        Some(trip) => Some(with_more(trip, FEW_STATES, allowance)),
     }
 }
 
 // Whether all runs were searched and none found the end.
-fn went_through(out: Out) -> bool
+fn went_through(out: Option<Trip>) -> bool
     ensures { result ≡ went_through (out_of out) }
 {
-    match out {
-        Out::Spent => false,
-        Out::Back(trip) => !trip.found,
-    }
+    matches!(out, Some(trip) if !trip.found)
 }
 
 // Nothing is asked, and nothing answered.
@@ -673,7 +646,13 @@ fn forget(asks: &mut [u64])
 
 // The search from the drawn flow, in work bytes that are zero up to the room wanted when it is over. If it went through all runs without
 // an end, each ask whose record can follow has become `FOLLOWS`; else all are 0.
-pub fn ask(ns: &[u16], cues: &[u64], work: &mut [u8], asks: &mut [u64], allowance: u32) -> Out
+pub fn ask(
+    ns: &[u16],
+    cues: &[u64],
+    work: &mut [u8],
+    asks: &mut [u64],
+    allowance: u32,
+) -> Option<Trip>
     requires { SearchReady ns.now cues.now work.old × Asking asks.old }
     ensures { Asked ns.now cues.now allowance work.old asks.old result work.new asks.new }
 {
@@ -690,7 +669,7 @@ pub fn ask(ns: &[u16], cues: &[u64], work: &mut [u8], asks: &mut [u64], allowanc
 }
 
 // The search by itself.
-pub fn search(ns: &[u16], cues: &[u64], work: &mut [u8], allowance: u32) -> Out
+pub fn search(ns: &[u16], cues: &[u64], work: &mut [u8], allowance: u32) -> Option<Trip>
     requires { SearchReady ns.now cues.now work.old }
     ensures { Searched ns.now cues.now allowance work.old result work.new }
 {

@@ -14,14 +14,14 @@ write_listed-length-requires c =
 pub overflow_sub-result : goal.overflow_sub-result
 overflow_sub-result c =
     let p = c.requires in
-    left_within p c.ask.ensures c.in-Back.is
+    left_within p c.ask.ensures c.in-Some.is
 
-pub returns-in-Spent : goal.returns-in-Spent
-returns-in-Spent c =
+pub returns-in-None : goal.returns-in-None
+returns-in-None c =
     let p = c.requires in
-    undecided_by p c.ask.ensures c.in-Spent.is
+    undecided_by p c.ask.ensures c.in-None.is
 
-pub returns-in-Back : goal.returns-in-Back
-returns-in-Back c =
+pub returns-in-Some : goal.returns-in-Some
+returns-in-Some c =
     let p = c.requires in
-    listed_by p c.ask.ensures c.in-Back.is c.write_listed-length.ensures.value c.write_listed-length.ensures.written refl
+    listed_by p c.ask.ensures c.in-Some.is c.write_listed-length.ensures.value c.write_listed-length.ensures.written refl

@@ -2,7 +2,7 @@
 use mathlib.Core.Path.{sym, ◌∙◌, ap}
 use native.Mathlib.Omega.{arith}
 use Rattle.memory.specs.MemoryLaws.{recalled_away, recalled_first, recalled_second, recalled_neither}
-use Rattle.memory.specs.declared.Recalled.TheVariants.{Known}
+use Rattle.std.specs.Prelude.{Ok}
 use Rattle.memory.proofs.recall_in.Goals as goal
 
 pub returns-then-pair-marks : goal.returns-then-pair-marks
@@ -15,13 +15,13 @@ pub returns-then-has : goal.returns-then-has
 returns-then-has c =
     let a = c.args in
     let p = c.pair_of-pair in
-    rw (← p.ensures) (ap Known c.sight_at-seen.ensures ∙ recalled_first a.modes.now a.marks.now a.low a.high a.key p.result (omega arith) (sym c.has.ensures ∙ c.if-has.true))
+    rw (← p.ensures) (ap Ok c.sight_at-seen.ensures ∙ recalled_first a.modes.now a.marks.now a.low a.high a.key p.result (omega arith) (sym c.has.ensures ∙ c.if-has.true))
 
 pub returns-then-has-2 : goal.returns-then-has-2
 returns-then-has-2 c =
     let a = c.args in
     let p = c.pair_of-pair in
-    rw (← p.ensures) (ap Known c.sight_at-seen-then-has-2.ensures ∙ recalled_second a.modes.now a.marks.now a.low a.high a.key p.result (omega arith) (sym c.has.ensures ∙ c.if-has.false) (sym c.has-2.ensures ∙ c.if-has-2.true))
+    rw (← p.ensures) (ap Ok c.sight_at-seen-then-has-2.ensures ∙ recalled_second a.modes.now a.marks.now a.low a.high a.key p.result (omega arith) (sym c.has.ensures ∙ c.if-has.false) (sym c.has-2.ensures ∙ c.if-has-2.true))
 
 pub returns : goal.returns
 returns c =

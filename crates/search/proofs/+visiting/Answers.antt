@@ -2,7 +2,7 @@
 -- `try_each` goes through them and `follow` into one. The recursion's measure is six for each record that is left. The loop's invariant
 -- is `Going`: what is kept, what was learned, and that what comes of all successors is what comes of those still to be tried. Assumes
 -- nothing.
-use Prim.Native.Nat.{suc}
+use Prim.Native.Nat.{suc, ◌+◌}
 use mathlib.Core.Path.{refl, sym, subst, ◌∙◌}
 use native.Mathlib.Omega.{arith}
 use lib.ListN.{length, drop, get_or, length-drop}
@@ -13,7 +13,7 @@ use Rattle.flow.specs.Refusals.{count}
 use Rattle.search.proofs.Deeper.{memory_fits, visited_known, visited_kept, ready_spot, first_low, visited_spent, visited_arrived, visited_last, visited_tried, ready_still, right_still, count_still, goes_still, tried_none, tried_spent, tried_found, tried_on, tried_over, two_stretches, copied_room, apply_asked, back_room, visit_asked, followed, rest_is, rest_length}
 use Rattle.search.proofs.Numbers.{first_inner, ends_fits}
 use Rattle.search.proofs.Stretches.{used_same, used_trans}
-use Rattle.search.proofs.Turns.{turn_none, turn_over, turn_spent, turn_cost, turn_found, turn_on, turn_all}
+use Rattle.search.proofs.Turns.{greater, turn_none, turn_over, turn_spent, turn_cost, turn_found, turn_on, turn_all}
 use Rattle.search.proofs.Asks.{strikes_same}
 use Rattle.search.proofs.Memories.{learned_same, learned_trans, truthful_still, truthful_rest}
 use Rattle.search.proofs.+visiting.Goals as goal
@@ -180,24 +180,24 @@ try_each-follow-requires t c =
       ),
     )
 
-pub try_each-returns-in-Spent : goal.try_each-returns-in-Spent
-try_each-returns-in-Spent t c =
+pub try_each-returns-in_err-trip : goal.try_each-returns-in_err-trip
+try_each-returns-in_err-trip t c =
     let r = c.requires.visit_ready in
     let a = c.args in
     let v = c.loop-k.invariant in
-    record {
-      out = turn_spent (state a.ns.now a.role a.work.now) (get_or a.cues.now 0 0) (drop 1 a.cues.now) a.left v.turn c.follow.result (goes_still r c.loop-k.work v.used (get_or a.cues.now 0 0) c.loop-k.k c.follow.ensures.goes) c.follow.ensures.out c.in-Spent.is;
+    rw c.from_residual.ensures (record {
+      out = turn_spent (state a.ns.now a.role a.work.now) (get_or a.cues.now 0 0) (drop 1 a.cues.now) a.left v.turn c.follow.result (goes_still r c.loop-k.work v.used (get_or a.cues.now 0 0) c.loop-k.k c.follow.ensures.goes) c.follow.ensures.out c.in_err-trip.was;
       used = used_trans v.used c.follow.ensures.used;
-      asked = tried_spent (state a.ns.now a.role a.work.now) a.cues.now c.requires.in_bounds.0 v.struck (goes_still r c.loop-k.work v.used (get_or a.cues.now 0 0) c.loop-k.k c.follow.ensures.goes) c.follow.result c.follow.ensures.asked c.in-Spent.is;
+      asked = tried_spent (state a.ns.now a.role a.work.now) a.cues.now c.requires.in_bounds.0 v.struck (goes_still r c.loop-k.work v.used (get_or a.cues.now 0 0) c.loop-k.k c.follow.ensures.goes) c.follow.result c.follow.ensures.asked c.in_err-trip.was;
       learned = learned_trans a.ns.now a.cues.now c.follow.ensures.asked.strikes v.learned c.follow.ensures.learned;
-    }
+    })
 
-pub try_each-further-far-requires : goal.try_each-further-far-requires
-try_each-further-far-requires t c =
+pub try_each-overflow_add-trip : goal.try_each-overflow_add-trip
+try_each-overflow_add-trip t c =
     let r = c.requires.visit_ready in
     let a = c.args in
     let v = c.loop-k.invariant in
-    let z = turn_cost (state a.ns.now a.role a.work.now) (get_or a.cues.now 0 0) (drop 1 a.cues.now) a.left v.turn c.follow.result (goes_still r c.loop-k.work v.used (get_or a.cues.now 0 0) c.loop-k.k c.follow.ensures.goes) c.follow.ensures.out c.in-Back.trip c.in-Back.is in
+    let z = turn_cost (state a.ns.now a.role a.work.now) (get_or a.cues.now 0 0) (drop 1 a.cues.now) a.left v.turn c.follow.result (goes_still r c.loop-k.work v.used (get_or a.cues.now 0 0) c.loop-k.k c.follow.ensures.goes) c.follow.ensures.out c.in_ok-trip.trip c.in_ok-trip.was in
     let d = length-drop 1 a.cues.now in
     let q = r.known.few in
     omega (arith, z.far)
@@ -208,31 +208,25 @@ try_each-returns-then-trip t c =
     let a = c.args in
     let v = c.loop-k.invariant in
     record {
-      out = turn_found (state a.ns.now a.role a.work.now) (get_or a.cues.now 0 0) (drop 1 a.cues.now) a.left v.turn c.follow.result (goes_still r c.loop-k.work v.used (get_or a.cues.now 0 0) c.loop-k.k c.follow.ensures.goes) c.follow.ensures.out c.in-Back.trip c.in-Back.is c.further-far.result c.further-far.ensures c.if-trip.true;
+      out = turn_found (state a.ns.now a.role a.work.now) (get_or a.cues.now 0 0) (drop 1 a.cues.now) a.left v.turn c.follow.result (goes_still r c.loop-k.work v.used (get_or a.cues.now 0 0) c.loop-k.k c.follow.ensures.goes) c.follow.ensures.out c.in_ok-trip.trip c.in_ok-trip.was c.max-far.result (c.max-far.ensures ∙ greater c.loop-k.far (c.in_ok-trip.trip.far + 1)) c.if-trip.true;
       used = used_trans v.used c.follow.ensures.used;
-      asked = tried_found (state a.ns.now a.role a.work.now) a.cues.now c.requires.in_bounds.0 v.struck (goes_still r c.loop-k.work v.used (get_or a.cues.now 0 0) c.loop-k.k c.follow.ensures.goes) c.follow.result c.follow.ensures.asked c.further-far.result c.in-Back.trip.left;
+      asked = tried_found (state a.ns.now a.role a.work.now) a.cues.now c.requires.in_bounds.0 v.struck (goes_still r c.loop-k.work v.used (get_or a.cues.now 0 0) c.loop-k.k c.follow.ensures.goes) c.follow.result c.follow.ensures.asked c.max-far.result c.in_ok-trip.trip.left;
       learned = learned_trans a.ns.now a.cues.now c.follow.ensures.asked.strikes v.learned c.follow.ensures.learned;
     }
-
-pub try_each-overflow_add-k : goal.try_each-overflow_add-k
-try_each-overflow_add-k t c = omega (arith, c.loop-k-test.true, c.ranges.many)
-
-pub try_each-loop-k-smaller : goal.try_each-loop-k-smaller
-try_each-loop-k-smaller t c = omega arith
 
 pub try_each-loop-k-preserved : goal.try_each-loop-k-preserved
 try_each-loop-k-preserved t c =
     let r = c.requires.visit_ready in
     let a = c.args in
     let v = c.loop-k.invariant in
-    let g = tried_on (state a.ns.now a.role a.work.now) a.cues.now c.requires.in_bounds.0 v.struck (goes_still r c.loop-k.work v.used (get_or a.cues.now 0 0) c.loop-k.k c.follow.ensures.goes) c.follow.result c.follow.ensures.asked v.tried c.in-Back.trip c.in-Back.is c.if-trip.false in
+    let g = tried_on (state a.ns.now a.role a.work.now) a.cues.now c.requires.in_bounds.0 v.struck (goes_still r c.loop-k.work v.used (get_or a.cues.now 0 0) c.loop-k.k c.follow.ensures.goes) c.follow.result c.follow.ensures.asked v.tried c.in_ok-trip.trip c.in_ok-trip.was c.if-trip.false in
     record {
       long = c.follow.auto.work ∙ v.long;
       wide = c.follow.auto.modes ∙ v.wide;
       deep = c.follow.auto.marks ∙ v.deep;
       used = used_trans v.used c.follow.ensures.used;
       learned = learned_trans a.ns.now a.cues.now c.follow.ensures.asked.strikes v.learned c.follow.ensures.learned;
-      turn = turn_on (state a.ns.now a.role a.work.now) (get_or a.cues.now 0 0) (drop 1 a.cues.now) a.left v.turn c.follow.result (goes_still r c.loop-k.work v.used (get_or a.cues.now 0 0) c.loop-k.k c.follow.ensures.goes) c.follow.ensures.out c.in-Back.trip c.in-Back.is c.further-far.result c.further-far.ensures c.if-trip.false;
+      turn = turn_on (state a.ns.now a.role a.work.now) (get_or a.cues.now 0 0) (drop 1 a.cues.now) a.left v.turn c.follow.result (goes_still r c.loop-k.work v.used (get_or a.cues.now 0 0) c.loop-k.k c.follow.ensures.goes) c.follow.ensures.out c.in_ok-trip.trip c.in_ok-trip.was c.max-far.result (c.max-far.ensures ∙ greater c.loop-k.far (c.in_ok-trip.trip.far + 1)) c.if-trip.false;
       struck = g.0;
       tried = g.1;
     }
@@ -265,13 +259,13 @@ visit-keep-requires t c =
       left_within = visit_within (cue_records a.cues.now) (state a.ns.now a.role a.work.now) a.left c.enter-out.result c.enter-out.ensures.out;
     }
 
-pub visit-returns-in-Known : goal.visit-returns-in-Known
-visit-returns-in-Known t c =
+pub visit-returns-in-Ok : goal.visit-returns-in-Ok
+visit-returns-in-Ok t c =
     let a = c.args in
-    visited_known c.requires.visit_ready (memory a.modes.now a.marks.now) c.key_of-key.ensures c.requires.truthful a.left c.known.result (sym c.recall.ensures ∙ c.in-Known.is) c.known.ensures
+    visited_known c.requires.visit_ready (memory a.modes.now a.marks.now) c.key_of-key.ensures c.requires.truthful a.left c.known.result (sym c.recall.ensures ∙ c.in-Ok.is) c.known.ensures
 
-pub visit-returns-in-Unknown : goal.visit-returns-in-Unknown
-visit-returns-in-Unknown t c =
+pub visit-returns-in-Err : goal.visit-returns-in-Err
+visit-returns-in-Err t c =
     let a = c.args in
     visited_kept c.requires.visit_ready (memory a.modes.now a.marks.now) c.key_of-key.ensures a.asks.now a.left c.enter-out.new.work c.enter-out.new.asks (memory c.enter-out.new.modes c.enter-out.new.marks) (memory c.keep.new.modes c.keep.new.marks) c.enter-out.result c.enter-out.ensures c.keep.ensures
 

@@ -1,4 +1,4 @@
-use Prim.Native.Nat.{◌+◌, ◌-◌, ◌*◌}
+use Prim.Native.Nat.{◌+◌, ◌*◌}
 use lib.ListN.{length}
 use Rattle.search.specs.Visits.{memory}
 use Rattle.search.proofs.Deeper.{Going}
@@ -22,6 +22,3 @@ decreases-visit_each l = 6 * length l.cues.now + 3
 abbrev pub invariant-try_each-loop-k : goal.invariant-try_each-loop-k
 invariant-try_each-loop-k l =
     Going l.ns l.cues l.initial.work l.role l.initial.asks l.left (memory l.initial.modes l.initial.marks) l.work l.asks (memory l.modes l.marks) l.k l.far l.rest
-
-abbrev pub decreases-try_each-loop-k : goal.decreases-try_each-loop-k
-decreases-try_each-loop-k l = l.many - l.k

@@ -9,13 +9,13 @@ pub keep_trip-requires : goal.keep_trip-requires
 keep_trip-requires c =
     record {
       fitting = c.requires.fitting;
-      left_le_left = subst (LeftWithin c.args.left) c.in-Back.is c.requires.left_within;
+      left_le_left = subst (LeftWithin c.args.left) c.in-Some.is c.requires.left_within;
     }
 
-pub returns-in-Spent : goal.returns-in-Spent
-returns-in-Spent c = not_added c.args.n c.args.key c.args.t.now c.args.left _ (memory c.args.modes.now c.args.marks.now)
+pub returns-in_default : goal.returns-in_default
+returns-in_default c = not_added c.args.n c.args.key c.args.t.now c.args.left _ (memory c.args.modes.now c.args.marks.now)
 
-pub returns-in-Back : goal.returns-in-Back
-returns-in-Back c =
+pub returns-in-Some : goal.returns-in-Some
+returns-in-Some c =
     let a = c.args in
-    subst (λ o. KeptOut a.n a.key a.t.now a.left (out_of o) (memory a.modes.now a.marks.now) (memory c.keep_trip.new.modes c.keep_trip.new.marks)) (sym c.in-Back.is) c.keep_trip.ensures
+    subst (λ o. KeptOut a.n a.key a.t.now a.left (out_of o) (memory a.modes.now a.marks.now) (memory c.keep_trip.new.modes c.keep_trip.new.marks)) (sym c.in-Some.is) c.keep_trip.ensures

@@ -2,6 +2,7 @@
 -- that it answered. Assumes nothing.
 use mathlib.Core.Path.{sym, subst}
 use native.Mathlib.Omega.{arith}
+use Rattle.std.specs.Prelude.{Some}
 use Rattle.search.specs.Searches.{LeftWithin}
 use Rattle.search.specs.SearchLaws.{visit_within}
 use Rattle.search.specs.Visits.{state, Began}
@@ -17,15 +18,15 @@ pub with_more-requires : goal.with_more-requires
 with_more-requires c =
     let a = c.args in
     let w = visit_within (cue_records a.cues.now) (state a.ns.now a.role a.work.now) 32 c.first_search-2.result c.first_search-2.ensures.out in
-    (subst (LeftWithin 32) c.in-Back.is w, omega (arith, c.if-allowance-le-FEW_STATES.false))
+    (subst (LeftWithin 32) c.in-Some.is w, omega (arith, c.if-allowance-le-FEW_STATES.false))
 
-pub returns-in-Spent : goal.returns-in-Spent
-returns-in-Spent c = began_again c.requires.0 c.first_search-2.new.work c.first_search-2.ensures.used 32 c.args.allowance c.first_search-2.ensures.asked.strikes c.long_search.ensures
+pub returns-in-None : goal.returns-in-None
+returns-in-None c = began_again c.requires.0 c.first_search-2.new.work c.first_search-2.ensures.used 32 c.args.allowance c.first_search-2.ensures.asked.strikes c.long_search.ensures
 
-pub returns-in-Back : goal.returns-in-Back
-returns-in-Back c =
+pub returns-in-Some : goal.returns-in-Some
+returns-in-Some c =
     let a = c.args in
     let w = visit_within (cue_records a.cues.now) (state a.ns.now a.role a.work.now) 32 c.first_search-2.result c.first_search-2.ensures.out in
-    subst (λ o. Began a.ns.now a.cues.now a.work.now a.role a.asks.now a.allowance c.first_search-2.new.work c.first_search-2.new.asks o) (sym c.with_more.ensures)
-    (began_more a.ns.now a.cues.now a.work.now a.role a.asks.now 32 a.allowance c.first_search-2.ensures c.in-Back.is (subst (LeftWithin 32) c.in-Back.is w)
+    subst (λ trip. Began a.ns.now a.cues.now a.work.now a.role a.asks.now a.allowance c.first_search-2.new.work c.first_search-2.new.asks (Some trip)) (sym c.with_more.ensures)
+    (began_more a.ns.now a.cues.now a.work.now a.role a.asks.now 32 a.allowance c.first_search-2.ensures c.in-Some.is (subst (LeftWithin 32) c.in-Some.is w)
     (omega (arith, c.if-allowance-le-FEW_STATES.false)))
