@@ -23,6 +23,7 @@ use Rattle.tallies.specs.Formulas.{by_w, closing, one_g}
 use Rattle.tallies.specs.PlacesLaws.{at_map}
 use Rattle.tallies.specs.Places.{At}
 use Rattle.tallies.proofs.SeekLaws.{view_moves, word_moves, tally_by, seek_one, seek_one_room}
+use Rattle.tallies.specs.declared.Closing.{Closing as Ending}
 use Rattle.tallies.specs.declared.View.{View}
 use Rattle.tallies.specs.declared.Tally.{Tally}
 use Rattle.tallies.specs.declared.Word.{Word}
@@ -139,17 +140,17 @@ end_follows s r {b} e = only_follow b ∙ ap (some_of (λ t. passes [] t)) (sym 
 
 -- A closing of a part that runs ---------------------------------------------------------------------------------------------
 
-module _ (ns t : List ℕ) (r i : ℕ) (e : i ≡ root ns) {role : Role} (g : role ≡ Running) (low : done_cue ≤ r) (inner : Inner role r) (w : ℕ) (cw : closing w ≡ closing_of r) where
+module _ (ns t : List ℕ) (r i : ℕ) (e : i ≡ root ns) {role : Role} (g : role ≡ Running) (low : done_cue ≤ r) (inner : Inner role r) (w : Ending) (cw : closing w ≡ closing_of r) where
   high : r ≤ failed_cue
   high = subst (λ z. Inner z r) g inner
 
-  pub closing_asked : w < 3 → Spot ns t (root ns) → {c d : List ℕ} → RightCounts ns role r t c d → {k : ℕ} → k < successor_count ns role r t
-      → Spot ns t i × (Weighed (scene ns t r) (notes c d) i × ((w < 3) × (k < weight_of (scene ns t r) i (closing w) one_g)))
-  closing_asked l spot {c} {d} right {k} h =
+  pub closing_asked : Spot ns t (root ns) → {c d : List ℕ} → RightCounts ns role r t c d → {k : ℕ} → k < successor_count ns role r t
+      → Spot ns t i × (Weighed (scene ns t r) (notes c d) i × (k < weight_of (scene ns t r) i (closing w) one_g))
+  closing_asked spot {c} {d} right {k} h =
       let n : k < cap (length (comps (at_root ns t).run (closing_of r))) = subst (λ n. k < n) (ap (λ z. successor_count ns z r t) g ∙ count_closing ns t r low high) h in
       let known : Weighed (scene ns t r) (notes c d) (root ns) = record { long = right.long; right = subst (λ z. T (ok z (noted_at (scene ns t r) (notes c d) (root ns)))) g right.right } in
-      subst (λ j. Spot ns t j × (Weighed (scene ns t r) (notes c d) j × ((w < 3) × (k < weight_of (scene ns t r) j (closing w) one_g)))) (sym e)
-      (spot, (known, (l, subst (λ z. k < weight_of (scene ns t r) (root ns) z one_g) (sym cw) (seek_one_room r (comps (at_root ns t).run (closing_of r)) n))))
+      subst (λ j. Spot ns t j × (Weighed (scene ns t r) (notes c d) j × (k < weight_of (scene ns t r) j (closing w) one_g))) (sym e)
+      (spot, (known, subst (λ z. k < weight_of (scene ns t r) (root ns) z one_g) (sym cw) (seek_one_room r (comps (at_root ns t).run (closing_of r)) n)))
 
   pub closing_applied : {k : ℕ} {t' : List ℕ} {p : Picked} → Chosen (scene ns t r) i (ask (closing w) one_g k) t' p → Applied ns role r t k t'
   unfolding state role_next
@@ -162,7 +163,7 @@ module _ (ns t : List ℕ) (r i : ℕ) (e : i ≡ root ns) {role : Role} (g : ro
       })
 
 -- how many they are, as the tally says
-module _ (ns t : List ℕ) (r i : ℕ) (e : i ≡ root ns) (low : done_cue ≤ r) (high : r ≤ failed_cue) (w : ℕ) (cw : closing w ≡ closing_of r)
+module _ (ns t : List ℕ) (r i : ℕ) (e : i ≡ root ns) (low : done_cue ≤ r) (high : r ≤ failed_cue) (w : Ending) (cw : closing w ≡ closing_of r)
     {v : Word} {y : Tally} (ev : v ≡ word r (part ns (modes t) i).run) (ey : y ≡ by_w v (closing w)) where
   tallied_closing : y.many ≡ successor_count ns Running r t
   unfolding tally

@@ -22,7 +22,7 @@ ghost use Rattle.search.specs.Visits.{state, role_next, out_of, closing_of, ends
 
 use memory::Sight;
 use states::{Role, Sense};
-use tallies::{View, Weight};
+use tallies::{Closing, View, Weight};
 
 // What a search brings back, unless its allowance is used up: whether it found the end, how many records at most it followed, and what is
 // left of the allowance.
@@ -36,14 +36,14 @@ pub struct Trip {
 // An ask whose record can follow. No cue is as low, and neither is 0, which asks nothing.
 pub const FOLLOWS: u64 = 1;
 
-// A closing's rank.
-fn rank_of(cue: u64) -> u8
-    ensures { (result < 3) × (closing result ≡ closing_of cue) }
+// The closing of a record's cue.
+fn closing_of(cue: u64) -> Closing
+    ensures { closing result ≡ closing_of cue }
 {
     match cue {
-        flow::DONE_CUE => tallies::RANK_DONE,
-        flow::WITHDRAWN_CUE => tallies::RANK_WITHDRAWN,
-        _ => tallies::RANK_FAILED,
+        flow::DONE_CUE => Closing::Done,
+        flow::WITHDRAWN_CUE => Closing::Withdrawn,
+        _ => Closing::Failed,
     }
 }
 
@@ -92,7 +92,7 @@ fn successors(
             if cue < flow::DONE_CUE {
                 w.moves
             } else {
-                let y = tallies::tally_by(w, rank_of(cue));
+                let y = tallies::tally_by(w, closing_of(cue));
                 y.many
             }
         }
@@ -122,7 +122,7 @@ fn apply(ns: &[u16], t: &mut [u8], cue: u64, c: &[u32; 64], d: &[u32], role: Rol
                     &mut u,
                     d,
                     i,
-                    rank_of(cue),
+                    closing_of(cue),
                     Weight {
                         own: 1,
                         moves: 0,

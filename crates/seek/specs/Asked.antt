@@ -1,9 +1,9 @@
 -- What the functions below `choose` ask and promise: a search in a node of a known course (`Wanted`), in a child of a node that gets
 -- a mode (`Below`), in the second part of PP;QQ once the first has become its compensation (`SecondWanted`, `SecondChosen`), what a pair
 -- becomes (`PairLeft`), and that the tables are right below what was chosen (`UndoneBelow`). Definitions only. Assumes nothing.
-use Rattle.std.specs.Prelude.{ℕ, ◌<◌, ◌≡◌, true, not, List, map, ◌≢◌, T, eqb, set}
+use Rattle.std.specs.Prelude.{ℕ, ◌<◌, ◌≡◌, true, not, List, map, T, eqb, set}
 use Rattle.calculus.specs.Term.{Closing, done, Std, Cmp, seq}
-use Rattle.calculus.specs.Successors.{ends, comps}
+use Rattle.calculus.specs.Successors.{eqc, ends, comps}
 use Rattle.flow.specs.declared.Operator.TheVariants.{Sequence}
 use Rattle.flow.specs.declared.Two.{Two}
 use Rattle.flow.specs.declared.Node.TheVariants.{Compensable}
@@ -22,13 +22,8 @@ use Rattle.states.specs.Standings.{left_second, left_nothing, left_both, course_
 use Rattle.states.specs.State.{part, modes}
 use Rattle.states.specs.Rows.{row, Notes, entries}
 use Rattle.seek.specs.declared.Query.{Query}
-use Rattle.states.specs.Becomes.{picked, Lands, Becomes, ask_second, seq_of}
+use Rattle.states.specs.Becomes.{picked, Becomes, ask_second, seq_of}
 use Rattle.states.specs.Clauses.{Spot, Sets, Kept, Redrawn, Scene, part_at, stored_at, weight_of, Ask, ask}
-
--- an ending, as a small number, that j falls on, where those done and withdrawn weigh x and y
-pub record Fallen (x y j e r : ℕ) : Type 0 where
-  pub lands : Lands x y j (closing e) r
-  pub small : e < 3
 
 -- what node i is as a part that runs by the modes t, its term, and the compensation that it has become
 abbrev pub course_at : List ℕ → List ℕ → ℕ → Course
@@ -40,7 +35,7 @@ runs ns t i = (part ns (modes t) i).run
 abbrev pub left : List ℕ → List ℕ → ℕ → Std
 left ns t i = (part ns (modes t) i).std Undoing
 
--- what the code is asked, where the closing is a small number
+-- what the code is asked, by its own closing
 abbrev pub asked : Query → Ask
 asked q = ask (closing q.closing) q.weight q.number
 
@@ -49,9 +44,9 @@ abbrev pub lone : Word → ℕ → Picked
 lone x j = picked j x.done.moves (not (eqb x.done.able 0))
 
 -- a pair becomes its compensation by w: P is passed, and Q is left to be done, or nothing
-pub data PairLeft (ns t d : List ℕ) (i : ℕ) (two : Two) (w j : ℕ) (t' : List ℕ) : Picked → Type 0 where
-  to_second : {t₁ : List ℕ} → w ≡ 0 → Redrawn ns two.first t t₁ → t' ≡ set t₁ i left_second → PairLeft ns t d i two w j t' (lone (row d i) j)
-  to_nothing : {t₁ : List ℕ} → w ≢ 0 → Redrawn ns two.first t t₁ → t' ≡ set t₁ i left_nothing → PairLeft ns t d i two w j t' (picked j 0 true)
+pub data PairLeft (ns t d : List ℕ) (i : ℕ) (two : Two) (w : Closing) (j : ℕ) (t' : List ℕ) : Picked → Type 0 where
+  to_second : {t₁ : List ℕ} → w ≡ done → Redrawn ns two.first t t₁ → t' ≡ set t₁ i left_second → PairLeft ns t d i two w j t' (lone (row d i) j)
+  to_nothing : {t₁ : List ℕ} → T (not (eqc w done)) → Redrawn ns two.first t t₁ → t' ≡ set t₁ i left_nothing → PairLeft ns t d i two w j t' (picked j 0 true)
 
 -- node i has become a compensation, in s: below it the tables c are right, and nothing was changed outside
 pub record UndoneBelow (s : Scene) (i : ℕ) (c₀ c : Notes) : Type 0 where
@@ -64,19 +59,17 @@ Picks a q l k p = Sought a q.weight l q.number k p.rest p.moves p.able
 
 module _ (s : Scene) where
   module _ (i : ℕ) where
-    -- a search in node i: its place, its course, the closing as a small number, and that j falls on one of its compensations
-    pub record Wanted (x : Course) (w : ℕ) (g : Weight) (j : ℕ) : Type 0 where
+    -- a search in node i: its place, its course, and that j falls on one of its compensations
+    pub record Wanted (x : Course) (w : Closing) (g : Weight) (j : ℕ) : Type 0 where
       pub spot : Spot s.ns s.t i
       pub is : course_at s.ns s.t i ≡ x
-      pub closes : w < 3
-      pub room : j < weight_of s i (closing w) g
+      pub room : j < weight_of s i w g
 
     -- a search in the child c of node i
-    pub record Below (c w : ℕ) (g : Weight) (j : ℕ) : Type 0 where
+    pub record Below (c : ℕ) (w : Closing) (g : Weight) (j : ℕ) : Type 0 where
       pub spot : Spot s.ns s.t i
       pub kid : Kid (shape s.ns) i c
-      pub closes : w < 3
-      pub room : j < weight_of s c (closing w) g
+      pub room : j < weight_of s c w g
 
   -- QQ's compensations, each before the one that PP has become
   abbrev pub seconds : Two → Closing → List Std
@@ -84,13 +77,12 @@ module _ (s : Scene) where
 
   module _ (i : ℕ) (two : Two) where
     -- a search among them; k is what is known of PP's
-    pub record SecondWanted (w : ℕ) (g : Weight) (k : Picked) : Type 0 where
+    pub record SecondWanted (w : Closing) (g : Weight) (k : Picked) : Type 0 where
       pub spot : Spot s.ns s.t i
       pub is : node s.ns i ≡ Compensable Sequence two
-      pub closes : w < 3
       pub counted : k.moves ≡ cap (moves s.a (left s.ns s.t two.first))
       pub ended : k.able ≡ ends (left s.ns s.t two.first) done
-      pub room : k.rest < cap (sum_of (weight s.a g) (seconds two (closing w)))
+      pub room : k.rest < cap (sum_of (weight s.a g) (seconds two w))
 
     -- one of them is chosen: the node gets its mode, QQ becomes what is known as `last`, and PP's follows
     pub record SecondChosen (w : Closing) (g : Weight) (k : Picked) (t' : List ℕ) (p : Picked) : Type 0 where

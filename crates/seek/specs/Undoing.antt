@@ -4,6 +4,7 @@ use Rattle.std.specs.Prelude.{ℕ, ◌≡◌, refl, List, ◌≢◌, set}
 use Rattle.std.proofs.Common.{sym, ◌∙◌}
 use Rattle.std.proofs.Math.Path.{ap, subst}
 use Rattle.std.proofs.Math.Dec.{T}
+use Rattle.calculus.specs.Term.{Closing}
 use Rattle.calculus.proofs.Members.{and_in}
 use Rattle.flow.specs.declared.Simple.{Simple}
 use Rattle.flow.specs.declared.Operator.{Operator}
@@ -58,13 +59,13 @@ undone_by {ns} {t} {t'} {a} {i} {c₀ = c₀} {c} {c'} {d} spot h b w =
 
 -- Nothing is left to be undone, or one part alone ---------------------------------------------------------------------------------
 
-pub basic_undone : {ns t : List ℕ} {a i w : ℕ} {g : Weight} {j : ℕ} {b : Simple} → Wanted (scene ns t a) i (course.Basic b) w g j → (c : Notes) → UndoneBelow (scene ns t a) i c c
+pub basic_undone : {ns t : List ℕ} {a i : ℕ} {w : Closing} {g : Weight} {j : ℕ} {b : Simple} → Wanted (scene ns t a) i (course.Basic b) w g j → (c : Notes) → UndoneBelow (scene ns t a) i c c
 unfolding std_right
 basic_undone {ns} {t} {a} {i} h c =
     let e = std_stored ns h.spot.node.sound.tree a (modes t) (entries c) i Undoing ∙ ap (λ x. std_right x Undoing (noted_at (scene ns t a) c) (stored_at (scene ns t a) c)) (course_node h.spot h.is (modes t i)) in
     record { right = subst T (sym e) tt; kept = λ k u. refl }
 
-pub as_undone : {ns t : List ℕ} {a i x w : ℕ} {g : Weight} {j : ℕ} → Wanted (scene ns t a) i (course.As x) w g j → {t' : List ℕ} → Kept ns x (modes t) (modes t') → {c c' : Notes} → Undone (scene ns t' a) x c c' → UndoneBelow (scene ns t' a) i c c'
+pub as_undone : {ns t : List ℕ} {a i x : ℕ} {w : Closing} {g : Weight} {j : ℕ} → Wanted (scene ns t a) i (course.As x) w g j → {t' : List ℕ} → Kept ns x (modes t) (modes t') → {c c' : Notes} → Undone (scene ns t' a) x c c' → UndoneBelow (scene ns t' a) i c c'
 unfolding std_right
 as_undone {ns} {t} {a} {i} {x} h {t'} k {c} {c'} u =
     let tree = h.spot.node.sound.tree in
@@ -73,7 +74,7 @@ as_undone {ns} {t} {a} {i} {x} h {t'} k {c} {c'} u =
     record { right = subst T (sym e) (below_undone u); kept = kept_kid ns tree kid u.kept }
 
 -- of two parts that both run
-module _ {ns t : List ℕ} {a i w : ℕ} {g : Weight} {j : ℕ} {o : Operator} {two : Two} (h : Wanted (scene ns t a) i (course.Both o two) w g j) where
+module _ {ns t : List ℕ} {a i : ℕ} {w : Closing} {g : Weight} {j : ℕ} {o : Operator} {two : Two} (h : Wanted (scene ns t a) i (course.Both o two) w g j) where
   alone_tree : Tree (shape ns)
   alone_tree = h.spot.node.sound.tree
 
@@ -92,7 +93,7 @@ module _ (ns : List ℕ) (tree : Tree (shape ns)) (a : ℕ) {x y : ℕ} (free : 
   beside_undone t t' c c' k l = noted_still ns tree a x t t' c c' (λ j u. sym (k j (λ v. free j v u))) (λ j u. sym (l j (λ v. free j v u))) (λ z. z.std Undoing)
 
 -- QQ's and then PP's, which was undone before
-pub second_undone : {ns t : List ℕ} {a i w : ℕ} {g : Weight} {two : Two} {k : Picked} → SecondWanted (scene ns t a) i two w g k → {c c' : Notes} → T ((noted_at (scene ns t a) c two.first).std Undoing)
+pub second_undone : {ns t : List ℕ} {a i : ℕ} {w : Closing} {g : Weight} {two : Two} {k : Picked} → SecondWanted (scene ns t a) i two w g k → {c c' : Notes} → T ((noted_at (scene ns t a) c two.first).std Undoing)
     → {q : Ask} {t' : List ℕ} {p : Picked} → Chosen (scene ns (set t i left_both) a) two.second q t' p → Undone (scene ns t' a) two.second c c' → UndoneBelow (scene ns t' a) i c c'
 unfolding std_right stand stand_undoing undoing_two
 second_undone {ns} {t} {a} {i} {two = two} h {c} {c'} before {t' = t'} ch u =
@@ -112,7 +113,7 @@ pub undone_after : {ns t : List ℕ} {a i : ℕ} → Tree (shape ns) → {x : �
 undone_after {ns} tree kid k h = record { right = h.right; kept = λ j n. h.kept j n ∙ kept_kid ns tree kid k j n }
 
 -- both sides of a parallel
-pub par_undone : {ns t : List ℕ} {a i w : ℕ} {g : Weight} {j n : ℕ} {two : Two} → Wanted (scene ns t a) i (course.Both (Parallel n) two) w g j → {q q₂ : Ask} {t₁ t₂ : List ℕ} {k l : Picked}
+pub par_undone : {ns t : List ℕ} {a i : ℕ} {w : Closing} {g : Weight} {j n : ℕ} {two : Two} → Wanted (scene ns t a) i (course.Both (Parallel n) two) w g j → {q q₂ : Ask} {t₁ t₂ : List ℕ} {k l : Picked}
     → Chosen (scene ns t a) two.first q t₁ k → Chosen (scene ns t₁ a) two.second q₂ t₂ l → {c c₁ c₂ : Notes} → Undone (scene ns t₁ a) two.first c c₁ → Undone (scene ns t₂ a) two.second c₁ c₂ → UndoneBelow (scene ns t₂ a) i c c₂
 unfolding std_right stand stand_undoing undoing_two
 par_undone {ns} {t} {a} {i} {two = two} h {t₁ = t₁} {t₂} ch₁ ch₂ {c} {c₁} {c₂} u v =

@@ -5,20 +5,22 @@
 // a table, and read from there: a choice looks at each part a few times.
 #![tactic(auto)]
 
-ghost use Rattle.std.specs.Prelude.{◌≡◌, not, cond, ◌+◌, ◌*◌, ◌<◌, T, eqb, length, set};
+ghost use Rattle.std.specs.Prelude.{◌≡◌, not, cond, ◌+◌, ◌*◌, ◌<◌, T, length, set};
 ghost use Rattle.calculus.specs.Term.{done, withdrawn};
+ghost use Rattle.calculus.specs.Successors.{eqc};
 ghost use Rattle.flow.specs.declared.Operator.TheVariants.{Sequence, Choice, Parallel};
 ghost use Rattle.tallies.specs.Capped.{cap};
 ghost use Rattle.tallies.specs.Formulas.{closing, when_t, by_w, total, after_g, beside_g, partners_t, fitting_t};
 ghost use Rattle.states.specs.declared.Course.TheVariants.{Pair, Both, Held};
 ghost use Rattle.states.specs.declared.Sense.TheVariants.{Undoing};
+ghost use Rattle.states.specs.Becomes.{Lands};
 ghost use Rattle.states.specs.Rows.{share, row, notes};
 ghost use Rattle.states.specs.Clauses.{Spot, scene, noted_at, weight_of, ask, Chosen, Weighed, Undone};
-ghost use Rattle.seek.specs.Asked.{Fallen, course_at, asked, lone, PairLeft, UndoneBelow, Wanted, Below, SecondWanted, SecondChosen};
+ghost use Rattle.seek.specs.Asked.{course_at, asked, lone, PairLeft, UndoneBelow, Wanted, Below, SecondWanted, SecondChosen};
 
 use flow::{Operator, Two};
 use states::{Course, Picked};
-use tallies::{Tally, Weight, Word};
+use tallies::{Closing, Tally, Weight, Word};
 
 // What is known of running parts ------------------------------------------------------------------------------------
 
@@ -55,35 +57,35 @@ fn word_at(d: &[u32], i: usize) -> Word
 #[derive(Clone, Copy)]
 struct Fall {
     rest: u32,
-    ending: u8,
+    ending: Closing,
 }
 
 // Where the first two of them weigh x and y.
 fn ending_at(x: u32, y: u32, j: u32) -> Fall
-    ensures { Fallen x y j result.ending result.rest }
+    ensures { Lands x y j (closing result.ending) result.rest }
 {
     if j < x {
         return Fall {
-            ending: tallies::RANK_DONE,
+            ending: Closing::Done,
             rest: j,
         };
     }
     let k = j - x;
     if k < y {
         Fall {
-            ending: tallies::RANK_WITHDRAWN,
+            ending: Closing::Withdrawn,
             rest: k,
         }
     } else {
         Fall {
-            ending: tallies::RANK_FAILED,
+            ending: Closing::Failed,
             rest: k - y,
         }
     }
 }
 
 // What is kept of the compensations of node i's running part by w.
-fn tally_at(d: &[u32], i: usize, w: u8) -> Tally
+fn tally_at(d: &[u32], i: usize, w: Closing) -> Tally
     requires { 9 * i + 8 < length d.now }
     ensures { result ≡ by_w (row d.now i) (closing w) }
 {
@@ -104,7 +106,7 @@ fn lone_at(d: &[u32], i: usize, j: u32) -> Picked
 }
 
 // What all compensations of node i's running part by w weigh.
-fn weight_by(d: &[u32], i: usize, w: u8, g: Weight) -> u32
+fn weight_by(d: &[u32], i: usize, w: Closing, g: Weight) -> u32
     requires { 9 * i + 8 < length d.now }
     ensures { result ≡ total (by_w (row d.now i) (closing w)) g }
 {
@@ -112,18 +114,18 @@ fn weight_by(d: &[u32], i: usize, w: u8, g: Weight) -> u32
 }
 
 // What the compensations of PP, node i, weigh in PP;QQ by w: nothing if w is done, since then QQ goes on.
-fn own_weight(d: &[u32], i: usize, w: u8, g: Weight) -> u32
+fn own_weight(d: &[u32], i: usize, w: Closing, g: Weight) -> u32
     requires { 9 * i + 8 < length d.now }
-    ensures { result ≡ total (when_t (not (eqb w 0)) (by_w (row d.now i) (closing w))) g }
+    ensures { result ≡ total (when_t (not (eqc (closing w) done)) (by_w (row d.now i) (closing w))) g }
 {
-    tallies::weight_total(
-        tallies::tally_when(w != tallies::RANK_DONE, tally_at(d, i, w)),
-        g,
-    )
+    match w {
+        Closing::Done => 0,
+        Closing::Withdrawn | Closing::Failed => weight_by(d, i, w, g),
+    }
 }
 
 // What a compensation of PP weighs with all those of QQ, node i, by w.
-fn weight_before(d: &[u32], i: usize, w: u8, g: Weight) -> Weight
+fn weight_before(d: &[u32], i: usize, w: Closing, g: Weight) -> Weight
     requires { 9 * i + 8 < length d.now }
     ensures { result ≡ after_g (by_w (row d.now i) (closing w)) g }
 {
@@ -138,9 +140,8 @@ fn moves_before(able: bool, l: u32, k: u32) -> u32
 }
 
 // Parallel: how many compensations of the second side, node i, go with endings x of the first and y of its own.
-fn fitting_count(d: &[u32], i: usize, w: u8, x: u8, y: u8) -> u32
-    requires i_in_bounds { 9 * i + 8 < length d.now }
-    requires w_bound { (w < 3) × ((x < 3) × (y < 3)) }
+fn fitting_count(d: &[u32], i: usize, w: Closing, x: Closing, y: Closing) -> u32
+    requires { 9 * i + 8 < length d.now }
     ensures { result ≡ (fitting_t (row d.now i) (closing w) (closing x) (closing y)).many }
 {
     let y = tallies::fitting(word_at(d, i), w, x, y);
@@ -148,22 +149,20 @@ fn fitting_count(d: &[u32], i: usize, w: u8, x: u8, y: u8) -> u32
 }
 
 // And how many with x whatever its own.
-fn partner_count(d: &[u32], i: usize, w: u8, x: u8) -> u32
-    requires i_in_bounds { 9 * i + 8 < length d.now }
-    requires w_bound { (w < 3) × (x < 3) }
+fn partner_count(d: &[u32], i: usize, w: Closing, x: Closing) -> u32
+    requires { 9 * i + 8 < length d.now }
     ensures { result ≡ (partners_t (row d.now i) (closing w) (closing x)).many }
 {
-    let a = fitting_count(d, i, w, x, tallies::RANK_DONE);
-    let b = fitting_count(d, i, w, x, tallies::RANK_WITHDRAWN);
-    let c = fitting_count(d, i, w, x, tallies::RANK_FAILED);
+    let a = fitting_count(d, i, w, x, Closing::Done);
+    let b = fitting_count(d, i, w, x, Closing::Withdrawn);
+    let c = fitting_count(d, i, w, x, Closing::Failed);
     tallies::sum(tallies::sum(a, b), c)
 }
 
 // What a compensation of the first side by x weighs with all that go with it, joint or not. Where only they are counted, their number
 // is enough: what is joint is a step.
-fn beside(joint: bool, d: &[u32], i: usize, w: u8, x: u8, g: Weight) -> Weight
-    requires i_in_bounds { 9 * i + 8 < length d.now }
-    requires w_bound { (w < 3) × (x < 3) }
+fn beside(joint: bool, d: &[u32], i: usize, w: Closing, x: Closing, g: Weight) -> Weight
+    requires { 9 * i + 8 < length d.now }
     ensures { result ≡ beside_g joint (partners_t (row d.now i) (closing w) (closing x)) g }
 {
     if tallies::own_only(g) {
@@ -178,9 +177,8 @@ fn beside(joint: bool, d: &[u32], i: usize, w: u8, x: u8, g: Weight) -> Weight
 }
 
 // All those of the first side, by x, with all that go with them. Most are none, so this is told before.
-fn side_weight(joint: bool, d: &[u32], two: Two, w: u8, x: u8, g: Weight) -> u32
-    requires first_in_bounds { (9 * two.first + 8 < length d.now) × (9 * two.second + 8 < length d.now) }
-    requires w_bound { (w < 3) × (x < 3) }
+fn side_weight(joint: bool, d: &[u32], two: Two, w: Closing, x: Closing, g: Weight) -> u32
+    requires { (9 * two.first + 8 < length d.now) × (9 * two.second + 8 < length d.now) }
     ensures { result ≡ total (by_w (row d.now two.first) (closing x)) (beside_g joint (partners_t (row d.now two.second) (closing w) (closing x)) g) }
 {
     let k = tally_at(d, two.first, x);
@@ -191,22 +189,20 @@ fn side_weight(joint: bool, d: &[u32], two: Two, w: u8, x: u8, g: Weight) -> u32
 }
 
 // By what the first side ends.
-fn first_ending(joint: bool, d: &[u32], two: Two, w: u8, g: Weight, j: u32) -> Fall
-    requires first_in_bounds { (9 * two.first + 8 < length d.now) × (9 * two.second + 8 < length d.now) }
-    requires w_bound { w < 3 }
-    ensures { Fallen (total (by_w (row d.now two.first) done) (beside_g joint (partners_t (row d.now two.second) (closing w) done) g)) (total (by_w (row d.now two.first) withdrawn) (beside_g joint (partners_t (row d.now two.second) (closing w) withdrawn) g)) j result.ending result.rest }
+fn first_ending(joint: bool, d: &[u32], two: Two, w: Closing, g: Weight, j: u32) -> Fall
+    requires { (9 * two.first + 8 < length d.now) × (9 * two.second + 8 < length d.now) }
+    ensures { Lands (total (by_w (row d.now two.first) done) (beside_g joint (partners_t (row d.now two.second) (closing w) done) g)) (total (by_w (row d.now two.first) withdrawn) (beside_g joint (partners_t (row d.now two.second) (closing w) withdrawn) g)) j (closing result.ending) result.rest }
 {
     ending_at(
-        side_weight(joint, d, two, w, tallies::RANK_DONE, g),
-        side_weight(joint, d, two, w, tallies::RANK_WITHDRAWN, g),
+        side_weight(joint, d, two, w, Closing::Done, g),
+        side_weight(joint, d, two, w, Closing::Withdrawn, g),
         j,
     )
 }
 
 // All compensations of the second side by y that go with an ending x of the first.
-fn fitting_weight(d: &[u32], i: usize, w: u8, x: u8, y: u8, g: Weight) -> u32
-    requires i_in_bounds { 9 * i + 8 < length d.now }
-    requires w_bound { (w < 3) × ((x < 3) × (y < 3)) }
+fn fitting_weight(d: &[u32], i: usize, w: Closing, x: Closing, y: Closing, g: Weight) -> u32
+    requires { 9 * i + 8 < length d.now }
     ensures { result ≡ total (fitting_t (row d.now i) (closing w) (closing x) (closing y)) g }
 {
     if tallies::own_only(g) {
@@ -216,14 +212,13 @@ fn fitting_weight(d: &[u32], i: usize, w: u8, x: u8, y: u8, g: Weight) -> u32
 }
 
 // By what the second side ends, where the first ends by x.
-fn second_ending(d: &[u32], i: usize, w: u8, x: u8, g: Weight, j: u32) -> Fall
-    requires i_in_bounds { 9 * i + 8 < length d.now }
-    requires w_bound { (w < 3) × (x < 3) }
-    ensures { Fallen (total (fitting_t (row d.now i) (closing w) (closing x) done) g) (total (fitting_t (row d.now i) (closing w) (closing x) withdrawn) g) j result.ending result.rest }
+fn second_ending(d: &[u32], i: usize, w: Closing, x: Closing, g: Weight, j: u32) -> Fall
+    requires { 9 * i + 8 < length d.now }
+    ensures { Lands (total (fitting_t (row d.now i) (closing w) (closing x) done) g) (total (fitting_t (row d.now i) (closing w) (closing x) withdrawn) g) j (closing result.ending) result.rest }
 {
     ending_at(
-        fitting_weight(d, i, w, x, tallies::RANK_DONE, g),
-        fitting_weight(d, i, w, x, tallies::RANK_WITHDRAWN, g),
+        fitting_weight(d, i, w, x, Closing::Done, g),
+        fitting_weight(d, i, w, x, Closing::Withdrawn, g),
         j,
     )
 }
@@ -236,7 +231,7 @@ fn second_ending(d: &[u32], i: usize, w: u8, x: u8, g: Weight, j: u32) -> Fall
 struct Query {
     weight: Weight,
     number: u32,
-    closing: u8,
+    closing: Closing,
 }
 
 // Node i becomes one of its compensations, and the number of its steps takes the place of its own in c.
@@ -248,13 +243,13 @@ pub fn choose(
     c: &mut [u32; 64],
     d: &[u32],
     i: usize,
-    w: u8,
+    w: Closing,
     g: Weight,
     j: u32,
 ) -> Picked
     requires spot { Spot ns.now t.old i }
     requires weighed { Weighed (scene ns.now t.old a) (notes c.old d.now) i }
-    requires w_bound { (w < 3) × (j < weight_of (scene ns.now t.old a) i (closing w) g) }
+    requires j_bound { j < weight_of (scene ns.now t.old a) i (closing w) g }
     ensures chosen { Chosen (scene ns.now t.old a) i (ask (closing w) g j) t.new result }
     ensures counted { Undone (scene ns.now t.new a) i (notes c.old d.now) (notes c.new d.now) }
 {
@@ -288,7 +283,7 @@ fn choose_by(
 ) -> Picked
     requires spot { Spot ns.now t.old i }
     requires weighed { Weighed (scene ns.now t.old a) (notes c.old d.now) i }
-    requires closing_bound { (q.closing < 3) × (q.number < weight_of (scene ns.now t.old a) i (closing q.closing) q.weight) }
+    requires number_bound { q.number < weight_of (scene ns.now t.old a) i (closing q.closing) q.weight }
     ensures chosen { Chosen (scene ns.now t.old a) i (asked q) t.new result }
     ensures counted { UndoneBelow (scene ns.now t.new a) i (notes c.old d.now) (notes c.new d.now) }
 {
@@ -321,7 +316,7 @@ fn choose_both(
     two: Two,
     q: Query,
 ) -> Picked
-    requires wanted { Wanted (scene ns.now t.old a) i (Both operator two) q.closing q.weight q.number }
+    requires wanted { Wanted (scene ns.now t.old a) i (Both operator two) (closing q.closing) q.weight q.number }
     requires weighed { Weighed (scene ns.now t.old a) (notes c.old d.now) i }
     ensures chosen { Chosen (scene ns.now t.old a) i (asked q) t.new result }
     ensures counted { UndoneBelow (scene ns.now t.new a) i (notes c.old d.now) (notes c.new d.now) }
@@ -334,22 +329,26 @@ fn choose_both(
 }
 
 // P÷Q has one compensation by each closing. P is passed, by all of them.
-fn seek_pair(ns: &[u16], t: &mut [u8], d: &[u32], i: usize, two: Two, w: u8, j: u32) -> Picked
+fn seek_pair(ns: &[u16], t: &mut [u8], d: &[u32], i: usize, two: Two, w: Closing, j: u32) -> Picked
     requires spot { Spot ns.now t.old i }
     requires stands { course_at ns.now t.old i ≡ Pair two }
     requires i_in_bounds { 9 * i + 8 < length d.now }
-    ensures { PairLeft ns.now t.old d.now i two w j t.new result }
+    ensures { PairLeft ns.now t.old d.now i two (closing w) j t.new result }
 {
     states::redraw(ns, t, two.first);
-    if w == tallies::RANK_DONE {
-        states::set_mode(t, i, states::LEFT_SECOND);
-        return lone_at(d, i, j);
-    }
-    states::set_mode(t, i, states::LEFT_NOTHING);
-    Picked {
-        rest: j,
-        moves: 0,
-        able: true,
+    match w {
+        Closing::Done => {
+            states::set_mode(t, i, states::LEFT_SECOND);
+            lone_at(d, i, j)
+        }
+        Closing::Withdrawn | Closing::Failed => {
+            states::set_mode(t, i, states::LEFT_NOTHING);
+            Picked {
+                rest: j,
+                moves: 0,
+                able: true,
+            }
+        }
     }
 }
 
@@ -366,7 +365,7 @@ fn seek_marked(
     child: usize,
     q: Query,
 ) -> Picked
-    requires below { Below (scene ns.now t.old a) i child q.closing q.weight q.number }
+    requires below { Below (scene ns.now t.old a) i child (closing q.closing) q.weight q.number }
     requires weighed { Weighed (scene ns.now t.old a) (notes c.old d.now) child }
     ensures chosen { Chosen (scene ns.now (set t.old i m) a) child (asked q) t.new result }
     ensures counted { Undone (scene ns.now t.new a) child (notes c.old d.now) (notes c.new d.now) }
@@ -385,11 +384,11 @@ fn seek_second(
     d: &[u32],
     i: usize,
     two: Two,
-    w: u8,
+    w: Closing,
     g: Weight,
     k: Picked,
 ) -> Picked
-    requires second_wanted { SecondWanted (scene ns.now t.old a) i two w g k }
+    requires second_wanted { SecondWanted (scene ns.now t.old a) i two (closing w) g k }
     requires weighed { Weighed (scene ns.now t.old a) (notes c.old d.now) two.second }
     requires first_noted { T ((noted_at (scene ns.now t.old a) (notes c.old d.now) two.first).std Undoing) }
     ensures second_chosen { SecondChosen (scene ns.now t.old a) i two (closing w) g k t.new result }
@@ -421,7 +420,7 @@ fn seek_running(
     two: Two,
     q: Query,
 ) -> Picked
-    requires wanted { Wanted (scene ns.now t.old a) i (Both Sequence two) q.closing q.weight q.number }
+    requires wanted { Wanted (scene ns.now t.old a) i (Both Sequence two) (closing q.closing) q.weight q.number }
     requires weighed { Weighed (scene ns.now t.old a) (notes c.old d.now) i }
     ensures chosen { Chosen (scene ns.now t.old a) i (asked q) t.new result }
     ensures counted { UndoneBelow (scene ns.now t.new a) i (notes c.old d.now) (notes c.new d.now) }
@@ -438,7 +437,7 @@ fn seek_running(
         c,
         d,
         two.first,
-        tallies::RANK_DONE,
+        Closing::Done,
         before,
         q.number - own,
     );
@@ -456,7 +455,7 @@ fn seek_choice(
     two: Two,
     q: Query,
 ) -> Picked
-    requires wanted { Wanted (scene ns.now t.old a) i (Both Choice two) q.closing q.weight q.number }
+    requires wanted { Wanted (scene ns.now t.old a) i (Both Choice two) (closing q.closing) q.weight q.number }
     requires weighed { Weighed (scene ns.now t.old a) (notes c.old d.now) i }
     ensures chosen { Chosen (scene ns.now t.old a) i (asked q) t.new result }
     ensures counted { UndoneBelow (scene ns.now t.new a) i (notes c.old d.now) (notes c.new d.now) }
@@ -486,7 +485,7 @@ fn seek_parallel(
     two: Two,
     q: Query,
 ) -> Picked
-    requires wanted { Wanted (scene ns.now t.old a) i (Both (Parallel set) two) q.closing q.weight q.number }
+    requires wanted { Wanted (scene ns.now t.old a) i (Both (Parallel set) two) (closing q.closing) q.weight q.number }
     requires weighed { Weighed (scene ns.now t.old a) (notes c.old d.now) i }
     ensures chosen { Chosen (scene ns.now t.old a) i (asked q) t.new result }
     ensures counted { UndoneBelow (scene ns.now t.new a) i (notes c.old d.now) (notes c.new d.now) }

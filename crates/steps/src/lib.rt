@@ -19,7 +19,7 @@ ghost use Rattle.steps.specs.Turns.{Turned, halves, Forked};
 
 use flow::{Operator, Two};
 use states::{Course, Picked, Sense, Standing};
-use tallies::Weight;
+use tallies::{Closing, Weight};
 
 // Where a step goes on: a live part, the place among its steps, and whether it is the second of two.
 #[derive(Clone, Copy)]
@@ -129,7 +129,7 @@ fn hold(ns: &[u16], t: &mut [u8], a: u64, c: &mut [u32; 64], d: &[u32], two: Two
         moves: 0,
         able: 0,
     };
-    seek::choose(ns, t, a, c, d, two.first, tallies::RANK_DONE, each, j)
+    seek::choose(ns, t, a, c, d, two.first, Closing::Done, each, j)
 }
 
 // Two running parts. Where PP;QQ goes on, a compensation of PP's done ending is chosen, to be held while QQ makes the step.
@@ -194,7 +194,7 @@ fn turn_out(
         moves: 1,
         able: 0,
     };
-    let x = seek::choose(ns, t, a, c, d, child, tallies::RANK_FAILED, each, k - n);
+    let x = seek::choose(ns, t, a, c, d, child, Closing::Failed, each, k - n);
     x.rest
 }
 

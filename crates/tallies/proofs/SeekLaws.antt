@@ -4,19 +4,18 @@
 use Prim.Native.Nat.{ℕ, ◌+◌, ◌*◌, ◌-◌, ◌≤◌, ◌<◌}
 use native.Mathlib.Omega.{arith}
 use Rattle.std.proofs.Math.Nat.{mul_comm}
-use Rattle.std.specs.Prelude.{◌≡◌, ◌≢◌, Bool, true, false, not, ◌&&◌, T, eqb}
+use Rattle.std.specs.Prelude.{◌≡◌, Bool, true, false, not, ◌&&◌, T}
 use Rattle.std.proofs.Math.Path.{refl, sym, ap}
-use Rattle.std.proofs.Common.{◌∙◌, ap₂, eqb→eq}
+use Rattle.std.proofs.Common.{◌∙◌, ap₂}
 use Rattle.std.proofs.Math.Bool.{cond}
 use mathlib.Core.List.{List, [], ◌∷◌, ◌++◌, map}
-use Rattle.std.proofs.Math.Dec.{not_T}
 use Rattle.std.proofs.Math.ListN.{length}
 use Rattle.calculus.specs.Term.{Closing, done, withdrawn, failed, Joint, Std, Cmp, skip, seq, par, pair, cseq, calt, cpar, held, join}
 use Rattle.calculus.specs.Successors.{eqc, closings, only, ends, comps, csteps}
 use Rattle.calculus.proofs.Equations.{ends_skip, ends_seq, steps_skip, comps_pair, comps_cseq, comps_calt, comps_held}
 use Rattle.tallies.specs.Capped.{cap}
 use Rattle.tallies.specs.CappedLaws.{cap_cap, cap_add, cap_add_left, cap_add_right, cap_mul_left, cap_mul_right, cap_sum, cap_product}
-use Rattle.tallies.specs.Formulas.{when_t, by_w, weighs, total, one_g, after_g, inside_g, sides, beside_g, within_g, fitting_t, partners_t, closing}
+use Rattle.tallies.specs.Formulas.{when_t, by_w, weighs, total, one_g, after_g, inside_g, sides, beside_g, within_g, fitting_t, partners_t}
 use Rattle.tallies.specs.Counts.{sum_of, moves_both, moves, able, view, tally, word, weight}
 use Rattle.tallies.specs.Grids.{besides, partners}
 use Rattle.tallies.specs.SumsLaws.{numbers, number_nil, sum_append, sum_map, sum_each, sum_by, sum_same, length_is}
@@ -116,19 +115,6 @@ module _ (a : ℕ) (g : Weight) where
           three_cap _ (g.own + g.moves * moves a k) _ (g.moves * moves a x) _ (on * able a x)
           (cap_cap _ ∙ cap_add_right g.own (g.moves * cap (moves a k)) ∙ cap_sum g.own g.own _ (g.moves * moves a k) refl (cap_mul_right g.moves (moves a k))) refl refl
           ∙ ap cap (rw (able_times g.able (ends k done), m, able_par a js k x) (omega arith))
-
--- Closings as small numbers ---------------------------------------------------------------------------------------------
-
-pub eqc_done : (n : ℕ) → eqc (closing n) done ≡ eqb n 0
-eqc_done n = by (eqb n 0) (eqb n 1)
-  where
-    by : (b c : Bool) → eqc (cond b done (cond c withdrawn failed)) done ≡ b
-    by true c = refl
-    by false true = refl
-    by false false = refl
-
-pub closing_other : (n : ℕ) → n ≢ 0 → T (not (eqc (closing n) done))
-closing_other n h = rw eqc_done (not_T (eqb n 0) (λ t. h (eqb→eq n 0 t)))
 
 -- What the code learns of counts and weights ----------------------------------------------------------------------------
 

@@ -10,6 +10,8 @@ use Rattle.std.specs.Prelude.{ℕ, ◌+◌, ◌*◌, Bool, true, false, not, ◌
 use Rattle.calculus.specs.Term.{Closing, done, withdrawn, failed, join}
 use Rattle.calculus.specs.Successors.{eqc, closings, some_of}
 use Rattle.tallies.specs.Capped.{cap}
+use Rattle.tallies.specs.declared.Closing.{Closing as Ending}
+use Rattle.tallies.specs.declared.Closing.TheVariants.{Done, Withdrawn, Failed}
 use Rattle.tallies.specs.declared.View.{View}
 use Rattle.tallies.specs.declared.Tally.{Tally}
 use Rattle.tallies.specs.declared.Word.{Word}
@@ -17,14 +19,16 @@ use Rattle.tallies.specs.declared.Weight.{Weight}
 
 -- Closings --------------------------------------------------------------------------------------------------------------
 
--- a closing by its rank
-abbrev pub closing : ℕ → Closing
-closing n = cond (eqb n 0) done (cond (eqb n 1) withdrawn failed)
+-- the calculus's closing for one of the code's, and the code's for one of the calculus's
+abbrev pub closing : Ending → Closing
+closing Done = done
+closing Withdrawn = withdrawn
+closing Failed = failed
 
-abbrev pub rank : Closing → ℕ
-rank done = 0
-rank withdrawn = 1
-rank failed = 2
+abbrev pub rank : Closing → Ending
+rank done = Done
+rank withdrawn = Withdrawn
+rank failed = Failed
 
 -- Views -----------------------------------------------------------------------------------------------------------------
 

@@ -12,15 +12,13 @@ ghost use Rattle.calculus.specs.Successors.{eqc};
 
 const MOST: u64 = 4294967295;
 
-// Closings by their rank, in the order of 01.
-pub const RANK_DONE: u8 = 0;
-
-pub const RANK_WITHDRAWN: u8 = 1;
-
-pub const RANK_FAILED: u8 = 2;
-
-// JOIN[3 * x + y]: how two parallel sides end that end by x and y.
-const JOIN: [u8; 9] = [0, 1, 2, 1, 1, 2, 2, 2, 2];
+// How a part ends, in the order of 01.
+#[derive(Clone, Copy, PartialEq, Eq)]
+pub enum Closing {
+    Done,
+    Withdrawn,
+    Failed,
+}
 
 // One term, and a record: how many steps by it, and by what the term can end.
 #[derive(Clone, Copy)]
@@ -97,23 +95,18 @@ fn view_of(moves: u32, done: bool, withdraws: bool, fails: bool) -> View
 
 // How two parallel sides end that end by x and y: each single pair of closings is combined here. Sums over all pairs are in closed form,
 // by the laws `join_done`, `join_withdrawn` and `join_failed` (specs/JoinLaws.antt).
-fn joined(x: u8, y: u8) -> u8
-    requires { (x < 3) × (y < 3) }
+fn joined(x: Closing, y: Closing) -> Closing
     ensures { result ≡ rank (join (closing x) (closing y)) }
 {
-    let k = wide_index(3 * x + y);
-    JOIN[k]
-}
-
-fn wide_index(x: u8) -> usize
-    ensures { result ≡ x }
-{
-    x as usize
+    match (x, y) {
+        (Closing::Failed, _) | (_, Closing::Failed) => Closing::Failed,
+        (Closing::Done, Closing::Done) => Closing::Done,
+        _ => Closing::Withdrawn,
+    }
 }
 
 // Whether x and y join to u.
-fn joins(u: u8, x: u8, y: u8) -> bool
-    requires { (u < 3) × ((x < 3) × (y < 3)) }
+fn joins(u: Closing, x: Closing, y: Closing) -> bool
     ensures { result ≡ eqc (closing u) (join (closing x) (closing y)) }
 {
     joined(x, y) == u
@@ -356,16 +349,14 @@ fn word_of(moves: u32, done: Tally, withdrawn: Tally, failed: Tally) -> Word
     }
 }
 
-pub fn tally_by(x: Word, w: u8) -> Tally
+pub fn tally_by(x: Word, w: Closing) -> Tally
     ensures { result ≡ by_w x (closing w) }
 {
-    if w == RANK_DONE {
-        return x.done;
+    match w {
+        Closing::Done => x.done,
+        Closing::Withdrawn => x.withdrawn,
+        Closing::Failed => x.failed,
     }
-    if w == RANK_WITHDRAWN {
-        return x.withdrawn;
-    }
-    x.failed
 }
 
 pub fn block_view(x: Word) -> View
@@ -433,24 +424,22 @@ pub fn choice_word(x: Word, y: Word) -> Word
 }
 
 // Compensations of the second side by y, where the first ends by x and both by u.
-pub fn fitting(q: Word, u: u8, x: u8, y: u8) -> Tally
-    requires { (u < 3) × ((x < 3) × (y < 3)) }
+pub fn fitting(q: Word, u: Closing, x: Closing, y: Closing) -> Tally
     ensures { result ≡ fitting_t q (closing u) (closing x) (closing y) }
 {
     tally_when(joins(u, x, y), tally_by(q, y))
 }
 
 // All compensations of the second side that go with an ending x of the first.
-pub fn partners(q: Word, u: u8, x: u8) -> Tally
-    requires { (u < 3) × (x < 3) }
+pub fn partners(q: Word, u: Closing, x: Closing) -> Tally
     ensures { result ≡ partners_t q (closing u) (closing x) }
 {
     plus(
         plus(
-            fitting(q, u, x, RANK_DONE),
-            fitting(q, u, x, RANK_WITHDRAWN),
+            fitting(q, u, x, Closing::Done),
+            fitting(q, u, x, Closing::Withdrawn),
         ),
-        fitting(q, u, x, RANK_FAILED),
+        fitting(q, u, x, Closing::Failed),
     )
 }
 

@@ -16,10 +16,10 @@ step_run-requires c =
 pub choose-requires : goal.choose-requires
 choose-requires c =
     let a = c.args in
-    let whole = closing_asked a.ns.now a.t.now a.cue c.root_of-i.result c.root_of-i.ensures c.in-Running.is c.if-cue-lt-DONE_CUE.false c.requires.in_bounds.1 c.rank_of.result c.rank_of.ensures.1 c.rank_of.ensures.0 c.requires.spot c.requires.right_counts c.requires.k_bound in record {
+    let whole = closing_asked a.ns.now a.t.now a.cue c.root_of-i.result c.root_of-i.ensures c.in-Running.is c.if-cue-lt-DONE_CUE.false c.requires.in_bounds.1 c.closing_of.result c.closing_of.ensures c.requires.spot c.requires.right_counts c.requires.k_bound in record {
       spot = whole.0;
       weighed = whole.1.0;
-      w_bound = whole.1.1;
+      j_bound = whole.1.1;
     }
 
 pub returns-in-Plain : goal.returns-in-Plain
@@ -36,4 +36,4 @@ returns-then-cue-lt-DONE_CUE c =
 pub returns-else-cue-lt-DONE_CUE : goal.returns-else-cue-lt-DONE_CUE
 returns-else-cue-lt-DONE_CUE c =
     let a = c.args in
-    closing_applied a.ns.now a.t.now a.cue c.root_of-i.result c.root_of-i.ensures c.in-Running.is c.if-cue-lt-DONE_CUE.false c.requires.in_bounds.1 c.rank_of.result c.rank_of.ensures.1 c.choose.ensures.chosen
+    closing_applied a.ns.now a.t.now a.cue c.root_of-i.result c.root_of-i.ensures c.in-Running.is c.if-cue-lt-DONE_CUE.false c.requires.in_bounds.1 c.closing_of.result c.closing_of.ensures c.choose.ensures.chosen

@@ -10,7 +10,7 @@ use native.Mathlib.Omega.{arith}
 use Rattle.seek.proofs.+choosing.Goals as goal
 
 pub choose-choose_by-p-requires : goal.choose-choose_by-p-requires
-choose-choose_by-p-requires t c = (omega (arith, c.decreases), (c.requires.spot, (c.requires.weighed, c.requires.w_bound)))
+choose-choose_by-p-requires t c = (omega (arith, c.decreases), (c.requires.spot, (c.requires.weighed, c.requires.j_bound)))
 
 pub choose-put_count-requires : goal.choose-put_count-requires
 choose-put_count-requires t c = let spot = c.requires.spot in omega (arith, spot.node.inside, spot.node.sound.few)
@@ -64,27 +64,27 @@ choose_by-seek_pair-requires t c =
     }
 
 pub choose_by-choose_both-requires : goal.choose_by-choose_both-requires
-choose_by-choose_both-requires t c = (omega (arith, c.decreases), (wanted c.requires.spot c.requires.closing_bound c.course_at-course.ensures c.in-Both.is, c.requires.weighed))
+choose_by-choose_both-requires t c = (omega (arith, c.decreases), (wanted c.requires.spot c.requires.number_bound c.course_at-course.ensures c.in-Both.is, c.requires.weighed))
 
 pub choose_by-lone_at-k-requires : goal.choose_by-lone_at-k-requires
-choose_by-lone_at-k-requires t c = held_room (wanted c.requires.spot c.requires.closing_bound c.course_at-course.ensures c.in-Held.is) c.requires.weighed
+choose_by-lone_at-k-requires t c = held_room (wanted c.requires.spot c.requires.number_bound c.course_at-course.ensures c.in-Held.is) c.requires.weighed
 
 pub choose_by-seek_second-requires : goal.choose_by-seek_second-requires
-choose_by-seek_second-requires t c = let h = wanted c.requires.spot c.requires.closing_bound c.course_at-course.ensures c.in-Held.is in let k = c.requires.weighed in (omega (arith, c.decreases), (held_wanted h k c.lone_at-k.ensures, (held_weighed k h.spot h.is, held_undone k h.spot h.is)))
+choose_by-seek_second-requires t c = let h = wanted c.requires.spot c.requires.number_bound c.course_at-course.ensures c.in-Held.is in let k = c.requires.weighed in (omega (arith, c.decreases), (held_wanted h k c.lone_at-k.ensures, (held_weighed k h.spot h.is, held_undone k h.spot h.is)))
 
 pub choose_by-choose-requires : goal.choose_by-choose-requires
-choose_by-choose-requires t c = let h = wanted c.requires.spot c.requires.closing_bound c.course_at-course.ensures c.in-As.is in let l = as_lower h in (omega (arith, c.decreases, l), (lower_spot c.requires.spot l, (as_weighed c.requires.weighed h.spot h.is, (c.requires.closing_bound.0, as_room h))))
+choose_by-choose-requires t c = let h = wanted c.requires.spot c.requires.number_bound c.course_at-course.ensures c.in-As.is in let l = as_lower h in (omega (arith, c.decreases, l), (lower_spot c.requires.spot l, (as_weighed c.requires.weighed h.spot h.is, as_room h)))
 
 pub choose_by-returns-in-Basic : goal.choose_by-returns-in-Basic
 choose_by-returns-in-Basic t c =
-    let h = wanted c.requires.spot c.requires.closing_bound c.course_at-course.ensures c.in-Basic.is in record {
+    let h = wanted c.requires.spot c.requires.number_bound c.course_at-course.ensures c.in-Basic.is in record {
       chosen = basic_chosen h;
       counted = basic_undone h _;
     }
 
 pub choose_by-returns-in-Pair : goal.choose_by-returns-in-Pair
 choose_by-returns-in-Pair t c =
-    let spot = c.requires.spot in let e = sym c.course_at-course.ensures ∙ c.in-Pair.is in let k = c.requires.weighed in let room = c.requires.closing_bound.1 in record {
+    let spot = c.requires.spot in let e = sym c.course_at-course.ensures ∙ c.in-Pair.is in let k = c.requires.weighed in let room = c.requires.number_bound in record {
       chosen = pair_chosen spot e k _ room c.seek_pair.ensures;
       counted = pair_undone spot e k _ room c.seek_pair.ensures;
     }
@@ -98,14 +98,14 @@ choose_by-returns-in-Both t c =
 
 pub choose_by-returns-in-Held : goal.choose_by-returns-in-Held
 choose_by-returns-in-Held t c =
-    let h = wanted c.requires.spot c.requires.closing_bound c.course_at-course.ensures c.in-Held.is in record {
+    let h = wanted c.requires.spot c.requires.number_bound c.course_at-course.ensures c.in-Held.is in record {
       chosen = held_chosen h c.requires.weighed c.lone_at-k.ensures c.seek_second.ensures.second_chosen;
       counted = c.seek_second.ensures.counted;
     }
 
 pub choose_by-returns-in-As : goal.choose_by-returns-in-As
 choose_by-returns-in-As t c =
-    let h = wanted c.requires.spot c.requires.closing_bound c.course_at-course.ensures c.in-As.is in record {
+    let h = wanted c.requires.spot c.requires.number_bound c.course_at-course.ensures c.in-As.is in record {
       chosen = as_chosen h c.choose.ensures.chosen;
       counted = as_undone h c.choose.ensures.chosen.kept c.choose.ensures.counted;
     }
@@ -137,7 +137,7 @@ pub seek_marked-set_mode-requires : goal.seek_marked-set_mode-requires
 seek_marked-set_mode-requires t c = c.requires.below.spot.room
 
 pub seek_marked-choose-requires : goal.seek_marked-choose-requires
-seek_marked-choose-requires t c = let b = c.requires.below in let e = c.set_mode.ensures in let l = kid_lower c.args.ns.now b.spot.node.sound.tree b.kid in (omega (arith, c.decreases), (below_spot _ e b, (below_weighed _ e b c.requires.weighed, (b.closes, below_room _ e b))))
+seek_marked-choose-requires t c = let b = c.requires.below in let e = c.set_mode.ensures in let l = kid_lower c.args.ns.now b.spot.node.sound.tree b.kid in (omega (arith, c.decreases), (below_spot _ e b, (below_weighed _ e b c.requires.weighed, below_room _ e b)))
 
 pub seek_marked-returns : goal.seek_marked-returns
 seek_marked-returns t c =
@@ -147,31 +147,21 @@ seek_marked-returns t c =
     }
 
 pub seek_parallel-first_ending-x-requires : goal.seek_parallel-first_ending-x-requires
-seek_parallel-first_ending-x-requires t c =
-    record {
-      first_in_bounds = (first_row c.requires.wanted c.requires.weighed, second_row c.requires.wanted c.requires.weighed);
-      w_bound = c.requires.wanted.closes;
-    }
+seek_parallel-first_ending-x-requires t c = (first_row c.requires.wanted c.requires.weighed, second_row c.requires.wanted c.requires.weighed)
 
 pub seek_parallel-beside-requires : goal.seek_parallel-beside-requires
 seek_parallel-beside-requires t c =
-    record {
-      i_in_bounds = second_row c.requires.wanted c.requires.weighed;
-      w_bound = (c.requires.wanted.closes, c.first_ending-x.ensures.small);
-    }
+    second_row c.requires.wanted c.requires.weighed
 
 pub seek_parallel-choose-k-requires : goal.seek_parallel-choose-k-requires
-seek_parallel-choose-k-requires t c = let h = c.requires.wanted in let f = c.first_ending-x.ensures in (omega (arith, c.decreases, first_lower h), (first_spot h, (first_known h c.requires.weighed, (f.small, par_first_room h c.requires.weighed c.joint-joint.ensures refl refl f c.beside.ensures))))
+seek_parallel-choose-k-requires t c = let h = c.requires.wanted in let f = c.first_ending-x.ensures in (omega (arith, c.decreases, first_lower h), (first_spot h, (first_known h c.requires.weighed, par_first_room h c.requires.weighed c.joint-joint.ensures refl refl f c.beside.ensures)))
 
 pub seek_parallel-second_ending-y-requires : goal.seek_parallel-second_ending-y-requires
 seek_parallel-second_ending-y-requires t c =
-    record {
-      i_in_bounds = second_row c.requires.wanted c.requires.weighed;
-      w_bound = (c.requires.wanted.closes, c.first_ending-x.ensures.small);
-    }
+    second_row c.requires.wanted c.requires.weighed
 
 pub seek_parallel-choose-l-requires : goal.seek_parallel-choose-l-requires
-seek_parallel-choose-l-requires t c = let h = c.requires.wanted in let k = c.requires.weighed in (omega (arith, c.decreases, second_lower h), (same_room (second_spot h) c.choose-k.auto.t, (second_still h k c.choose-k.ensures.chosen.kept c.choose-k.ensures.counted.kept refl, (c.second_ending-y.ensures.small, par_second_room h k c.joint-joint.ensures refl refl c.first_ending-x.ensures c.beside.ensures c.choose-k.ensures.chosen c.weight_within-within.ensures c.second_ending-y.ensures))))
+seek_parallel-choose-l-requires t c = let h = c.requires.wanted in let k = c.requires.weighed in (omega (arith, c.decreases, second_lower h), (same_room (second_spot h) c.choose-k.auto.t, (second_still h k c.choose-k.ensures.chosen.kept c.choose-k.ensures.counted.kept refl, par_second_room h k c.joint-joint.ensures refl refl c.first_ending-x.ensures c.beside.ensures c.choose-k.ensures.chosen c.weight_within-within.ensures c.second_ending-y.ensures)))
 
 pub seek_parallel-returns : goal.seek_parallel-returns
 seek_parallel-returns t c =
@@ -197,7 +187,7 @@ pub seek_running-weight_before-before-requires : goal.seek_running-weight_before
 seek_running-weight_before-before-requires t c = second_row c.requires.wanted c.requires.weighed
 
 pub seek_running-choose-k-requires : goal.seek_running-choose-k-requires
-seek_running-choose-k-requires t c = let h = c.requires.wanted in let k = c.requires.weighed in let d = own_weight h k c.own_weight-own.ensures in let e = weight_before h k c.weight_before-before.ensures in let l = first_lower h in (omega (arith, c.decreases, l), (first_spot h, (first_known h k, (omega arith, both_room h d c.if-q-own.false e))))
+seek_running-choose-k-requires t c = let h = c.requires.wanted in let k = c.requires.weighed in let d = own_weight h k c.own_weight-own.ensures in let e = weight_before h k c.weight_before-before.ensures in let l = first_lower h in (omega (arith, c.decreases, l), (first_spot h, (first_known h k, both_room h d c.if-q-own.false e)))
 
 pub seek_running-seek_second-requires : goal.seek_running-seek_second-requires
 seek_running-seek_second-requires t c = let h = c.requires.wanted in let k = c.requires.weighed in let d = own_weight h k c.own_weight-own.ensures in let e = weight_before h k c.weight_before-before.ensures in (omega (arith, c.decreases), (both_wanted h d c.if-q-own.false e c.choose-k.ensures.chosen c.choose-k.auto.t, (second_still h k c.choose-k.ensures.chosen.kept c.choose-k.ensures.counted.kept refl, c.choose-k.ensures.counted.right)))

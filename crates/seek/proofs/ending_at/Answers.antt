@@ -4,10 +4,10 @@ use Rattle.states.specs.Becomes.{on_done, on_withdrawn, on_failed}
 use Rattle.seek.proofs.ending_at.Goals as goal
 
 pub returns-then-j-x : goal.returns-then-j-x
-returns-then-j-x c = record { lands = search (on_done, arith); small = omega arith }
+returns-then-j-x c = search (on_done, arith)
 
 pub returns-then-k-y : goal.returns-then-k-y
-returns-then-k-y c = record { lands = search (on_withdrawn, arith); small = omega arith }
+returns-then-k-y c = search (on_withdrawn, arith)
 
 pub returns-else-k-y : goal.returns-else-k-y
-returns-else-k-y c = record { lands = search (on_failed, arith); small = omega arith }
+returns-else-k-y c = search (on_failed, arith)

@@ -1,5 +1,4 @@
 -- `steps::hold` meets its contract: each compensation weighs the second part's steps. Assumes nothing.
-use native.Mathlib.Omega.{arith}
 use Rattle.steps.proofs.hold.Goals as goal
 
 pub choose-requires : goal.choose-requires
@@ -7,7 +6,7 @@ choose-requires c =
     record {
       spot = c.requires.spot;
       weighed = c.requires.weighed;
-      w_bound = (omega arith, rw c.count_at-own.ensures c.requires.j_bound);
+      j_bound = rw c.count_at-own.ensures c.requires.j_bound;
     }
 
 pub returns : goal.returns

@@ -1,6 +1,5 @@
 -- `steps::turn_out` meets its contract: a compensation is chosen by what is left of the place, and the tables are right for it. Assumes nothing.
 use mathlib.Core.Path.{refl}
-use native.Mathlib.Omega.{arith}
 use Rattle.states.specs.ChildLaws.{set_sets}
 use Rattle.steps.specs.TurnLaws.{block_small, block_kept, out_spot, out_weighed, out_room, out_turned}
 use Rattle.steps.proofs.turn_out.Goals as goal
@@ -19,7 +18,7 @@ choose-x-requires c =
     let w = set_sets h.spot.room c.set_mode.ensures in record {
       spot = out_spot h e g w;
       weighed = out_weighed h e g w;
-      w_bound = (omega arith, rw c.count_at-n.ensures (out_room h e g w));
+      j_bound = rw c.count_at-n.ensures (out_room h e g w);
     }
 
 pub returns : goal.returns
