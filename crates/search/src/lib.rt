@@ -21,7 +21,7 @@ ghost use Rattle.search.specs.Searches.{role_of, LeftWithin, SearchReady, Search
 ghost use Rattle.search.specs.Visits.{state, role_next, out_of, closing_of, ends_by, onward, VisitReady, Asking, memory, key_of, saw_none, Truthful, KeptOut, quest, Began, Visited, Tried, Followed, Inner, ends, RightCounts, successor_count, SuccessorsCounted, Applied};
 
 use memory::Sight;
-use states::{Role, Sense};
+use states::{Basis, Moving, Role, Sense};
 use tallies::{Closing, View, Weight};
 
 // What a search brings back, unless its allowance is used up: whether it found the end, how many records at most it followed, and what is
@@ -108,28 +108,20 @@ fn apply(ns: &[u16], t: &mut [u8], cue: u64, c: &[u32; 64], d: &[u32], role: Rol
     ensures { Applied ns.now role cue t.old k t.new }
 {
     let i = root_of(ns);
-    let mut u = *c;
+    let by = Basis { ns, a: cue, d };
+    let mut s = Moving { t, c: *c };
     match role {
-        Role::Plain(sense) => steps::step_std(ns, t, cue, &mut u, d, i, sense, k),
+        Role::Plain(sense) => steps::step_std(&by, &mut s, i, sense, k),
         Role::Running => {
             if cue < flow::DONE_CUE {
-                steps::step_run(ns, t, cue, &mut u, d, i, k);
+                steps::step_run(&by, &mut s, i, k);
             } else {
-                seek::choose(
-                    ns,
-                    t,
-                    cue,
-                    &mut u,
-                    d,
-                    i,
-                    closing_of(cue),
-                    Weight {
-                        own: 1,
-                        moves: 0,
-                        able: 0,
-                    },
-                    k,
-                );
+                let each = Weight {
+                    own: 1,
+                    moves: 0,
+                    able: 0,
+                };
+                seek::choose(&by, &mut s, i, closing_of(cue), each, k);
             }
         }
     }

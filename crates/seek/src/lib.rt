@@ -15,11 +15,12 @@ ghost use Rattle.states.specs.declared.Course.TheVariants.{Pair, Both, Held};
 ghost use Rattle.states.specs.declared.Sense.TheVariants.{Undoing};
 ghost use Rattle.states.specs.Becomes.{Lands};
 ghost use Rattle.states.specs.Rows.{share, row, notes};
+ghost use Rattle.states.specs.Stage.{scene_at, notes_at, SameLent};
 ghost use Rattle.states.specs.Clauses.{Spot, scene, noted_at, weight_of, ask, Chosen, Weighed, Undone};
 ghost use Rattle.seek.specs.Asked.{course_at, asked, lone, PairLeft, UndoneBelow, Wanted, Below, SecondWanted, SecondChosen};
 
 use flow::{Operator, Two};
-use states::{Course, Picked};
+use states::{Basis, Course, Moving, Picked};
 use tallies::{Closing, Tally, Weight, Word};
 
 // What is known of running parts ------------------------------------------------------------------------------------
@@ -236,29 +237,17 @@ struct Query {
 
 // Node i becomes one of its compensations, and the number of its steps takes the place of its own in c.
 #[cycle(choosing)]
-pub fn choose(
-    ns: &[u16],
-    t: &mut [u8],
-    a: u64,
-    c: &mut [u32; 64],
-    d: &[u32],
-    i: usize,
-    w: Closing,
-    g: Weight,
-    j: u32,
-) -> Picked
-    requires spot { Spot ns.now t.old i }
-    requires weighed { Weighed (scene ns.now t.old a) (notes c.old d.now) i }
-    requires j_bound { j < weight_of (scene ns.now t.old a) i (closing w) g }
-    ensures chosen { Chosen (scene ns.now t.old a) i (ask (closing w) g j) t.new result }
-    ensures counted { Undone (scene ns.now t.new a) i (notes c.old d.now) (notes c.new d.now) }
+pub fn choose(by: &Basis<'_>, s: &mut Moving<'_>, i: usize, w: Closing, g: Weight, j: u32) -> Picked
+    requires spot { Spot by.now.ns.now s.old.t.now i }
+    requires weighed { Weighed (scene_at by.now s.old) (notes_at by.now s.old) i }
+    requires j_bound { j < weight_of (scene_at by.now s.old) i (closing w) g }
+    ensures chosen { Chosen (scene_at by.now s.old) i (ask (closing w) g j) s.new.t.now result }
+    ensures counted { Undone (scene_at by.now s.new) i (notes_at by.now s.old) (notes_at by.now s.new) }
+    ensures lent { SameLent s.old s.new }
 {
     let p = choose_by(
-        ns,
-        t,
-        a,
-        c,
-        d,
+        by,
+        s,
         i,
         Query {
             closing: w,
@@ -266,65 +255,57 @@ pub fn choose(
             number: j,
         },
     );
-    counting::put_count(c, i, p.moves);
+    counting::put_count(&mut s.c, i, p.moves);
     p
 }
 
 // By its course.
 #[cycle(choosing)]
-fn choose_by(
-    ns: &[u16],
-    t: &mut [u8],
-    a: u64,
-    c: &mut [u32; 64],
-    d: &[u32],
-    i: usize,
-    q: Query,
-) -> Picked
-    requires spot { Spot ns.now t.old i }
-    requires weighed { Weighed (scene ns.now t.old a) (notes c.old d.now) i }
-    requires number_bound { q.number < weight_of (scene ns.now t.old a) i (closing q.closing) q.weight }
-    ensures chosen { Chosen (scene ns.now t.old a) i (asked q) t.new result }
-    ensures counted { UndoneBelow (scene ns.now t.new a) i (notes c.old d.now) (notes c.new d.now) }
+fn choose_by(by: &Basis<'_>, s: &mut Moving<'_>, i: usize, q: Query) -> Picked
+    requires spot { Spot by.now.ns.now s.old.t.now i }
+    requires weighed { Weighed (scene_at by.now s.old) (notes_at by.now s.old) i }
+    requires number_bound { q.number < weight_of (scene_at by.now s.old) i (closing q.closing) q.weight }
+    ensures chosen { Chosen (scene_at by.now s.old) i (asked q) s.new.t.now result }
+    ensures counted { UndoneBelow (scene_at by.now s.new) i (notes_at by.now s.old) (notes_at by.now s.new) }
+    ensures lent { SameLent s.old s.new }
 {
-    let course = states::course_at(ns, t, i);
+    let t = &mut *s.t;
+    let course = states::course_at(by.ns, t, i);
     match course {
         Course::Basic(_) => Picked {
             rest: q.number,
             moves: 0,
             able: true,
         },
-        Course::Pair(two) => seek_pair(ns, t, d, i, two, q.closing, q.number),
-        Course::Both(operator, two) => choose_both(ns, t, a, c, d, i, operator, two, q),
+        Course::Pair(two) => seek_pair(by.ns, s.t, by.d, i, two, q.closing, q.number),
+        Course::Both(operator, two) => choose_both(by, s, i, operator, two, q),
         Course::Held(two) => {
-            let k = lone_at(d, two.first, q.number);
-            seek_second(ns, t, a, c, d, i, two, q.closing, q.weight, k)
+            let k = lone_at(by.d, two.first, q.number);
+            seek_second(by, s, i, two, q.closing, q.weight, k)
         }
-        Course::As(child) => choose(ns, t, a, c, d, child, q.closing, q.weight, q.number),
+        Course::As(child) => choose(by, s, child, q.closing, q.weight, q.number),
     }
 }
 
 #[cycle(choosing)]
 fn choose_both(
-    ns: &[u16],
-    t: &mut [u8],
-    a: u64,
-    c: &mut [u32; 64],
-    d: &[u32],
+    by: &Basis<'_>,
+    s: &mut Moving<'_>,
     i: usize,
     operator: Operator,
     two: Two,
     q: Query,
 ) -> Picked
-    requires wanted { Wanted (scene ns.now t.old a) i (Both operator two) (closing q.closing) q.weight q.number }
-    requires weighed { Weighed (scene ns.now t.old a) (notes c.old d.now) i }
-    ensures chosen { Chosen (scene ns.now t.old a) i (asked q) t.new result }
-    ensures counted { UndoneBelow (scene ns.now t.new a) i (notes c.old d.now) (notes c.new d.now) }
+    requires wanted { Wanted (scene_at by.now s.old) i (Both operator two) (closing q.closing) q.weight q.number }
+    requires weighed { Weighed (scene_at by.now s.old) (notes_at by.now s.old) i }
+    ensures chosen { Chosen (scene_at by.now s.old) i (asked q) s.new.t.now result }
+    ensures counted { UndoneBelow (scene_at by.now s.new) i (notes_at by.now s.old) (notes_at by.now s.new) }
+    ensures lent { SameLent s.old s.new }
 {
     match operator {
-        Operator::Sequence => seek_running(ns, t, a, c, d, i, two, q),
-        Operator::Choice => seek_choice(ns, t, a, c, d, i, two, q),
-        Operator::Parallel(set) => seek_parallel(ns, t, a, c, d, i, set, two, q),
+        Operator::Sequence => seek_running(by, s, i, two, q),
+        Operator::Choice => seek_choice(by, s, i, two, q),
+        Operator::Parallel(set) => seek_parallel(by, s, i, set, two, q),
     }
 }
 
@@ -355,44 +336,40 @@ fn seek_pair(ns: &[u16], t: &mut [u8], d: &[u32], i: usize, two: Two, w: Closing
 // Node i gets the mode m, and a child becomes one of its compensations.
 #[cycle(choosing)]
 fn seek_marked(
-    ns: &[u16],
-    t: &mut [u8],
-    a: u64,
-    c: &mut [u32; 64],
-    d: &[u32],
+    by: &Basis<'_>,
+    s: &mut Moving<'_>,
     i: usize,
     m: u8,
     child: usize,
     q: Query,
 ) -> Picked
-    requires below { Below (scene ns.now t.old a) i child (closing q.closing) q.weight q.number }
-    requires weighed { Weighed (scene ns.now t.old a) (notes c.old d.now) child }
-    ensures chosen { Chosen (scene ns.now (set t.old i m) a) child (asked q) t.new result }
-    ensures counted { Undone (scene ns.now t.new a) child (notes c.old d.now) (notes c.new d.now) }
+    requires below { Below (scene_at by.now s.old) i child (closing q.closing) q.weight q.number }
+    requires weighed { Weighed (scene_at by.now s.old) (notes_at by.now s.old) child }
+    ensures chosen { Chosen (scene by.now.ns.now (set s.old.t.now i m) by.now.a) child (asked q) s.new.t.now result }
+    ensures counted { Undone (scene_at by.now s.new) child (notes_at by.now s.old) (notes_at by.now s.new) }
+    ensures lent { SameLent s.old s.new }
 {
-    states::set_mode(t, i, m);
-    choose(ns, t, a, c, d, child, q.closing, q.weight, q.number)
+    states::set_mode(s.t, i, m);
+    choose(by, s, child, q.closing, q.weight, q.number)
 }
 
 // PP;QQ whose PP has ended: QQ's compensation, and then PP's, k.
 #[cycle(choosing)]
 fn seek_second(
-    ns: &[u16],
-    t: &mut [u8],
-    a: u64,
-    c: &mut [u32; 64],
-    d: &[u32],
+    by: &Basis<'_>,
+    s: &mut Moving<'_>,
     i: usize,
     two: Two,
     w: Closing,
     g: Weight,
     k: Picked,
 ) -> Picked
-    requires second_wanted { SecondWanted (scene ns.now t.old a) i two (closing w) g k }
-    requires weighed { Weighed (scene ns.now t.old a) (notes c.old d.now) two.second }
-    requires first_noted { T ((noted_at (scene ns.now t.old a) (notes c.old d.now) two.first).std Undoing) }
-    ensures second_chosen { SecondChosen (scene ns.now t.old a) i two (closing w) g k t.new result }
-    ensures counted { UndoneBelow (scene ns.now t.new a) i (notes c.old d.now) (notes c.new d.now) }
+    requires second_wanted { SecondWanted (scene_at by.now s.old) i two (closing w) g k }
+    requires weighed { Weighed (scene_at by.now s.old) (notes_at by.now s.old) two.second }
+    requires first_noted { T ((noted_at (scene_at by.now s.old) (notes_at by.now s.old) two.first).std Undoing) }
+    ensures second_chosen { SecondChosen (scene_at by.now s.old) i two (closing w) g k s.new.t.now result }
+    ensures counted { UndoneBelow (scene_at by.now s.new) i (notes_at by.now s.old) (notes_at by.now s.new) }
+    ensures lent { SameLent s.old s.new }
 {
     let inside = tallies::weight_inside(g, k.moves, k.able);
     let inner = Query {
@@ -400,7 +377,7 @@ fn seek_second(
         weight: inside,
         number: k.rest,
     };
-    let l = seek_marked(ns, t, a, c, d, i, states::LEFT_BOTH, two.second, inner);
+    let l = seek_marked(by, s, i, states::LEFT_BOTH, two.second, inner);
     Picked {
         rest: l.rest,
         moves: moves_before(l.able, l.moves, k.moves),
@@ -410,104 +387,73 @@ fn seek_second(
 
 // PP closes by w, or it ends done and QQ closes by w.
 #[cycle(choosing)]
-fn seek_running(
-    ns: &[u16],
-    t: &mut [u8],
-    a: u64,
-    c: &mut [u32; 64],
-    d: &[u32],
-    i: usize,
-    two: Two,
-    q: Query,
-) -> Picked
-    requires wanted { Wanted (scene ns.now t.old a) i (Both Sequence two) (closing q.closing) q.weight q.number }
-    requires weighed { Weighed (scene ns.now t.old a) (notes c.old d.now) i }
-    ensures chosen { Chosen (scene ns.now t.old a) i (asked q) t.new result }
-    ensures counted { UndoneBelow (scene ns.now t.new a) i (notes c.old d.now) (notes c.new d.now) }
+fn seek_running(by: &Basis<'_>, s: &mut Moving<'_>, i: usize, two: Two, q: Query) -> Picked
+    requires wanted { Wanted (scene_at by.now s.old) i (Both Sequence two) (closing q.closing) q.weight q.number }
+    requires weighed { Weighed (scene_at by.now s.old) (notes_at by.now s.old) i }
+    ensures chosen { Chosen (scene_at by.now s.old) i (asked q) s.new.t.now result }
+    ensures counted { UndoneBelow (scene_at by.now s.new) i (notes_at by.now s.old) (notes_at by.now s.new) }
+    ensures lent { SameLent s.old s.new }
 {
-    let own = own_weight(d, two.first, q.closing, q.weight);
+    let own = own_weight(by.d, two.first, q.closing, q.weight);
     if q.number < own {
-        return seek_marked(ns, t, a, c, d, i, states::LEFT_FIRST, two.first, q);
+        return seek_marked(by, s, i, states::LEFT_FIRST, two.first, q);
     }
-    let before = weight_before(d, two.second, q.closing, q.weight);
-    let k = choose(
-        ns,
-        t,
-        a,
-        c,
-        d,
-        two.first,
-        Closing::Done,
-        before,
-        q.number - own,
-    );
-    seek_second(ns, t, a, c, d, i, two, q.closing, q.weight, k)
+    let before = weight_before(by.d, two.second, q.closing, q.weight);
+    let k = choose(by, s, two.first, Closing::Done, before, q.number - own);
+    seek_second(by, s, i, two, q.closing, q.weight, k)
 }
 
 #[cycle(choosing)]
-fn seek_choice(
-    ns: &[u16],
-    t: &mut [u8],
-    a: u64,
-    c: &mut [u32; 64],
-    d: &[u32],
-    i: usize,
-    two: Two,
-    q: Query,
-) -> Picked
-    requires wanted { Wanted (scene ns.now t.old a) i (Both Choice two) (closing q.closing) q.weight q.number }
-    requires weighed { Weighed (scene ns.now t.old a) (notes c.old d.now) i }
-    ensures chosen { Chosen (scene ns.now t.old a) i (asked q) t.new result }
-    ensures counted { UndoneBelow (scene ns.now t.new a) i (notes c.old d.now) (notes c.new d.now) }
+fn seek_choice(by: &Basis<'_>, s: &mut Moving<'_>, i: usize, two: Two, q: Query) -> Picked
+    requires wanted { Wanted (scene_at by.now s.old) i (Both Choice two) (closing q.closing) q.weight q.number }
+    requires weighed { Weighed (scene_at by.now s.old) (notes_at by.now s.old) i }
+    ensures chosen { Chosen (scene_at by.now s.old) i (asked q) s.new.t.now result }
+    ensures counted { UndoneBelow (scene_at by.now s.new) i (notes_at by.now s.old) (notes_at by.now s.new) }
+    ensures lent { SameLent s.old s.new }
 {
     let g = q.weight;
-    let p = weight_by(d, two.first, q.closing, g);
+    let p = weight_by(by.d, two.first, q.closing, g);
     if q.number < p {
-        return seek_marked(ns, t, a, c, d, i, states::FIRST_TAKEN, two.first, q);
+        return seek_marked(by, s, i, states::FIRST_TAKEN, two.first, q);
     }
     let rest = Query {
         closing: q.closing,
         weight: g,
         number: q.number - p,
     };
-    seek_marked(ns, t, a, c, d, i, states::SECOND_TAKEN, two.second, rest)
+    seek_marked(by, s, i, states::SECOND_TAKEN, two.second, rest)
 }
 
 #[cycle(choosing)]
 fn seek_parallel(
-    ns: &[u16],
-    t: &mut [u8],
-    a: u64,
-    c: &mut [u32; 64],
-    d: &[u32],
+    by: &Basis<'_>,
+    s: &mut Moving<'_>,
     i: usize,
     set: u16,
     two: Two,
     q: Query,
 ) -> Picked
-    requires wanted { Wanted (scene ns.now t.old a) i (Both (Parallel set) two) (closing q.closing) q.weight q.number }
-    requires weighed { Weighed (scene ns.now t.old a) (notes c.old d.now) i }
-    ensures chosen { Chosen (scene ns.now t.old a) i (asked q) t.new result }
-    ensures counted { UndoneBelow (scene ns.now t.new a) i (notes c.old d.now) (notes c.new d.now) }
+    requires wanted { Wanted (scene_at by.now s.old) i (Both (Parallel set) two) (closing q.closing) q.weight q.number }
+    requires weighed { Weighed (scene_at by.now s.old) (notes_at by.now s.old) i }
+    ensures chosen { Chosen (scene_at by.now s.old) i (asked q) s.new.t.now result }
+    ensures counted { UndoneBelow (scene_at by.now s.new) i (notes_at by.now s.old) (notes_at by.now s.new) }
+    ensures lent { SameLent s.old s.new }
 {
     let w = q.closing;
     let g = q.weight;
-    let joint = states::joint(a, set);
-    let x = first_ending(joint, d, two, w, g, q.number);
+    let joint = states::joint(by.a, set);
+    let x = first_ending(joint, by.d, two, w, g, q.number);
     let k = choose(
-        ns,
-        t,
-        a,
-        c,
-        d,
+        by,
+        s,
         two.first,
         x.ending,
-        beside(joint, d, two.second, w, x.ending, g),
+        beside(joint, by.d, two.second, w, x.ending, g),
         x.rest,
     );
     let within = tallies::weight_within(joint, g, k.moves, k.able);
-    let y = second_ending(d, two.second, w, x.ending, within, k.rest);
-    let l = choose(ns, t, a, c, d, two.second, y.ending, within, y.rest);
+    let y = second_ending(by.d, two.second, w, x.ending, within, k.rest);
+    let l = choose(by, s, two.second, y.ending, within, y.rest);
     Picked {
         rest: l.rest,
         moves: tallies::sides(joint, k.moves, l.moves),

@@ -6,10 +6,12 @@ pub mod Stored
 pub mod LiveParts
 pub mod Roles
 pub mod Scenes
+pub mod Stage
 pub mod Becomes
 pub mod Hands
 pub mod Clauses
 -- Theorems.
+pub mod StageLaws
 pub mod RowLaws
 pub mod Rests
 pub mod StateLaws

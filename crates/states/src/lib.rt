@@ -63,6 +63,21 @@ pub struct Picked {
     pub able: bool,
 }
 
+// What a choice or a step goes by: the table, the cue of the record, and what was counted of the parts that run.
+#[derive(Clone, Copy)]
+pub struct Basis<'a> {
+    pub ns: &'a [u16],
+    pub a: u64,
+    pub d: &'a [u32],
+}
+
+// What it changes: the modes of the state, and a copy of the parts' numbers of steps.
+#[derive(Drop)]
+pub struct Moving<'a> {
+    pub t: &'a mut [u8],
+    pub c: [u32; 64],
+}
+
 // The modes of a node, by what it is. All parts of a flow that is drawn have the first.
 pub const AS_DRAWN: u8 = 0;
 

@@ -13,12 +13,13 @@ ghost use Rattle.states.specs.declared.Sense.TheVariants.{Drawn, Undoing};
 ghost use Rattle.states.specs.declared.Role.TheVariants.{Plain, Running};
 ghost use Rattle.states.specs.State.{modes, counts};
 ghost use Rattle.states.specs.Rows.{notes, entries};
+ghost use Rattle.states.specs.Stage.{scene_at, notes_at, SameLent};
 ghost use Rattle.states.specs.Clauses.{Spot, Kept, Sets, scene, weight_of, ask, Chosen, Weighed, Ready, Stepped};
 ghost use Rattle.states.specs.Hands.{move, stand_in, course_in, gone, first_mode, second_mode, Passed, Meets};
 ghost use Rattle.steps.specs.Turns.{Turned, halves, Forked};
 
 use flow::{Operator, Two};
-use states::{Course, Picked, Sense, Standing};
+use states::{Basis, Course, Moving, Picked, Sense, Standing};
 use tallies::{Closing, Weight};
 
 // Where a step goes on: a live part, the place among its steps, and whether it is the second of two.
@@ -115,46 +116,45 @@ fn pass(ns: &[u16], t: &mut [u8], operator: Operator, first: usize)
 }
 
 // PP;QQ has gone on: a compensation of PP's done ending is chosen and held, and QQ makes the step, at the place answered.
-fn hold(ns: &[u16], t: &mut [u8], a: u64, c: &mut [u32; 64], d: &[u32], two: Two, j: u32) -> Picked
-    requires spot { Spot ns.now t.old two.first }
+fn hold(by: &Basis<'_>, s: &mut Moving<'_>, two: Two, j: u32) -> Picked
+    requires spot { Spot by.now.ns.now s.old.t.now two.first }
     requires second_bound { two.second < 64 }
-    requires weighed { Weighed (scene ns.now t.old a) (notes c.old d.now) two.first }
-    requires j_bound { j < weight_of (scene ns.now t.old a) two.first done (hold_g (counts c.old two.second)) }
-    ensures chosen { Chosen (scene ns.now t.old a) two.first (ask done (hold_g (counts c.old two.second)) j) t.new result }
-    ensures noted { Kept ns.now two.first (entries (notes c.old d.now)) (entries (notes c.new d.now)) }
+    requires weighed { Weighed (scene_at by.now s.old) (notes_at by.now s.old) two.first }
+    requires j_bound { j < weight_of (scene_at by.now s.old) two.first done (hold_g (counts s.old.c two.second)) }
+    ensures chosen { Chosen (scene_at by.now s.old) two.first (ask done (hold_g (counts s.old.c two.second)) j) s.new.t.now result }
+    ensures noted { Kept by.now.ns.now two.first (entries (notes_at by.now s.old)) (entries (notes_at by.now s.new)) }
+    ensures lent { SameLent s.old s.new }
 {
-    let own = count_at(c, two.second);
+    let own = count_at(&s.c, two.second);
     let each = Weight {
         own,
         moves: 0,
         able: 0,
     };
-    seek::choose(ns, t, a, c, d, two.first, Closing::Done, each, j)
+    seek::choose(by, s, two.first, Closing::Done, each, j)
 }
 
 // Two running parts. Where PP;QQ goes on, a compensation of PP's done ending is chosen, to be held while QQ makes the step.
 fn turn_run(
-    ns: &[u16],
-    t: &mut [u8],
-    a: u64,
-    c: &mut [u32; 64],
-    d: &[u32],
+    by: &Basis<'_>,
+    s: &mut Moving<'_>,
     i: usize,
     operator: Operator,
     two: Two,
     k: u32,
 ) -> Turn
-    requires ready { Ready (scene ns.now t.old a) Running (notes c.old d.now) i k }
-    requires stands { course_in (scene ns.now t.old a) i ≡ course.Both operator two }
-    requires apart { joint_by a operator ≡ false }
-    ensures turned { Turned (scene ns.now t.old a) (notes c.new d.now) (move Running i k) t.new (move Running result.node result.at) }
-    ensures noted { Kept ns.now i (entries (notes c.old d.now)) (entries (notes c.new d.now)) }
+    requires ready { Ready (scene_at by.now s.old) Running (notes_at by.now s.old) i k }
+    requires stands { course_in (scene_at by.now s.old) i ≡ course.Both operator two }
+    requires apart { joint_by by.now.a operator ≡ false }
+    ensures turned { Turned (scene_at by.now s.old) (notes_at by.now s.new) (move Running i k) s.new.t.now (move Running result.node result.at) }
+    ensures noted { Kept by.now.ns.now i (entries (notes_at by.now s.old)) (entries (notes_at by.now s.new)) }
+    ensures lent { SameLent s.old s.new }
 {
-    let x = turn_two(t, c, i, operator, two, states::HELD, k);
+    let x = turn_two(s.t, &s.c, i, operator, two, states::HELD, k);
     match operator {
         Operator::Sequence => {
             if x.second {
-                let held = hold(ns, t, a, c, d, two, x.at);
+                let held = hold(by, s, two, x.at);
                 let rest = held.rest;
                 Turn {
                     node: x.node,
@@ -171,77 +171,70 @@ fn turn_run(
 }
 
 // A block fails inside: a compensation that has a step is chosen. What was counted of it is told by the choice.
-fn turn_out(
-    ns: &[u16],
-    t: &mut [u8],
-    a: u64,
-    c: &mut [u32; 64],
-    d: &[u32],
-    i: usize,
-    child: usize,
-    k: u32,
-) -> u32
-    requires ready { Ready (scene ns.now t.old a) (Plain Drawn) (notes c.old d.now) i k }
-    requires stands { stand_in (scene ns.now t.old a) Drawn i ≡ standing.Block child }
-    requires child_bound { counts c.old child ≤ k }
-    ensures turned { Turned (scene ns.now t.old a) (notes c.new d.now) (move (Plain Drawn) i k) t.new (move (Plain Undoing) child result) }
-    ensures noted { Kept ns.now i (entries (notes c.old d.now)) (entries (notes c.new d.now)) }
+fn turn_out(by: &Basis<'_>, s: &mut Moving<'_>, i: usize, child: usize, k: u32) -> u32
+    requires ready { Ready (scene_at by.now s.old) (Plain Drawn) (notes_at by.now s.old) i k }
+    requires stands { stand_in (scene_at by.now s.old) Drawn i ≡ standing.Block child }
+    requires child_bound { counts s.old.c child ≤ k }
+    ensures turned { Turned (scene_at by.now s.old) (notes_at by.now s.new) (move (Plain Drawn) i k) s.new.t.now (move (Plain Undoing) child result) }
+    ensures noted { Kept by.now.ns.now i (entries (notes_at by.now s.old)) (entries (notes_at by.now s.new)) }
+    ensures lent { SameLent s.old s.new }
 {
-    let n = count_at(c, child);
-    states::set_mode(t, i, states::COMPENSATING);
+    let n = count_at(&s.c, child);
+    states::set_mode(s.t, i, states::COMPENSATING);
     let each = Weight {
         own: 0,
         moves: 1,
         able: 0,
     };
-    let x = seek::choose(ns, t, a, c, d, child, Closing::Failed, each, k - n);
+    let x = seek::choose(by, s, child, Closing::Failed, each, k - n);
     x.rest
 }
 
 // The k-th step of a standard part. It is handed down in a loop, which costs half of what a call for each level does.
 #[cycle(stepping)]
-pub fn step_std(
-    ns: &[u16],
-    t: &mut [u8],
-    a: u64,
-    c: &mut [u32; 64],
-    d: &[u32],
-    i: usize,
-    sense: Sense,
-    k: u32,
-)
-    requires { Ready (scene ns.now t.old a) (Plain sense) (notes c.old d.now) i k }
-    ensures stepped { Stepped (scene ns.now t.old a) (Plain sense) i k t.new }
-    ensures noted { Kept ns.now i (entries (notes c.old d.now)) (entries (notes c.new d.now)) }
+pub fn step_std(by: &Basis<'_>, s: &mut Moving<'_>, i: usize, sense: Sense, k: u32)
+    requires { Ready (scene_at by.now s.old) (Plain sense) (notes_at by.now s.old) i k }
+    ensures stepped { Stepped (scene_at by.now s.old) (Plain sense) i k s.new.t.now }
+    ensures noted { Kept by.now.ns.now i (entries (notes_at by.now s.old)) (entries (notes_at by.now s.new)) }
+    ensures lent { SameLent s.old s.new }
 {
     let mut here = i;
     let mut live = sense;
     let mut at = k;
     loop {
-        let stands = states::stand_at(ns, t, here, live);
+        let t = &mut *s.t;
+        let stands = states::stand_at(by.ns, t, here, live);
         match stands {
-            Standing::Event(_) => return states::set_mode(t, here, states::TAKEN),
+            Standing::Event(_) => return states::set_mode(s.t, here, states::TAKEN),
             Standing::Basic(_) => return,
             Standing::Both(operator, two) => {
-                if states::joint_by(a, operator) {
-                    return meet_std(ns, t, a, c, d, here, two, live, at);
+                if states::joint_by(by.a, operator) {
+                    return meet_std(by, s, here, two, live, at);
                 }
-                let x = turn_two(t, c, here, operator, two, gone_on(live), at);
+                let x = turn_two(s.t, &s.c, here, operator, two, gone_on(live), at);
                 if x.second {
-                    pass(ns, t, operator, two.first);
+                    pass(by.ns, s.t, operator, two.first);
                 }
                 here = x.node;
                 at = x.at;
             }
             Standing::Handler(two) => {
-                let x = turn_two(t, c, here, Operator::Sequence, two, states::MOVED_ON, at);
+                let x = turn_two(
+                    s.t,
+                    &s.c,
+                    here,
+                    Operator::Sequence,
+                    two,
+                    states::MOVED_ON,
+                    at,
+                );
                 if x.second {
-                    states::redraw(ns, t, two.first);
+                    states::redraw(by.ns, s.t, two.first);
                 }
                 here = x.node;
                 at = x.at;
             }
-            Standing::Block(child) => return step_block(ns, t, a, c, d, here, child, at),
+            Standing::Block(child) => return step_block(by, s, here, child, at),
             Standing::As(sub) => {
                 here = sub.node;
                 live = sub.sense;
@@ -252,93 +245,70 @@ pub fn step_std(
 
 // Both sides of a parallel, by a joint event: each step of the first goes with all of the second.
 #[cycle(stepping)]
-fn meet_std(
-    ns: &[u16],
-    t: &mut [u8],
-    a: u64,
-    c: &mut [u32; 64],
-    d: &[u32],
-    i: usize,
-    two: Two,
-    sense: Sense,
-    k: u32,
-)
-    requires ready { Ready (scene ns.now t.old a) (Plain sense) (notes c.old d.now) i k }
-    requires meets { Meets a (Plain sense) (stand_in (scene ns.now t.old a) sense i) two }
-    ensures stepped { Stepped (scene ns.now t.old a) (Plain sense) i k t.new }
-    ensures noted { Kept ns.now i (entries (notes c.old d.now)) (entries (notes c.new d.now)) }
+fn meet_std(by: &Basis<'_>, s: &mut Moving<'_>, i: usize, two: Two, sense: Sense, k: u32)
+    requires ready { Ready (scene_at by.now s.old) (Plain sense) (notes_at by.now s.old) i k }
+    requires meets { Meets by.now.a (Plain sense) (stand_in (scene_at by.now s.old) sense i) two }
+    ensures stepped { Stepped (scene_at by.now s.old) (Plain sense) i k s.new.t.now }
+    ensures noted { Kept by.now.ns.now i (entries (notes_at by.now s.old)) (entries (notes_at by.now s.new)) }
+    ensures lent { SameLent s.old s.new }
 {
-    let n = count_at(c, two.second);
-    step_std(ns, t, a, c, d, two.first, sense, k / n);
-    step_std(ns, t, a, c, d, two.second, sense, k % n);
+    let n = count_at(&s.c, two.second);
+    step_std(by, s, two.first, sense, k / n);
+    step_std(by, s, two.second, sense, k % n);
 }
 
 // Of a block: inside, or out of it by a compensation.
 #[cycle(stepping)]
-fn step_block(
-    ns: &[u16],
-    t: &mut [u8],
-    a: u64,
-    c: &mut [u32; 64],
-    d: &[u32],
-    i: usize,
-    child: usize,
-    k: u32,
-)
-    requires ready { Ready (scene ns.now t.old a) (Plain Drawn) (notes c.old d.now) i k }
-    requires stands { stand_in (scene ns.now t.old a) Drawn i ≡ standing.Block child }
-    ensures stepped { Stepped (scene ns.now t.old a) (Plain Drawn) i k t.new }
-    ensures noted { Kept ns.now i (entries (notes c.old d.now)) (entries (notes c.new d.now)) }
+fn step_block(by: &Basis<'_>, s: &mut Moving<'_>, i: usize, child: usize, k: u32)
+    requires ready { Ready (scene_at by.now s.old) (Plain Drawn) (notes_at by.now s.old) i k }
+    requires stands { stand_in (scene_at by.now s.old) Drawn i ≡ standing.Block child }
+    ensures stepped { Stepped (scene_at by.now s.old) (Plain Drawn) i k s.new.t.now }
+    ensures noted { Kept by.now.ns.now i (entries (notes_at by.now s.old)) (entries (notes_at by.now s.new)) }
+    ensures lent { SameLent s.old s.new }
 {
-    if k < count_at(c, child) {
-        step_run(ns, t, a, c, d, child, k);
+    if k < count_at(&s.c, child) {
+        step_run(by, s, child, k);
     } else {
-        let at = turn_out(ns, t, a, c, d, i, child, k);
-        step_std(ns, t, a, c, d, child, Sense::Undoing, at);
+        let at = turn_out(by, s, i, child, k);
+        step_std(by, s, child, Sense::Undoing, at);
     }
 }
 
 // The k-th step of a compensable part that runs.
 #[cycle(stepping)]
-pub fn step_run(ns: &[u16], t: &mut [u8], a: u64, c: &mut [u32; 64], d: &[u32], i: usize, k: u32)
-    requires { Ready (scene ns.now t.old a) Running (notes c.old d.now) i k }
-    ensures stepped { Stepped (scene ns.now t.old a) Running i k t.new }
-    ensures noted { Kept ns.now i (entries (notes c.old d.now)) (entries (notes c.new d.now)) }
+pub fn step_run(by: &Basis<'_>, s: &mut Moving<'_>, i: usize, k: u32)
+    requires { Ready (scene_at by.now s.old) Running (notes_at by.now s.old) i k }
+    ensures stepped { Stepped (scene_at by.now s.old) Running i k s.new.t.now }
+    ensures noted { Kept by.now.ns.now i (entries (notes_at by.now s.old)) (entries (notes_at by.now s.new)) }
+    ensures lent { SameLent s.old s.new }
 {
-    let runs = states::course_at(ns, t, i);
+    let t = &mut *s.t;
+    let runs = states::course_at(by.ns, t, i);
     match runs {
         Course::Basic(_) => {}
-        Course::Pair(two) => step_std(ns, t, a, c, d, two.first, Sense::Drawn, k),
+        Course::Pair(two) => step_std(by, s, two.first, Sense::Drawn, k),
         Course::Both(operator, two) => {
-            if states::joint_by(a, operator) {
-                return meet_run(ns, t, a, c, d, i, two, k);
+            if states::joint_by(by.a, operator) {
+                return meet_run(by, s, i, two, k);
             }
-            let x = turn_run(ns, t, a, c, d, i, operator, two, k);
-            step_run(ns, t, a, c, d, x.node, x.at);
+            let x = turn_run(by, s, i, operator, two, k);
+            step_run(by, s, x.node, x.at);
         }
-        Course::Held(two) => step_run(ns, t, a, c, d, two.second, k),
-        Course::As(child) => step_run(ns, t, a, c, d, child, k),
+        Course::Held(two) => step_run(by, s, two.second, k),
+        Course::As(child) => step_run(by, s, child, k),
     }
 }
 
 // Both sides of a parallel that runs, by a joint event.
 #[cycle(stepping)]
-fn meet_run(
-    ns: &[u16],
-    t: &mut [u8],
-    a: u64,
-    c: &mut [u32; 64],
-    d: &[u32],
-    i: usize,
-    two: Two,
-    k: u32,
-)
-    requires ready { Ready (scene ns.now t.old a) Running (notes c.old d.now) i k }
-    requires meets { Meets a Running (course_in (scene ns.now t.old a) i) two }
-    ensures stepped { Stepped (scene ns.now t.old a) Running i k t.new }
-    ensures noted { Kept ns.now i (entries (notes c.old d.now)) (entries (notes c.new d.now)) }
+fn meet_run(by: &Basis<'_>, s: &mut Moving<'_>, i: usize, two: Two, k: u32)
+    requires ready { Ready (scene_at by.now s.old) Running (notes_at by.now s.old) i k }
+    requires meets { Meets by.now.a Running (course_in (scene_at by.now s.old) i) two }
+    ensures stepped { Stepped (scene_at by.now s.old) Running i k s.new.t.now }
+    ensures noted { Kept by.now.ns.now i (entries (notes_at by.now s.old)) (entries (notes_at by.now s.new)) }
+    ensures lent { SameLent s.old s.new }
 {
-    let n = count_at(c, two.second);
-    step_run(ns, t, a, c, d, two.first, k / n);
-    step_run(ns, t, a, c, d, two.second, k % n);
+    let n = count_at(&s.c, two.second);
+    step_run(by, s, two.first, k / n);
+    step_run(by, s, two.second, k % n);
 }

@@ -5,6 +5,7 @@ use Rattle.seek.specs.Branches.{wanted, wanted_both, basic_chosen, below_spot, b
 use Rattle.seek.specs.Undoing.{undone_by, basic_undone, as_undone, second_undone, par_undone}
 use Rattle.seek.specs.WeighedLaws.{row_room, as_weighed, held_undone, held_weighed}
 use Rattle.states.specs.ChildLaws.{lower_spot, same_room, kid_lower}
+use Rattle.states.specs.StageLaws.{still_lent}
 use mathlib.Core.Path.{refl, sym, ◌∙◌}
 use native.Mathlib.Omega.{arith}
 use Rattle.seek.proofs.+choosing.Goals as goal
@@ -20,6 +21,7 @@ choose-returns t c =
     record {
       chosen = c.choose_by-p.ensures.chosen;
       counted = undone_by c.requires.spot c.choose_by-p.ensures.chosen c.choose_by-p.ensures.counted c.put_count.ensures;
+      lent = record { name = c.choose_by-p.ensures.lent.name; long = c.choose_by-p.ensures.lent.long };
     }
 
 pub choose_both-seek_running-requires : goal.choose_both-seek_running-requires
@@ -36,6 +38,7 @@ choose_both-returns-in-Sequence t c =
     record {
       chosen = c.seek_running.ensures.chosen;
       counted = c.seek_running.ensures.counted;
+      lent = c.seek_running.ensures.lent;
     }
 
 pub choose_both-returns-in-Choice : goal.choose_both-returns-in-Choice
@@ -43,6 +46,7 @@ choose_both-returns-in-Choice t c =
     record {
       chosen = c.seek_choice.ensures.chosen;
       counted = c.seek_choice.ensures.counted;
+      lent = c.seek_choice.ensures.lent;
     }
 
 pub choose_both-returns-in-Parallel : goal.choose_both-returns-in-Parallel
@@ -50,6 +54,7 @@ choose_both-returns-in-Parallel t c =
     record {
       chosen = c.seek_parallel.ensures.chosen;
       counted = c.seek_parallel.ensures.counted;
+      lent = c.seek_parallel.ensures.lent;
     }
 
 pub choose_by-course_at-course-requires : goal.choose_by-course_at-course-requires
@@ -80,6 +85,7 @@ choose_by-returns-in-Basic t c =
     let h = wanted c.requires.spot c.requires.number_bound c.course_at-course.ensures c.in-Basic.is in record {
       chosen = basic_chosen h;
       counted = basic_undone h _;
+      lent = record { name = refl; long = refl };
     }
 
 pub choose_by-returns-in-Pair : goal.choose_by-returns-in-Pair
@@ -87,6 +93,7 @@ choose_by-returns-in-Pair t c =
     let spot = c.requires.spot in let e = sym c.course_at-course.ensures ∙ c.in-Pair.is in let k = c.requires.weighed in let room = c.requires.number_bound in record {
       chosen = pair_chosen spot e k _ room c.seek_pair.ensures;
       counted = pair_undone spot e k _ room c.seek_pair.ensures;
+      lent = record { name = refl; long = c.seek_pair.auto.t };
     }
 
 pub choose_by-returns-in-Both : goal.choose_by-returns-in-Both
@@ -94,6 +101,7 @@ choose_by-returns-in-Both t c =
     record {
       chosen = c.choose_both.ensures.chosen;
       counted = c.choose_both.ensures.counted;
+      lent = c.choose_both.ensures.lent;
     }
 
 pub choose_by-returns-in-Held : goal.choose_by-returns-in-Held
@@ -101,6 +109,7 @@ choose_by-returns-in-Held t c =
     let h = wanted c.requires.spot c.requires.number_bound c.course_at-course.ensures c.in-Held.is in record {
       chosen = held_chosen h c.requires.weighed c.lone_at-k.ensures c.seek_second.ensures.second_chosen;
       counted = c.seek_second.ensures.counted;
+      lent = c.seek_second.ensures.lent;
     }
 
 pub choose_by-returns-in-As : goal.choose_by-returns-in-As
@@ -108,6 +117,7 @@ choose_by-returns-in-As t c =
     let h = wanted c.requires.spot c.requires.number_bound c.course_at-course.ensures c.in-As.is in record {
       chosen = as_chosen h c.choose.ensures.chosen;
       counted = as_undone h c.choose.ensures.chosen.kept c.choose.ensures.counted;
+      lent = c.choose.ensures.lent;
     }
 
 pub seek_choice-weight_by-p-requires : goal.seek_choice-weight_by-p-requires
@@ -121,6 +131,7 @@ seek_choice-returns-then-q-p t c =
     let h = c.requires.wanted in let k = c.requires.weighed in let d = choice_weight h k c.weight_by-p.ensures in record {
       chosen = choice_first h d c.if-q-p.true c.seek_marked.ensures.chosen;
       counted = choice_first_undone h d c.if-q-p.true c.seek_marked.ensures.chosen c.seek_marked.ensures.counted;
+      lent = c.seek_marked.ensures.lent;
     }
 
 pub seek_choice-seek_marked-requires-2 : goal.seek_choice-seek_marked-requires-2
@@ -131,19 +142,21 @@ seek_choice-returns t c =
     let h = c.requires.wanted in let k = c.requires.weighed in let d = choice_weight h k c.weight_by-p.ensures in record {
       chosen = choice_second h d c.if-q-p.false c.seek_marked-2.ensures.chosen;
       counted = choice_second_undone h d c.if-q-p.false c.seek_marked-2.ensures.chosen c.seek_marked-2.ensures.counted;
+      lent = c.seek_marked-2.ensures.lent;
     }
 
 pub seek_marked-set_mode-requires : goal.seek_marked-set_mode-requires
 seek_marked-set_mode-requires t c = c.requires.below.spot.room
 
 pub seek_marked-choose-requires : goal.seek_marked-choose-requires
-seek_marked-choose-requires t c = let b = c.requires.below in let e = c.set_mode.ensures in let l = kid_lower c.args.ns.now b.spot.node.sound.tree b.kid in (omega (arith, c.decreases), (below_spot _ e b, (below_weighed _ e b c.requires.weighed, below_room _ e b)))
+seek_marked-choose-requires t c = let b = c.requires.below in let e = c.set_mode.ensures in let l = kid_lower c.args.by.now.ns.now b.spot.node.sound.tree b.kid in (omega (arith, c.decreases), (below_spot _ e b, (below_weighed _ e b c.requires.weighed, below_room _ e b)))
 
 pub seek_marked-returns : goal.seek_marked-returns
 seek_marked-returns t c =
     record {
       chosen = below_chosen _ c.set_mode.ensures c.requires.below c.choose.ensures.chosen;
       counted = c.choose.ensures.counted;
+      lent = record { name = c.choose.ensures.lent.name; long = c.choose.ensures.lent.long ∙ c.set_mode.auto.t };
     }
 
 pub seek_parallel-first_ending-x-requires : goal.seek_parallel-first_ending-x-requires
@@ -161,13 +174,14 @@ seek_parallel-second_ending-y-requires t c =
     second_row c.requires.wanted c.requires.weighed
 
 pub seek_parallel-choose-l-requires : goal.seek_parallel-choose-l-requires
-seek_parallel-choose-l-requires t c = let h = c.requires.wanted in let k = c.requires.weighed in (omega (arith, c.decreases, second_lower h), (same_room (second_spot h) c.choose-k.auto.t, (second_still h k c.choose-k.ensures.chosen.kept c.choose-k.ensures.counted.kept refl, par_second_room h k c.joint-joint.ensures refl refl c.first_ending-x.ensures c.beside.ensures c.choose-k.ensures.chosen c.weight_within-within.ensures c.second_ending-y.ensures)))
+seek_parallel-choose-l-requires t c = let h = c.requires.wanted in let k = c.requires.weighed in (omega (arith, c.decreases, second_lower h), (same_room (second_spot h) c.choose-k.ensures.lent.long, (second_still h k c.choose-k.ensures.chosen.kept c.choose-k.ensures.counted.kept refl, par_second_room h k c.joint-joint.ensures refl refl c.first_ending-x.ensures c.beside.ensures c.choose-k.ensures.chosen c.weight_within-within.ensures c.second_ending-y.ensures)))
 
 pub seek_parallel-returns : goal.seek_parallel-returns
 seek_parallel-returns t c =
     let h = c.requires.wanted in let k = c.requires.weighed in record {
       chosen = rw c.sides.ensures (par_chosen h k c.joint-joint.ensures refl refl c.first_ending-x.ensures c.beside.ensures c.choose-k.ensures.chosen c.weight_within-within.ensures c.second_ending-y.ensures c.choose-l.ensures.chosen);
       counted = par_undone h c.choose-k.ensures.chosen c.choose-l.ensures.chosen c.choose-k.ensures.counted c.choose-l.ensures.counted;
+      lent = still_lent c.choose-k.ensures.lent c.choose-l.ensures.lent;
     }
 
 pub seek_running-own_weight-own-requires : goal.seek_running-own_weight-own-requires
@@ -181,6 +195,7 @@ seek_running-returns-then-q-own t c =
     let h = c.requires.wanted in let k = c.requires.weighed in let d = own_weight h k c.own_weight-own.ensures in record {
       chosen = own_chosen h d c.if-q-own.true c.seek_marked.ensures.chosen;
       counted = own_undone h d c.if-q-own.true c.seek_marked.ensures.chosen c.seek_marked.ensures.counted;
+      lent = c.seek_marked.ensures.lent;
     }
 
 pub seek_running-weight_before-before-requires : goal.seek_running-weight_before-before-requires
@@ -190,13 +205,14 @@ pub seek_running-choose-k-requires : goal.seek_running-choose-k-requires
 seek_running-choose-k-requires t c = let h = c.requires.wanted in let k = c.requires.weighed in let d = own_weight h k c.own_weight-own.ensures in let e = weight_before h k c.weight_before-before.ensures in let l = first_lower h in (omega (arith, c.decreases, l), (first_spot h, (first_known h k, both_room h d c.if-q-own.false e)))
 
 pub seek_running-seek_second-requires : goal.seek_running-seek_second-requires
-seek_running-seek_second-requires t c = let h = c.requires.wanted in let k = c.requires.weighed in let d = own_weight h k c.own_weight-own.ensures in let e = weight_before h k c.weight_before-before.ensures in (omega (arith, c.decreases), (both_wanted h d c.if-q-own.false e c.choose-k.ensures.chosen c.choose-k.auto.t, (second_still h k c.choose-k.ensures.chosen.kept c.choose-k.ensures.counted.kept refl, c.choose-k.ensures.counted.right)))
+seek_running-seek_second-requires t c = let h = c.requires.wanted in let k = c.requires.weighed in let d = own_weight h k c.own_weight-own.ensures in let e = weight_before h k c.weight_before-before.ensures in (omega (arith, c.decreases), (both_wanted h d c.if-q-own.false e c.choose-k.ensures.chosen c.choose-k.ensures.lent.long, (second_still h k c.choose-k.ensures.chosen.kept c.choose-k.ensures.counted.kept refl, c.choose-k.ensures.counted.right)))
 
 pub seek_running-returns : goal.seek_running-returns
 seek_running-returns t c =
     let h = c.requires.wanted in let k = c.requires.weighed in let d = own_weight h k c.own_weight-own.ensures in let e = weight_before h k c.weight_before-before.ensures in record {
       chosen = both_chosen h d c.if-q-own.false e c.choose-k.ensures.chosen c.seek_second.ensures.second_chosen;
       counted = both_undone h c.choose-k.ensures.counted c.seek_second.ensures.counted;
+      lent = still_lent c.choose-k.ensures.lent c.seek_second.ensures.lent;
     }
 
 pub seek_second-seek_marked-l-requires : goal.seek_second-seek_marked-l-requires
@@ -207,4 +223,5 @@ seek_second-returns t c =
     record {
       second_chosen = rw c.moves_before.ensures (second_chosen c.requires.second_wanted c.weight_inside-inside.ensures c.seek_marked-l.ensures.chosen);
       counted = second_undone c.requires.second_wanted c.requires.first_noted c.seek_marked-l.ensures.chosen c.seek_marked-l.ensures.counted;
+      lent = c.seek_marked-l.ensures.lent;
     }

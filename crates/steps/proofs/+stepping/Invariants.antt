@@ -1,8 +1,7 @@
 use mathlib.Core.Path.{◌≡◌}
 use Prim.Native.Nat.{◌+◌, ◌*◌}
 use Rattle.states.specs.declared.Role.TheVariants.{Plain}
-use Rattle.states.specs.Rows.{notes}
-use Rattle.states.specs.Clauses.{scene}
+use Rattle.states.specs.Stage.{scene_at, notes_at, SameLent}
 use Rattle.states.specs.Hands.{move}
 use Rattle.steps.specs.Turns.{Reached}
 use Rattle.steps.proofs.+stepping.Given as goal
@@ -22,8 +21,8 @@ decreases-step_run l = l.i * 3 + 1
 abbrev pub decreases-step_std : goal.decreases-step_std
 decreases-step_std l = l.i * 3 + 2
 
-abbrev pub invariant-step_std-loop-t : goal.invariant-step_std-loop-t
-invariant-step_std-loop-t l = (l.c ≡ l.initial.c) × Reached (scene l.ns l.initial.t l.a) (notes l.c l.d) (move (Plain l.initial.live) l.initial.here l.initial.at) l.t (move (Plain l.live) l.here l.at)
+abbrev pub invariant-step_std-loop-s : goal.invariant-step_std-loop-s
+invariant-step_std-loop-s l = (l.s.c ≡ l.initial.s.c) × (SameLent l.initial.s l.s × Reached (scene_at l.by l.initial.s) (notes_at l.by l.s) (move (Plain l.initial.live) l.initial.here l.initial.at) l.s.t.now (move (Plain l.live) l.here l.at))
 
-abbrev pub decreases-step_std-loop-t : goal.decreases-step_std-loop-t
-decreases-step_std-loop-t l = l.here
+abbrev pub decreases-step_std-loop-s : goal.decreases-step_std-loop-s
+decreases-step_std-loop-s l = l.here

@@ -14,4 +14,5 @@ returns c =
     record {
       chosen = rw c.count_at-own.ensures at c.choose.ensures.chosen;
       noted = c.choose.ensures.counted.kept;
+      lent = c.choose.ensures.lent;
     }

@@ -1,5 +1,6 @@
 -- `steps::turn_out` meets its contract: a compensation is chosen by what is left of the place, and the tables are right for it. Assumes nothing.
-use mathlib.Core.Path.{refl}
+use mathlib.Core.Path.{refl, ◌∙◌}
+use native.Mathlib.Omega.{arith}
 use Rattle.states.specs.ChildLaws.{set_sets}
 use Rattle.steps.specs.TurnLaws.{block_small, block_kept, out_spot, out_weighed, out_room, out_turned}
 use Rattle.steps.proofs.turn_out.Goals as goal
@@ -29,6 +30,7 @@ returns c =
     let w = set_sets h.spot.room c.set_mode.ensures in
     let x = rw c.count_at-n.ensures at c.choose-x.ensures.chosen in
     let y = c.choose-x.ensures.counted in record {
-      turned = out_turned h e g w x c.choose-x.auto.t refl y;
+      turned = out_turned h e g w x c.choose-x.ensures.lent.long refl y;
       noted = block_kept h e y.kept;
+      lent = record { name = c.choose-x.ensures.lent.name; long = c.choose-x.ensures.lent.long ∙ c.set_mode.auto.t };
     }

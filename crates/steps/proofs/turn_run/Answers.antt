@@ -1,6 +1,7 @@
 -- `steps::turn_run` meets its contract: each operator by its law; where PP;QQ goes on, one of PP's compensations is held. Assumes nothing.
 use Rattle.steps.specs.TurnLaws.{run_small, into_first, apart_turned, held_spot, held_weighed, held_number, first_kept, sequence_turned}
 use mathlib.Core.Path.{refl}
+use Rattle.states.specs.StageLaws.{still_lent}
 use Rattle.steps.proofs.turn_run.Goals as goal
 
 pub turn_two-x-requires : goal.turn_two-x-requires
@@ -26,8 +27,9 @@ returns-then-x c =
     let e = rw d at c.requires.stands in
     let f = rw d at c.turn_two-x.ensures in
     let kept = c.hold-held.ensures.noted in record {
-      turned = sequence_turned h e f c.if-x.true c.hold-held.ensures.chosen kept refl c.hold-held.auto.t;
+      turned = sequence_turned h e f c.if-x.true c.hold-held.ensures.chosen kept refl c.hold-held.ensures.lent.long;
       noted = first_kept h e kept;
+      lent = still_lent (record { name = refl; long = c.turn_two-x.auto.t }) c.hold-held.ensures.lent;
     }
 
 pub returns-else-x : goal.returns-else-x
@@ -35,6 +37,7 @@ returns-else-x c =
     record {
       turned = into_first c.requires.ready c.requires.apart c.requires.stands c.turn_two-x.ensures c.if-x.false;
       noted = λ j n. refl;
+      lent = record { name = refl; long = c.turn_two-x.auto.t };
     }
 
 pub returns-in-Choice : goal.returns-in-Choice
@@ -42,6 +45,7 @@ returns-in-Choice c =
     let d = c.in-Choice.is in let e = rw d at c.requires.stands in let f = rw d at c.turn_two-x.ensures in record {
       turned = apart_turned c.requires.ready tt (rw d at c.requires.apart) e f;
       noted = λ j n. refl;
+      lent = record { name = refl; long = c.turn_two-x.auto.t };
     }
 
 pub returns-in-Parallel : goal.returns-in-Parallel
@@ -49,4 +53,5 @@ returns-in-Parallel c =
     let d = c.in-Parallel.is in let e = rw d at c.requires.stands in let f = rw d at c.turn_two-x.ensures in record {
       turned = apart_turned c.requires.ready tt (rw d at c.requires.apart) e f;
       noted = λ j n. refl;
+      lent = record { name = refl; long = c.turn_two-x.auto.t };
     }
