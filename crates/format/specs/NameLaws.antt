@@ -1,14 +1,14 @@
 -- Names compared byte by byte, from the front, which is for equality, and an entry looked for among earlier ones. Assumes nothing.
-use Rattle.std.specs.Prelude.{ℕ, suc, ◌+◌, ◌-◌, ◌≤◌, ◌<◌, Bool, true, false, ◌&&◌, List, [], ◌∷◌, ◌≡◌, refl, eqb, length, get_or, drop}
+use Rattle.std.specs.Prelude.{ℕ, suc, ◌+◌, ◌-◌, ◌≤◌, ◌<◌, Bool, true, false, ◌&&◌, List, [], ◌∷◌, ◌≡◌, refl, eqb, length, get_or, take, drop}
+use lib.Pointwise.{pointwise}
 use Rattle.std.proofs.lemmas.Bool.{false≢true}
 use Rattle.std.proofs.Math.Path.{ap}
-use Rattle.std.proofs.Common.{ap₂, sym, ◌∙◌, add-one, arith, drop_of_length-le}
-use borrow.Author.Tests.{eq-eqb, ne_eqb, eqb-true}
-use Rattle.std.proofs.Math.Seq.{drop-cons}
+use Rattle.std.proofs.Common.{ap₂, sym, ◌∙◌, arith}
+use borrow.Author.Tests.{eq-eqb, eqb-true}
 use Rattle.flow.specs.Tests.{both_true}
 use Rattle.format.specs.Format.{Entry}
 use Rattle.format.specs.Sections.{same_bytes, same_step, same_entry, met}
-use Rattle.format.specs.Items.{entry_at, entry_end, entries_at, entries_end}
+use Rattle.format.specs.Items.{name_at, name_end, entry_at, entry_end, entries_at, entries_end}
 use Rattle.format.specs.SectionLaws.{entries_end_le}
 
 ---- Tests ----
@@ -26,18 +26,21 @@ same_length [] (y ∷ b) n = refl
 same_length (x ∷ a) [] n = refl
 same_length (x ∷ a) (y ∷ b) n = and-false (eqb x y) (same_bytes a b) (same_length a b (λ e. n (ap suc e)))
 
-module _ (a b : List ℕ) (i : ℕ) (ha : i < length a) (hb : i < length b) where
-  pub same_here : get_or a i 0 ≡ get_or b i 0 → same_bytes (drop i a) (drop i b) ≡ same_bytes (drop (i + 1) a) (drop (i + 1) b)
-  unfolding same_bytes
-  same_here e = rw (add-one i, drop-cons a i 0 ha, drop-cons b i 0 hb, eq-eqb (get_or a i 0) (get_or b i 0) e)
-
-  pub same_not : (get_or a i 0 ≡ get_or b i 0 → ⊥) → same_bytes (drop i a) (drop i b) ≡ false
-  unfolding same_bytes
-  same_not n = rw (drop-cons a i 0 ha, drop-cons b i 0 hb, ne_eqb (get_or a i 0) (get_or b i 0) n)
-
-pub same_end : (a b : List ℕ) (i : ℕ) → length a ≤ i → length b ≤ i → same_bytes (drop i a) (drop i b) ≡ true
+-- slices are compared so
+same_pointwise : (a b : List ℕ) → pointwise eqb a b ≡ same_bytes a b
 unfolding same_bytes
-same_end a b i ha hb = rw (drop_of_length-le a ha, drop_of_length-le b hb)
+same_pointwise [] [] = refl
+same_pointwise [] (y ∷ b) = refl
+same_pointwise (x ∷ a) [] = refl
+same_pointwise (x ∷ a) (y ∷ b) = ap (λ (t : Bool). eqb x y && t) (same_pointwise a b)
+
+-- the bytes of two names, each from behind its length byte to where it ends
+pub same_names : (s : List ℕ) (a b : ℕ) {m n : ℕ} → m ≡ name_end s a → n ≡ name_end s b
+    → pointwise eqb (take (m - (a + 1)) (drop (a + 1) s)) (take (n - (b + 1)) (drop (b + 1) s)) ≡ same_bytes (name_at s a) (name_at s b)
+same_names s a b {m} {n} d e =
+    let k : m - (a + 1) ≡ get_or s a 0 = omega arith in
+    let l : n - (b + 1) ≡ get_or s b 0 = omega arith in
+    ap₂ (λ (i j : ℕ). pointwise eqb (take i (drop (a + 1) s)) (take j (drop (b + 1) s))) k l ∙ same_pointwise (name_at s a) (name_at s b)
 
 ---- Equality ----
 

@@ -196,23 +196,6 @@ fn entry_at(file: &[u8], c: Cursor) -> Result<Got, Refusal>
     })
 }
 
-// Whether two names are equal byte by byte.
-fn same_bytes(a: &[u8], b: &[u8]) -> bool
-    ensures { result ≡ same_bytes a.now b.now }
-{
-    if a.len() != b.len() {
-        return false;
-    }
-    let mut i = 0;
-    while i < a.len() {
-        if a[i] != b[i] {
-            return false;
-        }
-        i += 1;
-    }
-    true
-}
-
 // Where the name at an offset ends.
 pub fn end_of_name(file: &[u8], at: usize) -> usize
     requires { name_end file.now at ≤ length file.now }
@@ -228,12 +211,10 @@ fn same_name(file: &[u8], a: usize, b: usize) -> bool
 {
     let a_end = end_of_name(file, a);
     let b_end = end_of_name(file, b);
-    let a_from = a + 1;
-    let b_from = b + 1;
-    same_bytes(&file[a_from..a_end], &file[b_from..b_end])
+    file[a + 1..a_end] == file[b + 1..b_end]
 }
 
-// Whether the step names of the entries at two offsets are the same.
+// Whether the step names of the entries at two offsets are the same: for 18 as for the matching, so the two have one function of their own.
 pub fn same_step(file: &[u8], a: usize, b: usize) -> bool
     requires { (name_end file.now a ≤ length file.now) × (name_end file.now b ≤ length file.now) }
     ensures { result ≡ same_step (name_at file.now a) (name_at file.now b) }
@@ -246,11 +227,7 @@ fn same_entry(file: &[u8], a: usize, b: usize) -> bool
     requires { (entry_end file.now a ≤ length file.now) × (entry_end file.now b ≤ length file.now) }
     ensures { result ≡ same_entry (entry_at file.now a) (entry_at file.now b) }
 {
-    if same_step(file, a, b) {
-        same_name(file, end_of_name(file, a), end_of_name(file, b))
-    } else {
-        false
-    }
+    same_step(file, a, b) && same_name(file, end_of_name(file, a), end_of_name(file, b))
 }
 
 // Whether the entry at `at` is one of the `count` entries before it. The names start at offset 2.
@@ -258,14 +235,12 @@ fn met_before(file: &[u8], count: u16, at: usize) -> bool
     requires { Behind file.now count at }
     ensures { result ≡ met (entry_at file.now at) (entries_at file.now count 2) }
 {
-    let mut i: u16 = 0;
-    let mut a: usize = 2;
-    while i < count {
+    let mut a = 2;
+    for _i in 0..count {
         if same_entry(file, a, at) {
             return true;
         }
         a = end_of_name(file, end_of_name(file, a));
-        i += 1;
     }
     false
 }
@@ -357,10 +332,8 @@ pub fn fill(file: &[u8], at: usize, count: usize, table: &mut [u16])
     requires { (at + 2 * count ≤ length file.now) × (count ≤ length table.old) }
     ensures { table.new ≡ at_front (numbers_at file.now count at) table.old }
 {
-    let mut i = 0;
-    while i < count {
+    for i in 0..count {
         table[i] = number_from(file[at + 2 * i], file[at + 2 * i + 1]);
-        i += 1;
     }
 }
 

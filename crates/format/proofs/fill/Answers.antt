@@ -11,13 +11,11 @@ use Rattle.format.proofs.fill.Goals as goal
 
 pub loop-i-init : goal.loop-i-init
 unfolding numbers_at
-loop-i-init c = (omega arith, refl)
+loop-i-init c = refl
 
 pub loop-i-preserved : goal.loop-i-preserved
 loop-i-preserved c =
     let s = c.args.file.now in
-    let l = c.loop-i in (
-      omega arith,
-      ap₂ (λ (xs : List ℕ) (v : ℕ). set xs l.i v) l.invariant.1 c.number_from.ensures
-          ∙ front_more s l.i c.args.at c.args.table.now (omega arith),
-    )
+    let l = c.loop-i in
+    ap₂ (λ (xs : List ℕ) (v : ℕ). set xs l.i v) l.invariant c.number_from.ensures
+    ∙ front_more s l.i c.args.at c.args.table.now (omega arith)

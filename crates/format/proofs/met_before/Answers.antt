@@ -14,7 +14,7 @@ same_entry-requires c =
     let s = c.args.file.now in
     let at = c.args.at in
     let count = c.args.count in
-    let i = c.loop-i.i in
+    let i = c.loop-i._i in
     let a = c.loop-i.a in
     (omega (arith, end_inside s (entry_at s at) count i a (omega arith), c.requires.whole), c.requires.whole)
 
@@ -23,16 +23,16 @@ returns-then-same_entry c =
     let s = c.args.file.now in
     let at = c.args.at in
     let count = c.args.count in
-    let i = c.loop-i.i in
+    let i = c.loop-i._i in
     let a = c.loop-i.a in
-    sym (c.loop-i.invariant.2 ∙ met_hit s (entry_at s at) count i a (omega arith) (sym c.same_entry.ensures ∙ c.if-same_entry.true))
+    sym (c.loop-i.invariant.1 ∙ met_hit s (entry_at s at) count i a (omega arith) (sym c.same_entry.ensures ∙ c.if-same_entry.true))
 
 pub end_of_name-requires : goal.end_of_name-requires
 end_of_name-requires c =
     let s = c.args.file.now in
     let at = c.args.at in
     let count = c.args.count in
-    let i = c.loop-i.i in
+    let i = c.loop-i._i in
     let a = c.loop-i.a in
     omega (arith, end_inside s (entry_at s at) count i a (omega arith), c.requires.whole)
 
@@ -41,7 +41,7 @@ end_of_name-a-requires c =
     let s = c.args.file.now in
     let at = c.args.at in
     let count = c.args.count in
-    let i = c.loop-i.i in
+    let i = c.loop-i._i in
     let a = c.loop-i.a in
     let h : entry_end s a ≤ length s = omega (arith, end_inside s (entry_at s at) count i a (omega arith), c.requires.whole) in
     rw c.end_of_name.ensures h
@@ -51,12 +51,11 @@ loop-i-preserved c =
     let s = c.args.file.now in
     let at = c.args.at in
     let count = c.args.count in
-    let i = c.loop-i.i in
+    let i = c.loop-i._i in
     let a = c.loop-i.a in
     let e = c.end_of_name-a.ensures ∙ ap (name_end s) c.end_of_name.ensures in (
-      omega arith,
-      rw e (rw (end_step s (entry_at s at) count i a (omega arith)) at c.loop-i.invariant.1),
-      c.loop-i.invariant.2 ∙ met_miss s (entry_at s at) count i a (omega arith) (sym c.same_entry.ensures ∙ c.if-same_entry.false)
+      rw e (rw (end_step s (entry_at s at) count i a (omega arith)) at c.loop-i.invariant.0),
+      c.loop-i.invariant.1 ∙ met_miss s (entry_at s at) count i a (omega arith) (sym c.same_entry.ensures ∙ c.if-same_entry.false)
           ∙ ap (λ (n : ℕ). met (entry_at s at) (entries_at s (count - (i + 1)) n)) (sym e),
     )
 
@@ -65,6 +64,6 @@ returns c =
     let s = c.args.file.now in
     let at = c.args.at in
     let count = c.args.count in
-    let i = c.loop-i.i in
+    let i = c.loop-i._i in
     let a = c.loop-i.a in
-    sym (c.loop-i.invariant.2 ∙ met_none s (entry_at s at) count i a (omega arith))
+    sym (c.loop-i.invariant.1 ∙ met_none s (entry_at s at) count i a (omega arith))

@@ -6,8 +6,5 @@ use Rattle.format.proofs.met_before.Given as goal
 
 abbrev pub invariant-loop-i : goal.invariant-loop-i
 invariant-loop-i l =
-    (l.i ≤ l.count) × (entries_end l.file (l.count - l.i) l.a ≤ l.at)
-    × (met (entry_at l.file l.at) (entries_at l.file l.count 2) ≡ met (entry_at l.file l.at) (entries_at l.file (l.count - l.i) l.a))
-
-abbrev pub decreases-loop-i : goal.decreases-loop-i
-decreases-loop-i l = l.count - l.i
+    (entries_end l.file (l.count - l._i) l.a ≤ l.at)
+    × (met (entry_at l.file l.at) (entries_at l.file l.count 2) ≡ met (entry_at l.file l.at) (entries_at l.file (l.count - l._i) l.a))

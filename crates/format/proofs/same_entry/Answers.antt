@@ -15,4 +15,4 @@ returns-then-same_step c =
 
 pub returns-else-same_step : goal.returns-else-same_step
 unfolding same_entry
-returns-else-same_step c = rw (sym c.same_step.ensures ∙ c.if-same_step.false)
+returns-else-same_step c = c.if-same_step.false ∙ sym (rw (sym c.same_step.ensures ∙ c.if-same_step.false))
