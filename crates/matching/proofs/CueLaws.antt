@@ -105,10 +105,10 @@ module _ (s : List ℕ) (w : Whole s) where
 ---- At the front of a table ----
 
 -- what comes of one number more of a list
-pub front_next : (f : ℕ → ℕ) (ns table : List ℕ) (i : ℕ) → i < length ns → i < length table
-    → set (at_front (map f (take i ns)) table) i (f (get_or ns i 0)) ≡ at_front (map f (take (i + 1) ns)) table
-front_next f ns table i h l =
+pub front_next : (f : ℕ → ℕ) (ns table : List ℕ) (i : ℕ) {filled : List ℕ} {v : ℕ} → i < length ns → i < length table
+    → filled ≡ at_front (map f (take i ns)) table → v ≡ f (get_or ns i 0) → set filled i v ≡ at_front (map f (take (i + 1) ns)) table
+front_next f ns table i h l is here =
     let sized : length (map f (take i ns)) ≡ i = length-map (take i ns) f ∙ length-take-le i ns (omega arith) in
     let more : map f (take (i + 1) ns) ≡ map f (take i ns) ++ (f (get_or ns i 0) ∷ []) =
     ap (λ (k : ℕ). map f (take k ns)) (add-one i) ∙ ap (map f) (take-suc ns i 0 h) ∙ map-append f (take i ns) (get_or ns i 0 ∷ []) in
-    front_set (map f (take i ns)) (f (get_or ns i 0)) table sized l ∙ ap (λ (xs : List ℕ). at_front xs table) (sym more)
+    ap₂ (λ (xs : List ℕ) (n : ℕ). set xs i n) is here ∙ front_set (map f (take i ns)) (f (get_or ns i 0)) table sized l ∙ ap (λ (xs : List ℕ). at_front xs table) (sym more)

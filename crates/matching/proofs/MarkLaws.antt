@@ -1,6 +1,6 @@
 -- What the code learns on its way to what is asked: marks grow by one event (`also_event`), by those that have a step name (`steps_more`), by
 -- those that a leaf takes (`marked_unnamed`, `marked_machine`, `marked_steps`), and so node by node (`heard_more`, `heard_same`). Those of all
--- nodes tell what is asked for a number (`ask_is`), and the table is filled number by number (`asked_more`, `asked_all`). Assumes nothing.
+-- nodes tell what is asked for a number (`ask_is`), and the table is filled number by number (`asked_more`, `asked_next`, `asked_all`). Assumes nothing.
 use Prim.Native.Nat.{ℕ, ◌+◌, ◌-◌, ◌<◌, ◌≤◌}
 use Rattle.std.specs.Prelude.{Bool, ◌&&◌, ◌||◌, cond, List, ◌≡◌, eqb, ltb, length, get_or, set, replicate}
 use Rattle.std.proofs.Math.Bool.{true, false, or-true, or-false, or_assoc}
@@ -13,7 +13,7 @@ use Rattle.flow.specs.declared.Form.{Form}
 use Rattle.flow.specs.Kinds.{form, node, one_of}
 use Rattle.flow.specs.Records.{most_events, all_numbers}
 use Rattle.flow.specs.Refusals.{count}
-use Rattle.flow.specs.Cues.{cue_of, itself, masked}
+use Rattle.flow.specs.Cues.{cue_of, masked}
 use Rattle.format.specs.Format.{Entry}
 use Rattle.format.specs.Matching.{same_step, no_machine}
 use Rattle.format.specs.ListChecks.{entries_in, Whole}
@@ -25,7 +25,7 @@ use Rattle.matching.specs.Asks.{some_leaf, hears, ask, asks, takes_event, HeardM
 use Rattle.matching.specs.SetLaws.{mask_low}
 use Rattle.matching.proofs.AskLaws.{asks_length, asks_at}
 use Rattle.matching.proofs.CueLaws.{count_is, entries_are, entry_is}
-use Rattle.matching.proofs.TakenLaws.{step_none, step_more, takes_cue_is, takes_own, taken_unnamed, taken_named}
+use Rattle.matching.proofs.TakenLaws.{step_none, step_more, takes_cue_is, taken_unnamed, taken_named}
 
 ---- Marks by tests ----
 
@@ -112,10 +112,6 @@ module _ (s : List ℕ) (w : Whole s) {n : ℕ} (counted : n ≡ number_at s 0) 
         also_as (λ a h. sym (named a ∙ ap₂ (λ (b : Bool) (ds : List Entry). eqb a event || (b && has_step (name_at s at) ds a)) m (sym (entries_are s w counted event))))
         (also_both also_own k)
 
--- without names, its own alone
-pub marked_plain : (event : ℕ) {before after : List Bool} → AlsoMarked (λ a. eqb a event) before after → AlsoMarked (λ a. takes_event itself a event) before after
-marked_plain event m = also_as (λ a h. sym (takes_own itself a event refl)) m
-
 ---- Node by node ----
 
 module _ (other : ℕ → ℕ) (ns : List ℕ) where
@@ -182,3 +178,8 @@ module _ (mask other : ℕ → ℕ) (ns : List ℕ) where
   pub asked_all : {i : ℕ} {table : List ℕ} → AskedTo mask other ns i table → 259 ≤ i → table ≡ asks mask other ns
   asked_all {i} {table} t l =
       ext_get_or 0 table (asks mask other ns) (t.long ∙ sym (asks_length mask other ns)) (λ k h. t.each k (omega (arith, t.long)) ∙ sym (asks_at mask other ns k (omega (arith, t.long))))
+
+-- one number more, by what is asked for it by the marks
+pub asked_next : (sets : ℕ → Joint) (other : ℕ → ℕ) (ns : List ℕ) {i r : ℕ} {marks : List Bool} {table : List ℕ} (v : ℕ) → AskedTo (masked sets) other ns i table
+    → HeardMarks other ns (count ns) marks → i < 259 → v ≡ ask_by (masked sets) other marks r → r ≡ get_or all_numbers i 0 → AskedTo (masked sets) other ns (i + 1) (set table i v)
+asked_next sets other ns {i} {r} v t m l is here = asked_more (masked sets) other ns v t l (is ∙ ask_is sets other ns m r ∙ ap (ask (masked sets) other ns) here)

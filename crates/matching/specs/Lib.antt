@@ -2,5 +2,6 @@
 pub mod Others
 pub mod Asks
 -- Theorems.
+pub mod SectionTest
 pub mod NumberLaws
 pub mod SetLaws

@@ -5,16 +5,17 @@
 // sets are refused (crates `format` and `flow`): bytes that are missing at the end of the sets count as 0.
 #![tactic(auto)]
 
-ghost use Rattle.std.specs.Prelude.{◌≡◌, map, false, ◌||◌, cond, ◌+◌, ◌*◌, ◌<◌, ◌≤◌, ◌^◌, eqb, ltb, length, get_or};
+ghost use Rattle.std.specs.Prelude.{◌≡◌, ℕ, map, true, false, ◌||◌, cond, ◌+◌, ◌*◌, ◌<◌, ◌≤◌, ◌^◌, eqb, ltb, length, get_or};
 ghost use Rattle.flow.specs.Records.{most_events, all_numbers};
 ghost use Rattle.flow.specs.Refusals.{count};
 ghost use Rattle.flow.specs.Legends.{in_set};
 ghost use Rattle.flow.specs.Cues.{cue, cue_of, itself, masked};
 ghost use Rattle.format.specs.Matching.{no_machine};
-ghost use Rattle.format.specs.ListChecks.{entries_in, Whole};
+ghost use Rattle.format.specs.ListChecks.{entries_in};
 ghost use Rattle.format.specs.Told.{at_front};
 ghost use Rattle.format.specs.Items.{number_at, name_at, entry_at, entry_end, entries_at, entries_end};
 ghost use Rattle.matching.specs.Others.{takes_step, first_taking, other};
+ghost use Rattle.matching.specs.SectionTest.{is_whole};
 ghost use Rattle.matching.specs.Asks.{asks, takes_event, HeardMarks, AlsoMarked, has_step, ask_by};
 
 // The highest event, and the number beside a closing, which is no event's.
@@ -85,19 +86,6 @@ fn first_taking(names: &[u8], count: u16, at: usize, own: u16) -> u16
     own
 }
 
-// The other event that takes an event, or the event itself.
-fn other_event(names: &[u8], event: u16) -> u16
-    requires { Whole names.now }
-    ensures { result ≡ other (entries_in names.now) event }
-{
-    let count = count_of_names(names);
-    if (event < 1) | (count < event) {
-        return event;
-    }
-    let at = behind_entries(names, event - 1);
-    first_taking(names, count, at, event)
-}
-
 // Whether a set of the lent ones has an event: event k stands at bit k - 1.
 fn in_set(sets: &[u8], set: usize, event: u16) -> bool
     requires { set < 16 }
@@ -147,53 +135,6 @@ fn packed(event: u16, mask: u64, other: u16) -> u64
     4294967296 * (other as u64) + 65536 * mask + event as u64
 }
 
-// The cue of a record's number, where no names are lent.
-fn plain_cue(number: u16, sets: &[u8]) -> u64
-    ensures { result ≡ cue_of (masked (in_set sets.now)) itself number }
-{
-    if number <= MOST_EVENTS {
-        packed(number, mask(sets, number), number)
-    } else {
-        packed(number, 0, NO_EVENT)
-    }
-}
-
-// The cue of a record's number, by the names.
-fn named_cue(names: &[u8], number: u16, sets: &[u8]) -> u64
-    requires { Whole names.now }
-    ensures { result ≡ cue_of (masked (in_set sets.now)) (other (entries_in names.now)) number }
-{
-    if number <= MOST_EVENTS {
-        packed(number, mask(sets, number), other_event(names, number))
-    } else {
-        packed(number, 0, NO_EVENT)
-    }
-}
-
-// The cues of the records to the front of a table, where no names are lent; the rest of it stays.
-pub fn plain_cues(records: &[u16], sets: &[u8], cues: &mut [u64])
-    requires { length records.now ≤ length cues.old }
-    ensures { cues.new ≡ at_front (map (cue_of (masked (in_set sets.now)) itself) records.now) cues.old }
-{
-    let mut i = 0;
-    while i < records.len() {
-        cues[i] = plain_cue(records[i], sets);
-        i += 1;
-    }
-}
-
-// The cues of the records to the front of a table, by a names section that is not refused; the rest of it stays.
-pub fn named_cues(names: &[u8], records: &[u16], sets: &[u8], cues: &mut [u64])
-    requires { Whole names.now × (length records.now ≤ length cues.old) }
-    ensures { cues.new ≡ at_front (map (cue_of (masked (in_set sets.now)) (other (entries_in names.now))) records.now) cues.old }
-{
-    let mut i = 0;
-    while i < records.len() {
-        cues[i] = named_cue(names, records[i], sets);
-        i += 1;
-    }
-}
-
 // Marks an event, if it is one of 256.
 #[tactic(auto, using(crate::proofs::MarkLaws::also_event, crate::proofs::MarkLaws::also_above))]
 fn mark_event(event: u16, marks: &mut [bool; 257])
@@ -222,72 +163,111 @@ fn mark_steps(names: &[u8], count: u16, at: usize, marks: &mut [bool; 257])
     }
 }
 
-// Marks the events that a leaf of an event takes: itself, and if its entry has no machine, those that have its step name.
-fn mark_taken(names: &[u8], event: u16, marks: &mut [bool; 257])
-    requires { Whole names.now × (length marks.old ≡ 257) }
-    ensures { AlsoMarked (λ a. takes_event (other (entries_in names.now)) a event) marks.old marks.new }
-{
-    mark_event(event, marks);
-    let count = count_of_names(names);
-    if (event < 1) | (count < event) {
-        return;
-    }
-    let at = behind_entries(names, event - 1);
-    if without_machine(names, at) {
-        mark_steps(names, count, at, marks);
-    }
+// What is lent of names: none, or a names section. By them an event's record may be taken by the leaves of another event too.
+pub trait Names {
+    // The other event that takes an event, or the event itself.
+    ghost beside: { Self → ℕ → ℕ };
+
+    fn other_event(&self, event: u16) -> u16
+        ensures { result ≡ beside self.now event };
+
+    // Marks the events that a leaf of an event takes.
+    fn mark_taken(&self, event: u16, marks: &mut [bool; 257])
+        requires { length marks.old ≡ 257 }
+        ensures { AlsoMarked (λ a. takes_event (beside self.now) a event) marks.old marks.new };
 }
 
-// Marks the events that node i takes, if it is an event leaf, where no names are lent.
-fn mark_plain_leaf(nodes: &[u16], i: usize, marks: &mut [bool; 257])
-    requires i_in_bounds { 3 * i + 2 < length nodes.now }
-    requires heard_marks { HeardMarks itself nodes.now i marks.old }
-    ensures { HeardMarks itself nodes.now (i + 1) marks.new }
-{
-    let form = flow::form_at(nodes, i);
-    let event = flow::first_at(nodes, i);
-    if form.event {
+// No names.
+#[derive(Clone, Copy)]
+pub struct Unnamed;
+
+impl Names for Unnamed {
+    ghost beside = { λ _. itself };
+
+    fn other_event(&self, event: u16) -> u16 {
+        event
+    }
+
+    fn mark_taken(&self, event: u16, marks: &mut [bool; 257]) {
         mark_event(event, marks);
     }
 }
 
-// The same by the names.
-fn mark_named_leaf(names: &[u8], nodes: &[u16], i: usize, marks: &mut [bool; 257])
-    requires whole { Whole names.now × (3 * i + 2 < length nodes.now) }
-    requires heard_marks { HeardMarks (other (entries_in names.now)) nodes.now i marks.old }
-    ensures { HeardMarks (other (entries_in names.now)) nodes.now (i + 1) marks.new }
+// A names section that is not refused.
+#[derive(Clone, Copy)]
+pub struct Named<'a> {
+    pub section: &'a [u8],
+    pub ghost whole: { is_whole section.now ≡ true },
+}
+
+impl Names for Named<'_> {
+    ghost beside = { λ names. other (entries_in names.section.now) };
+
+    // An event that has an entry is looked up from that entry.
+    fn other_event(&self, event: u16) -> u16 {
+        let count = count_of_names(self.section);
+        if (event < 1) | (count < event) {
+            return event;
+        }
+        let at = behind_entries(self.section, event - 1);
+        first_taking(self.section, count, at, event)
+    }
+
+    // The event itself, and if its entry has no machine, those that have its step name.
+    fn mark_taken(&self, event: u16, marks: &mut [bool; 257]) {
+        mark_event(event, marks);
+        let count = count_of_names(self.section);
+        if (event < 1) | (count < event) {
+            return;
+        }
+        let at = behind_entries(self.section, event - 1);
+        if without_machine(self.section, at) {
+            mark_steps(self.section, count, at, marks);
+        }
+    }
+}
+
+// The cue of a record's number.
+fn cue<N: Names>(names: &N, number: u16, sets: &[u8]) -> u64
+    ensures { result ≡ cue_of (masked (in_set sets.now)) (N.beside names.now) number }
+{
+    if number <= MOST_EVENTS {
+        packed(number, mask(sets, number), names.other_event(number))
+    } else {
+        packed(number, 0, NO_EVENT)
+    }
+}
+
+// The cues of the records to the front of a table; the rest of it stays.
+pub fn write_cues<N: Names>(names: &N, records: &[u16], sets: &[u8], cues: &mut [u64])
+    requires { length records.now ≤ length cues.old }
+    ensures { cues.new ≡ at_front (map (cue_of (masked (in_set sets.now)) (N.beside names.now)) records.now) cues.old }
+{
+    for (i, number) in records.iter().enumerate() {
+        cues[i] = cue(names, *number, sets);
+    }
+}
+
+// Marks the events that node i takes, if it is an event leaf.
+fn mark_leaf<N: Names>(names: &N, nodes: &[u16], i: usize, marks: &mut [bool; 257])
+    requires i_in_bounds { 3 * i + 2 < length nodes.now }
+    requires heard_marks { HeardMarks (N.beside names.now) nodes.now i marks.old }
+    ensures { HeardMarks (N.beside names.now) nodes.now (i + 1) marks.new }
 {
     let form = flow::form_at(nodes, i);
     let event = flow::first_at(nodes, i);
     if form.event {
-        mark_taken(names, event, marks);
+        names.mark_taken(event, marks);
     }
 }
 
-// Marks the events that the leaves take, where no names are lent; none is marked yet.
-fn mark_plain_leaves(nodes: &[u16], marks: &mut [bool; 257])
-    requires { HeardMarks itself nodes.now 0 marks.old }
-    ensures { HeardMarks itself nodes.now (count nodes.now) marks.new }
+// Marks the events that the leaves take; none is marked yet.
+fn mark_leaves<N: Names>(names: &N, nodes: &[u16], marks: &mut [bool; 257])
+    requires { HeardMarks (N.beside names.now) nodes.now 0 marks.old }
+    ensures { HeardMarks (N.beside names.now) nodes.now (count nodes.now) marks.new }
 {
-    let n = nodes.len() / 3;
-    let mut i = 0;
-    while i < n {
-        mark_plain_leaf(nodes, i, marks);
-        i += 1;
-    }
-}
-
-// The same by the names.
-fn mark_named_leaves(names: &[u8], nodes: &[u16], marks: &mut [bool; 257])
-    requires whole { Whole names.now }
-    requires heard_marks { HeardMarks (other (entries_in names.now)) nodes.now 0 marks.old }
-    ensures { HeardMarks (other (entries_in names.now)) nodes.now (count nodes.now) marks.new }
-{
-    let n = nodes.len() / 3;
-    let mut i = 0;
-    while i < n {
-        mark_named_leaf(names, nodes, i, marks);
-        i += 1;
+    for i in 0..nodes.len() / 3 {
+        mark_leaf(names, nodes, i, marks);
     }
 }
 
@@ -314,53 +294,25 @@ fn is_asked(marks: &[bool; 257], number: u16) -> bool
     marks[number as usize]
 }
 
-// What is asked for a number, by the marks, where no names are lent.
-fn plain_ask(marks: &[bool; 257], number: u16, sets: &[u8]) -> u64
-    ensures { result ≡ ask_by (masked (in_set sets.now)) itself marks.now number }
+// What is asked for a number, by the marks.
+fn ask<N: Names>(names: &N, marks: &[bool; 257], number: u16, sets: &[u8]) -> u64
+    ensures { result ≡ ask_by (masked (in_set sets.now)) (N.beside names.now) marks.now number }
 {
     if is_asked(marks, number) {
-        plain_cue(number, sets)
+        cue(names, number, sets)
     } else {
         0
     }
 }
 
-// The same by the names.
-fn named_ask(names: &[u8], marks: &[bool; 257], number: u16, sets: &[u8]) -> u64
-    requires { Whole names.now }
-    ensures { result ≡ ask_by (masked (in_set sets.now)) (other (entries_in names.now)) marks.now number }
-{
-    if is_asked(marks, number) {
-        named_cue(names, number, sets)
-    } else {
-        0
-    }
-}
-
-// What is asked for each number, where no names are lent.
-pub fn plain_asks(nodes: &[u16], sets: &[u8], table: &mut [u64])
+// What is asked for each number.
+pub fn write_asks<N: Names>(names: &N, nodes: &[u16], sets: &[u8], table: &mut [u64])
     requires { length table.old ≡ 259 }
-    ensures { table.new ≡ asks (masked (in_set sets.now)) itself nodes.now }
+    ensures { table.new ≡ asks (masked (in_set sets.now)) (N.beside names.now) nodes.now }
 {
     let mut marks = [false; 257];
-    mark_plain_leaves(nodes, &mut marks);
-    let mut i = 0;
-    while i < NUMBERS {
-        table[i] = plain_ask(&marks, nth_number(i), sets);
-        i += 1;
-    }
-}
-
-// What is asked for each number, by a names section that is not refused.
-pub fn named_asks(names: &[u8], nodes: &[u16], sets: &[u8], table: &mut [u64])
-    requires { Whole names.now × (length table.old ≡ 259) }
-    ensures { table.new ≡ asks (masked (in_set sets.now)) (other (entries_in names.now)) nodes.now }
-{
-    let mut marks = [false; 257];
-    mark_named_leaves(names, nodes, &mut marks);
-    let mut i = 0;
-    while i < NUMBERS {
-        table[i] = named_ask(names, &marks, nth_number(i), sets);
-        i += 1;
+    mark_leaves(names, nodes, &mut marks);
+    for (place, asked) in table.iter_mut().enumerate() {
+        *asked = ask(names, &marks, nth_number(place), sets);
     }
 }
