@@ -12,7 +12,7 @@ use Rattle.format.specs.Matching.{nobody, entry_of}
 use Rattle.format.specs.ListChecks.{entries_in, Whole}
 use Rattle.format.specs.Told.{at_front}
 use Rattle.format.specs.Items.{number_at, name_at, entry_at, entry_end, entries_at, entries_end}
-use Rattle.format.specs.SectionLaws.{entries_end_le, front_set}
+use Rattle.format.specs.SectionLaws.{entries_end_le, entries_end_more, front_set}
 use Rattle.format.specs.EntryLaws.{whole_there}
 use Rattle.matching.specs.Others.{takes_step, first_taking, other}
 use Rattle.matching.proofs.OtherLaws.{other_first}
@@ -33,6 +33,13 @@ module _ (s : List ℕ) where
   nth_entry_ends i zero at h = absurd (omega arith)
   nth_entry_ends zero (suc k) at h = entries_end_le s k (entry_end s at)
   nth_entry_ends (suc i) (suc k) at h = nth_entry_ends i k (entry_end s at) (omega arith)
+
+  -- so as the entries are passed one by one, the next is one of them
+  pub passed_inside : (i k : ℕ) {at : ℕ} → i < k → at ≡ entries_end s i 2 → entries_end s k 2 ≤ length s → entry_end s at ≤ length s
+  passed_inside i k h here l = rw here (omega (arith, nth_entry_ends i k 2 h))
+
+  pub passed_more : (i : ℕ) {at next : ℕ} → at ≡ entries_end s i 2 → next ≡ entry_end s at → next ≡ entries_end s (i + 1) 2
+  passed_more i here e = e ∙ ap (entry_end s) here ∙ sym (entries_end_more s i 2) ∙ ap (λ (n : ℕ). entries_end s n 2) (sym (add-one i))
 
 ---- The first that takes a step name ----
 

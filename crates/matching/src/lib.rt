@@ -34,16 +34,22 @@ fn count_of_names(names: &[u8]) -> u16
     format::number_from(names[0], names[1])
 }
 
+// The offset behind the entry at an offset.
+fn end_of_entry(names: &[u8], at: usize) -> usize
+    requires { entry_end names.now at ≤ length names.now }
+    ensures { result ≡ entry_end names.now at }
+{
+    format::end_of_name(names, format::end_of_name(names, at))
+}
+
 // The offset behind the first k entries.
 pub fn behind_entries(names: &[u8], k: u16) -> usize
     requires { entries_end names.now k 2 ≤ length names.now }
     ensures { result ≡ entries_end names.now k 2 }
 {
-    let mut i: u16 = 0;
-    let mut at: usize = 2;
-    while i < k {
-        at = format::end_of_name(names, format::end_of_name(names, at));
-        i += 1;
+    let mut at = 2;
+    for _ in 0..k {
+        at = end_of_entry(names, at);
     }
     at
 }
@@ -74,14 +80,12 @@ fn first_taking(names: &[u8], count: u16, at: usize, own: u16) -> u16
     requires { (entries_end names.now count 2 ≤ length names.now) × (entry_end names.now at ≤ length names.now) }
     ensures { result ≡ first_taking (name_at names.now at) own (entries_at names.now count 2) 1 }
 {
-    let mut i: u16 = 0;
-    let mut entry: usize = 2;
-    while i < count {
+    let mut entry = 2;
+    for i in 0..count {
         if takes_step(names, entry, at) {
             return i + 1;
         }
-        entry = format::end_of_name(names, format::end_of_name(names, entry));
-        i += 1;
+        entry = end_of_entry(names, entry);
     }
     own
 }
@@ -118,11 +122,10 @@ fn set_bit(sets: &[u8], set: usize, event: u16) -> u64
 fn mask(sets: &[u8], event: u16) -> u64
     ensures { result ≡ masked (in_set sets.now) event }
 {
-    let mut bits: u64 = 0;
-    let mut set: usize = 0;
-    while (set < flow::MOST_SETS) & (flow::SET_BYTES * set < sets.len()) {
+    let lent = sets.len().div_ceil(flow::SET_BYTES).min(flow::MOST_SETS);
+    let mut bits = 0;
+    for set in 0..lent {
         bits += set_bit(sets, set, event);
-        set += 1;
     }
     bits
 }
@@ -152,14 +155,10 @@ fn mark_steps(names: &[u8], count: u16, at: usize, marks: &mut [bool; 257])
     requires count_le_most_events { (count ≤ most_events) × (length marks.old ≡ 257) }
     ensures { AlsoMarked (has_step (name_at names.now at) (entries_at names.now count 2)) marks.old marks.new }
 {
-    let mut i: u16 = 0;
-    let mut entry: usize = 2;
-    while i < count {
-        let same = format::same_step(names, at, entry);
-        let event = i as usize + 1;
-        marks[event] = marks[event] | same;
-        entry = format::end_of_name(names, format::end_of_name(names, entry));
-        i += 1;
+    let mut entry = 2;
+    for i in 0..usize::from(count) {
+        marks[i + 1] |= format::same_step(names, at, entry);
+        entry = end_of_entry(names, entry);
     }
 }
 

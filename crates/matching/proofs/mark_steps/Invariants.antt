@@ -1,4 +1,3 @@
-use Prim.Native.Nat.{◌-◌, ◌≤◌}
 use mathlib.Core.Path.{◌≡◌}
 use Rattle.format.specs.Items.{name_at, entries_at, entries_end}
 use Rattle.matching.specs.Asks.{AlsoMarked, has_step}
@@ -6,7 +5,4 @@ use Rattle.matching.proofs.mark_steps.Given as goal
 
 abbrev pub invariant-loop-i : goal.invariant-loop-i
 invariant-loop-i l =
-    (l.i ≤ l.count) × (l.entry ≡ entries_end l.names l.i 2) × AlsoMarked (has_step (name_at l.names l.at) (entries_at l.names l.i 2)) l.initial.marks l.marks
-
-abbrev pub decreases-loop-i : goal.decreases-loop-i
-decreases-loop-i l = l.count - l.i
+    (l.entry ≡ entries_end l.names l.i 2) × AlsoMarked (has_step (name_at l.names l.at) (entries_at l.names l.i 2)) l.initial.marks l.marks
