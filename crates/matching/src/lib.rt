@@ -68,11 +68,7 @@ fn takes_step(names: &[u8], entry: usize, at: usize) -> bool
     requires { (entry_end names.now entry ≤ length names.now) × (entry_end names.now at ≤ length names.now) }
     ensures { result ≡ takes_step (name_at names.now at) (entry_at names.now entry) }
 {
-    if without_machine(names, entry) {
-        format::same_step(names, entry, at)
-    } else {
-        false
-    }
+    without_machine(names, entry) && format::same_step(names, entry, at)
 }
 
 // The number of the first of `count` entries that has no machine and the step name of the entry at `at`, or else `own`.
@@ -98,12 +94,10 @@ fn in_set(sets: &[u8], set: usize, event: u16) -> bool
     if (event < 1) | (MOST_EVENTS < event) {
         return false;
     }
-    let at = flow::SET_BYTES * set + (event as usize - 1) / 8;
-    if at >= sets.len() {
-        return false;
-    }
+    let at = flow::SET_BYTES * set + usize::from(event - 1) / 8;
     let bit = (event - 1) % 8;
-    (sets[at] >> bit) % 2 == 1
+    let byte = sets.get(at).copied().unwrap_or(0);
+    (byte >> bit) % 2 == 1
 }
 
 // The bit of a set in the mask of an event, if the set has it.
@@ -135,7 +129,7 @@ fn packed(event: u16, mask: u64, other: u16) -> u64
     requires { mask < 65536 }
     ensures { result ≡ cue event mask other }
 {
-    4294967296 * (other as u64) + 65536 * mask + event as u64
+    4294967296 * u64::from(other) + 65536 * mask + u64::from(event)
 }
 
 // Marks an event, if it is one of 256.
@@ -145,7 +139,7 @@ fn mark_event(event: u16, marks: &mut [bool; 257])
     ensures { AlsoMarked (λ a. eqb a event) marks.old marks.new }
 {
     if event <= MOST_EVENTS {
-        marks[event as usize] = true;
+        marks[usize::from(event)] = true;
     }
 }
 
@@ -253,10 +247,8 @@ fn mark_leaf<N: Names>(names: &N, nodes: &[u16], i: usize, marks: &mut [bool; 25
     requires heard_marks { HeardMarks (N.beside names.now) nodes.now i marks.old }
     ensures { HeardMarks (N.beside names.now) nodes.now (i + 1) marks.new }
 {
-    let form = flow::form_at(nodes, i);
-    let event = flow::first_at(nodes, i);
-    if form.event {
-        names.mark_taken(event, marks);
+    if flow::form_at(nodes, i).event {
+        names.mark_taken(flow::first_at(nodes, i), marks);
     }
 }
 
@@ -275,7 +267,7 @@ pub fn nth_number(place: usize) -> u16
     requires { place < 259 }
     ensures { result ≡ get_or all_numbers place 0 }
 {
-    let events = MOST_EVENTS as usize;
+    let events = usize::from(MOST_EVENTS);
     if place < events {
         place as u16 + 1
     } else {
@@ -287,10 +279,7 @@ pub fn nth_number(place: usize) -> u16
 fn is_asked(marks: &[bool; 257], number: u16) -> bool
     ensures { result ≡ (ltb most_events number || get_or marks.now number false) }
 {
-    if number > MOST_EVENTS {
-        return true;
-    }
-    marks[number as usize]
+    number > MOST_EVENTS || marks[usize::from(number)]
 }
 
 // What is asked for a number, by the marks.
