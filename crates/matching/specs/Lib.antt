@@ -1,5 +1,6 @@
 -- Definitions that need not be believed.
 pub mod Others
+pub mod Entries
 pub mod Asks
 -- Theorems.
 pub mod SectionTest

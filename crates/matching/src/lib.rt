@@ -15,6 +15,7 @@ ghost use Rattle.format.specs.ListChecks.{entries_in};
 ghost use Rattle.format.specs.Told.{at_front};
 ghost use Rattle.format.specs.Items.{number_at, name_at, entry_at, entry_end, entries_at, entries_end};
 ghost use Rattle.matching.specs.Others.{takes_step, first_taking, other};
+ghost use Rattle.matching.specs.Entries.{entry_place};
 ghost use Rattle.matching.specs.SectionTest.{is_whole};
 ghost use Rattle.matching.specs.Asks.{asks, takes_event, HeardMarks, AlsoMarked, has_step, ask_by};
 
@@ -25,14 +26,6 @@ const NO_EVENT: u16 = 65535;
 
 // How many numbers may follow a beginning: the events and the closings.
 pub const NUMBERS: usize = 259;
-
-// How many names there are.
-fn count_of_names(names: &[u8]) -> u16
-    requires { 2 ≤ length names.now }
-    ensures { result ≡ number_at names.now 0 }
-{
-    format::number_from(names[0], names[1])
-}
 
 // The offset behind the entry at an offset.
 fn end_of_entry(names: &[u8], at: usize) -> usize
@@ -69,21 +62,6 @@ fn takes_step(names: &[u8], entry: usize, at: usize) -> bool
     ensures { result ≡ takes_step (name_at names.now at) (entry_at names.now entry) }
 {
     without_machine(names, entry) && format::same_step(names, entry, at)
-}
-
-// The number of the first of `count` entries that has no machine and the step name of the entry at `at`, or else `own`.
-fn first_taking(names: &[u8], count: u16, at: usize, own: u16) -> u16
-    requires { (entries_end names.now count 2 ≤ length names.now) × (entry_end names.now at ≤ length names.now) }
-    ensures { result ≡ first_taking (name_at names.now at) own (entries_at names.now count 2) 1 }
-{
-    let mut entry = 2;
-    for i in 0..count {
-        if takes_step(names, entry, at) {
-            return i + 1;
-        }
-        entry = end_of_entry(names, entry);
-    }
-    own
 }
 
 // Whether a set of the lent ones has an event: event k stands at bit k - 1.
@@ -143,19 +121,6 @@ fn mark_event(event: u16, marks: &mut [bool; 257])
     }
 }
 
-// Marks the events of those among the first `count` entries that have the step name of the entry at `at`.
-fn mark_steps(names: &[u8], count: u16, at: usize, marks: &mut [bool; 257])
-    requires count_in_bounds { (entries_end names.now count 2 ≤ length names.now) × (entry_end names.now at ≤ length names.now) }
-    requires count_le_most_events { (count ≤ most_events) × (length marks.old ≡ 257) }
-    ensures { AlsoMarked (has_step (name_at names.now at) (entries_at names.now count 2)) marks.old marks.new }
-{
-    let mut entry = 2;
-    for i in 0..usize::from(count) {
-        marks[i + 1] |= format::same_step(names, at, entry);
-        entry = end_of_entry(names, entry);
-    }
-}
-
 // What is lent of names: none, or a names section. By them an event's record may be taken by the leaves of another event too.
 pub trait Names {
     // The other event that takes an event, or the event itself.
@@ -193,29 +158,70 @@ pub struct Named<'a> {
     pub ghost whole: { is_whole section.now ≡ true },
 }
 
+impl Named<'_> {
+    // How many names there are.
+    fn count(&self) -> u16
+        ensures { result ≡ length (entries_in self.now.section.now) }
+    {
+        format::number_from(self.section[0], self.section[1])
+    }
+
+    // The offset of an event's entry, if it has one.
+    fn entry_of(&self, event: u16) -> Option<usize>
+        ensures { result ≡ entry_place self.now.section.now event }
+    {
+        if (event < 1) | (self.count() < event) {
+            return None;
+        }
+        Some(behind_entries(self.section, event - 1))
+    }
+
+    // The number of the first entry that has no machine and the step name of the entry at an offset, or else `own`.
+    fn first_taking(&self, at: usize, own: u16) -> u16
+        requires { entry_end self.now.section.now at ≤ length self.now.section.now }
+        ensures { let s = self.now.section.now in result ≡ first_taking (name_at s at) own (entries_in s) 1 }
+    {
+        let mut entry = 2;
+        for i in 0..self.count() {
+            if takes_step(self.section, entry, at) {
+                return i + 1;
+            }
+            entry = end_of_entry(self.section, entry);
+        }
+        own
+    }
+
+    // Marks the events whose entries have the step name of the entry at an offset.
+    fn mark_steps(&self, at: usize, marks: &mut [bool; 257])
+        requires at_entry { entry_end self.now.section.now at ≤ length self.now.section.now }
+        requires sized { length marks.old ≡ 257 }
+        ensures { let s = self.now.section.now in AlsoMarked (has_step (name_at s at) (entries_in s)) marks.old marks.new }
+    {
+        let mut entry = 2;
+        for i in 0..usize::from(self.count()) {
+            marks[i + 1] |= format::same_step(self.section, at, entry);
+            entry = end_of_entry(self.section, entry);
+        }
+    }
+}
+
 impl Names for Named<'_> {
     ghost beside = { λ names. other (entries_in names.section.now) };
 
-    // An event that has an entry is looked up from that entry.
     fn other_event(&self, event: u16) -> u16 {
-        let count = count_of_names(self.section);
-        if (event < 1) | (count < event) {
-            return event;
+        match self.entry_of(event) {
+            Some(at) => self.first_taking(at, event),
+            None => event,
         }
-        let at = behind_entries(self.section, event - 1);
-        first_taking(self.section, count, at, event)
     }
 
     // The event itself, and if its entry has no machine, those that have its step name.
     fn mark_taken(&self, event: u16, marks: &mut [bool; 257]) {
         mark_event(event, marks);
-        let count = count_of_names(self.section);
-        if (event < 1) | (count < event) {
-            return;
-        }
-        let at = behind_entries(self.section, event - 1);
-        if without_machine(self.section, at) {
-            mark_steps(self.section, count, at, marks);
+        if let Some(at) = self.entry_of(event) {
+            if without_machine(self.section, at) {
+                self.mark_steps(at, marks);
+            }
         }
     }
 }
