@@ -27,6 +27,9 @@ const NO_EVENT: u16 = 65535;
 // How many numbers may follow a beginning: the events and the closings.
 pub const NUMBERS: usize = 259;
 
+// Which events are marked, by their numbers; there is no event 0.
+pub type Marks = [bool; 257];
+
 // The offset behind the entry at an offset.
 fn end_of_entry(names: &[u8], at: usize) -> usize
     requires { entry_end names.now at ≤ length names.now }
@@ -112,8 +115,7 @@ fn packed(event: u16, mask: u64, other: u16) -> u64
 
 // Marks an event, if it is one of 256.
 #[tactic(auto, using(crate::proofs::MarkLaws::also_event, crate::proofs::MarkLaws::also_above))]
-fn mark_event(event: u16, marks: &mut [bool; 257])
-    requires { length marks.old ≡ 257 }
+fn mark_event(event: u16, marks: &mut Marks)
     ensures { AlsoMarked (λ a. eqb a event) marks.old marks.new }
 {
     if event <= MOST_EVENTS {
@@ -130,8 +132,7 @@ pub trait Names {
         ensures { result ≡ beside self.now event };
 
     // Marks the events that a leaf of an event takes.
-    fn mark_taken(&self, event: u16, marks: &mut [bool; 257])
-        requires { length marks.old ≡ 257 }
+    fn mark_taken(&self, event: u16, marks: &mut Marks)
         ensures { AlsoMarked (λ a. takes_event (beside self.now) a event) marks.old marks.new };
 }
 
@@ -146,7 +147,7 @@ impl Names for Unnamed {
         event
     }
 
-    fn mark_taken(&self, event: u16, marks: &mut [bool; 257]) {
+    fn mark_taken(&self, event: u16, marks: &mut Marks) {
         mark_event(event, marks);
     }
 }
@@ -192,9 +193,8 @@ impl Named<'_> {
     }
 
     // Marks the events whose entries have the step name of the entry at an offset.
-    fn mark_steps(&self, at: usize, marks: &mut [bool; 257])
-        requires at_entry { entry_end self.now.section.now at ≤ length self.now.section.now }
-        requires sized { length marks.old ≡ 257 }
+    fn mark_steps(&self, at: usize, marks: &mut Marks)
+        requires { entry_end self.now.section.now at ≤ length self.now.section.now }
         ensures { let s = self.now.section.now in AlsoMarked (has_step (name_at s at) (entries_in s)) marks.old marks.new }
     {
         let mut entry = 2;
@@ -216,7 +216,7 @@ impl Names for Named<'_> {
     }
 
     // The event itself, and if its entry has no machine, those that have its step name.
-    fn mark_taken(&self, event: u16, marks: &mut [bool; 257]) {
+    fn mark_taken(&self, event: u16, marks: &mut Marks) {
         mark_event(event, marks);
         if let Some(at) = self.entry_of(event) {
             if without_machine(self.section, at) {
@@ -248,7 +248,7 @@ pub fn write_cues<N: Names>(names: &N, records: &[u16], sets: &[u8], cues: &mut 
 }
 
 // Marks the events that node i takes, if it is an event leaf.
-fn mark_leaf<N: Names>(names: &N, nodes: &[u16], i: usize, marks: &mut [bool; 257])
+fn mark_leaf<N: Names>(names: &N, nodes: &[u16], i: usize, marks: &mut Marks)
     requires i_in_bounds { 3 * i + 2 < length nodes.now }
     requires heard_marks { HeardMarks (N.beside names.now) nodes.now i marks.old }
     ensures { HeardMarks (N.beside names.now) nodes.now (i + 1) marks.new }
@@ -259,7 +259,7 @@ fn mark_leaf<N: Names>(names: &N, nodes: &[u16], i: usize, marks: &mut [bool; 25
 }
 
 // Marks the events that the leaves take; none is marked yet.
-fn mark_leaves<N: Names>(names: &N, nodes: &[u16], marks: &mut [bool; 257])
+fn mark_leaves<N: Names>(names: &N, nodes: &[u16], marks: &mut Marks)
     requires { HeardMarks (N.beside names.now) nodes.now 0 marks.old }
     ensures { HeardMarks (N.beside names.now) nodes.now (count nodes.now) marks.new }
 {
@@ -282,14 +282,14 @@ pub fn nth_number(place: usize) -> u16
 }
 
 // Whether a number is asked: a closing, or a marked event.
-fn is_asked(marks: &[bool; 257], number: u16) -> bool
+fn is_asked(marks: &Marks, number: u16) -> bool
     ensures { result ≡ (ltb most_events number || get_or marks.now number false) }
 {
     number > MOST_EVENTS || marks[usize::from(number)]
 }
 
 // What is asked for a number, by the marks.
-fn ask<N: Names>(names: &N, marks: &[bool; 257], number: u16, sets: &[u8]) -> u64
+fn ask<N: Names>(names: &N, marks: &Marks, number: u16, sets: &[u8]) -> u64
     ensures { result ≡ ask_by (masked (in_set sets.now)) (N.beside names.now) marks.now number }
 {
     if is_asked(marks, number) {
@@ -304,7 +304,7 @@ pub fn write_asks<N: Names>(names: &N, nodes: &[u16], sets: &[u8], table: &mut [
     requires { length table.old ≡ 259 }
     ensures { table.new ≡ asks (masked (in_set sets.now)) (N.beside names.now) nodes.now }
 {
-    let mut marks = [false; 257];
+    let mut marks: Marks = [false; 257];
     mark_leaves(names, nodes, &mut marks);
     for (place, asked) in table.iter_mut().enumerate() {
         *asked = ask(names, &marks, nth_number(place), sets);

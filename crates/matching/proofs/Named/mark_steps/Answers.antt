@@ -17,7 +17,7 @@ pub same_step-requires : goal.same_step-requires
 same_step-requires c =
     let names = c.args.self.now in
     let inside = each_inside names.section.now (whole_by _ names.whole) c.loop-i.i (omega arith) c.loop-i.invariant.0 in
-    (omega (arith, c.requires.at_entry), omega (arith, inside))
+    (omega (arith, c.requires), omega (arith, inside))
 
 pub end_of_entry-entry-requires : goal.end_of_entry-entry-requires
 end_of_entry-entry-requires c = let names = c.args.self.now in each_inside names.section.now (whole_by _ names.whole) c.loop-i.i (omega arith) c.loop-i.invariant.0

@@ -8,8 +8,8 @@ use Rattle.matching.proofs.NamedNames.mark_taken.Goals as goal
 pub without_machine-requires : goal.without_machine-requires
 without_machine-requires c = let names = c.args.self.now in placed_inside names.section.now (whole_by _ names.whole) c.args.event c.in-Some.ensures
 
-pub mark_steps-requires-clause-at_entry : goal.mark_steps-requires-clause-at_entry
-mark_steps-requires-clause-at_entry c = let names = c.args.self.now in placed_inside names.section.now (whole_by _ names.whole) c.args.event c.in-Some.ensures
+pub mark_steps-requires : goal.mark_steps-requires
+mark_steps-requires c = let names = c.args.self.now in placed_inside names.section.now (whole_by _ names.whole) c.args.event c.in-Some.ensures
 
 pub returns-then-without_machine : goal.returns-then-without_machine
 returns-then-without_machine c =
