@@ -125,9 +125,9 @@ pub fn next(
         return Next::Refused(refusal);
     }
     let mut cues = [0u64; 256];
-    matching::plain_cues(beginning, sets, &mut cues);
+    matching::write_cues(&matching::Unnamed, beginning, sets, &mut cues);
     let mut asks = [0u64; 259];
-    matching::plain_asks(nodes, sets, &mut asks);
+    matching::write_asks(&matching::Unnamed, nodes, sets, &mut asks);
     let n = beginning.len();
     next_by(nodes, &cues[..n], &mut asks, list, work, allowance)
 }
@@ -148,10 +148,11 @@ pub fn next_named(
     if let Err(refusal) = check_next_named(names, nodes, beginning, sets, list.len(), work.len()) {
         return Next::Refused(refusal);
     }
+    let named = matching::Named { section: names };
     let mut cues = [0u64; 256];
-    matching::named_cues(names, beginning, sets, &mut cues);
+    matching::write_cues(&named, beginning, sets, &mut cues);
     let mut asks = [0u64; 259];
-    matching::named_asks(names, nodes, sets, &mut asks);
+    matching::write_asks(&named, nodes, sets, &mut asks);
     let n = beginning.len();
     next_by(nodes, &cues[..n], &mut asks, list, work, allowance)
 }

@@ -109,7 +109,7 @@ pub fn judge(nodes: &[u16], records: &[u16], sets: &[u8], work: &mut [u8], allow
         return Answer::Refused(refusal);
     }
     let mut cues = [0u64; 256];
-    matching::plain_cues(records, sets, &mut cues);
+    matching::write_cues(&matching::Unnamed, records, sets, &mut cues);
     let n = records.len();
     answer_by(nodes, &cues[..n], work, allowance)
 }
@@ -130,7 +130,7 @@ pub fn judge_named(
         return Answer::Refused(refusal);
     }
     let mut cues = [0u64; 256];
-    matching::named_cues(names, records, sets, &mut cues);
+    matching::write_cues(&matching::Named { section: names }, records, sets, &mut cues);
     let n = records.len();
     answer_by(nodes, &cues[..n], work, allowance)
 }

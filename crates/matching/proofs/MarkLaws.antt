@@ -1,11 +1,12 @@
--- What the code learns on its way to what is asked: marks grow by one event (`also_event`), by those that have a step name (`steps_more`), by
+-- What the code learns on its way to what is asked: marks grow by one event (`also_event`), by those that have a step name (`steps_more`,
+-- `steps_all`), by
 -- those that a leaf takes (`marked_unnamed`, `marked_machine`, `marked_steps`), and so node by node (`heard_more`, `heard_same`). Those of all
--- nodes tell what is asked for a number (`ask_is`), and the table is filled number by number (`asked_more`, `asked_all`). Assumes nothing.
-use Prim.Native.Nat.{ℕ, ◌+◌, ◌-◌, ◌<◌, ◌≤◌}
-use Rattle.std.specs.Prelude.{Bool, ◌&&◌, ◌||◌, cond, List, ◌≡◌, eqb, ltb, length, get_or, set, replicate}
+-- nodes tell what is asked for a number (`ask_is`), and the table is filled number by number (`asked_more`, `asked_next`, `asked_all`). Assumes nothing.
+use Prim.Native.Nat.{ℕ, ◌+◌, ◌<◌, ◌≤◌}
+use Rattle.std.specs.Prelude.{Bool, ◌&&◌, ◌||◌, cond, Some, None, List, ◌≡◌, eqb, ltb, length, get_or, set, replicate}
 use Rattle.std.proofs.Math.Bool.{true, false, or-true, or-false, or_assoc}
 use Rattle.std.proofs.Math.Path.{refl, ap, ap₂, sym}
-use Rattle.std.proofs.Common.{◌∙◌, add-one, arith, eqb-true, ltb-false, eq-eqb, ne_eqb, length-set, get_or-set_same, get_or-set_other, ext_get_or}
+use Rattle.std.proofs.Common.{◌∙◌, subst, add-one, arith, eqb-true, ltb-false, eq-eqb, ne_eqb, length-set, get_or-set_same, get_or-set_other, ext_get_or}
 use Rattle.std.proofs.lemmas.Bool.{eqb-false}
 use Rattle.std.proofs.Math.ListN.{get_or-replicate}
 use Rattle.calculus.specs.Term.{Joint}
@@ -13,19 +14,20 @@ use Rattle.flow.specs.declared.Form.{Form}
 use Rattle.flow.specs.Kinds.{form, node, one_of}
 use Rattle.flow.specs.Records.{most_events, all_numbers}
 use Rattle.flow.specs.Refusals.{count}
-use Rattle.flow.specs.Cues.{cue_of, itself, masked}
+use Rattle.flow.specs.Cues.{cue_of, masked}
 use Rattle.format.specs.Format.{Entry}
 use Rattle.format.specs.Matching.{same_step, no_machine}
 use Rattle.format.specs.ListChecks.{entries_in, Whole}
-use Rattle.format.specs.Items.{number_at, name_at, entry_at, entries_at, entries_end}
+use Rattle.format.specs.Items.{name_at, entry_at, entries_at, entries_end}
 use Rattle.format.specs.SectionLaws.{entries_at_length, entries_at_more}
 use Rattle.format.specs.EntryLaws.{whole_there}
 use Rattle.matching.specs.Others.{other}
+use Rattle.matching.specs.Entries.{entry_place}
 use Rattle.matching.specs.Asks.{some_leaf, hears, ask, asks, takes_event, HeardMarks, AlsoMarked, has_step, ask_by, AskedTo}
 use Rattle.matching.specs.SetLaws.{mask_low}
 use Rattle.matching.proofs.AskLaws.{asks_length, asks_at}
-use Rattle.matching.proofs.CueLaws.{count_is, entries_are, entry_is}
-use Rattle.matching.proofs.TakenLaws.{step_none, step_more, takes_cue_is, takes_own, taken_unnamed, taken_named}
+use Rattle.matching.proofs.CueLaws.{unplaced, placed, placed_is}
+use Rattle.matching.proofs.TakenLaws.{step_none, step_more, takes_cue_is, taken_unnamed, taken_named}
 
 ---- Marks by tests ----
 
@@ -88,33 +90,33 @@ module _ (s step : List ℕ) where
           ∙ sym (step_more step es (entry_at s (entries_end s i 2)) a)
           ∙ ap (λ (ds : List Entry). has_step step ds a) (sym (entries_at_more s i 2) ∙ ap (λ (n : ℕ). entries_at s n 2) (sym (add-one i)))
 
+  -- of all entries
+  pub steps_all : Whole s → (n : ℕ) {before marks : List Bool} → n ≡ length (entries_in s)
+      → AlsoMarked (has_step step (entries_at s n 2)) before marks → AlsoMarked (has_step step (entries_in s)) before marks
+  steps_all w n {before} {marks} e = subst (λ (es : List Entry). AlsoMarked (has_step step es) before marks) (ap (λ (k : ℕ). entries_at s k 2) e ∙ sym (whole_there s w).is)
+
 ---- The events that a leaf takes ----
 
-module _ (s : List ℕ) (w : Whole s) {n : ℕ} (counted : n ≡ number_at s 0) (event : ℕ) {before own : List Bool} (also_own : AlsoMarked (λ a. eqb a event) before own) where
+module _ (s : List ℕ) (w : Whole s) (event : ℕ) {before own : List Bool} (also_own : AlsoMarked (λ a. eqb a event) before own) where
   abbrev Taken : List Bool → Type 0
   Taken after = AlsoMarked (λ a. takes_event (other (entries_in s)) a event) before after
 
-  pub marked_unnamed : (ltb event 1 || ltb n event) ≡ true → Taken own
-  marked_unnamed t = also_as (λ a h. sym (taken_unnamed (entries_in s) event a (rw (count_is s w counted event) at t))) also_own
+  pub marked_unnamed : None ≡ entry_place s event → Taken own
+  marked_unnamed none = also_as (λ a h. sym (taken_unnamed (entries_in s) event a (unplaced s w event none))) also_own
 
-  module _ (t : (ltb event 1 || ltb n event) ≡ false) {at : ℕ} (here : at ≡ entries_end s (event - 1) 2) where
+  module _ {at : ℕ} (is : Some at ≡ entry_place s event) where
     named : (a : ℕ) → takes_event (other (entries_in s)) a event ≡ (eqb a event || (no_machine (entry_at s at) && has_step (name_at s at) (entries_in s) a))
     named a =
-        taken_named (entries_in s) event a (whole_there s w).apart (rw (count_is s w counted event) at t)
-        ∙ ap (λ (e : Entry). eqb a event || (no_machine e && has_step e.step (entries_in s) a)) (entry_is s w counted event t ∙ ap (entry_at s) (sym here))
+        taken_named (entries_in s) event a (whole_there s w).apart (placed s w event is).0
+        ∙ ap (λ (e : Entry). eqb a event || (no_machine e && has_step e.step (entries_in s) a)) (placed_is s w event is)
 
     pub marked_machine : no_machine (entry_at s at) ≡ false → Taken own
     marked_machine m =
         also_as (λ a h. sym (named a ∙ ap (λ (b : Bool). eqb a event || (b && has_step (name_at s at) (entries_in s) a)) m ∙ or-false (eqb a event))) also_own
 
-    pub marked_steps : {after : List Bool} → no_machine (entry_at s at) ≡ true → AlsoMarked (has_step (name_at s at) (entries_at s n 2)) own after → Taken after
+    pub marked_steps : {after : List Bool} → no_machine (entry_at s at) ≡ true → AlsoMarked (has_step (name_at s at) (entries_in s)) own after → Taken after
     marked_steps m k =
-        also_as (λ a h. sym (named a ∙ ap₂ (λ (b : Bool) (ds : List Entry). eqb a event || (b && has_step (name_at s at) ds a)) m (sym (entries_are s w counted event))))
-        (also_both also_own k)
-
--- without names, its own alone
-pub marked_plain : (event : ℕ) {before after : List Bool} → AlsoMarked (λ a. eqb a event) before after → AlsoMarked (λ a. takes_event itself a event) before after
-marked_plain event m = also_as (λ a h. sym (takes_own itself a event refl)) m
+        also_as (λ a h. sym (named a ∙ ap (λ (b : Bool). eqb a event || (b && has_step (name_at s at) (entries_in s) a)) m)) (also_both also_own k)
 
 ---- Node by node ----
 
@@ -182,3 +184,8 @@ module _ (mask other : ℕ → ℕ) (ns : List ℕ) where
   pub asked_all : {i : ℕ} {table : List ℕ} → AskedTo mask other ns i table → 259 ≤ i → table ≡ asks mask other ns
   asked_all {i} {table} t l =
       ext_get_or 0 table (asks mask other ns) (t.long ∙ sym (asks_length mask other ns)) (λ k h. t.each k (omega (arith, t.long)) ∙ sym (asks_at mask other ns k (omega (arith, t.long))))
+
+-- one number more, by what is asked for it by the marks
+pub asked_next : (sets : ℕ → Joint) (other : ℕ → ℕ) (ns : List ℕ) {i r : ℕ} {marks : List Bool} {table : List ℕ} (v : ℕ) → AskedTo (masked sets) other ns i table
+    → HeardMarks other ns (count ns) marks → i < 259 → v ≡ ask_by (masked sets) other marks r → r ≡ get_or all_numbers i 0 → AskedTo (masked sets) other ns (i + 1) (set table i v)
+asked_next sets other ns {i} {r} v t m l is here = asked_more (masked sets) other ns v t l (is ∙ ask_is sets other ns m r ∙ ap (ask (masked sets) other ns) here)

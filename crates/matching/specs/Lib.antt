@@ -1,6 +1,8 @@
 -- Definitions that need not be believed.
 pub mod Others
+pub mod Entries
 pub mod Asks
 -- Theorems.
+pub mod SectionTest
 pub mod NumberLaws
 pub mod SetLaws

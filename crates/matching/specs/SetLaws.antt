@@ -1,12 +1,14 @@
 -- The sets that have an event: their mask is small (`mask_low`). Then what the code learns on its way: a lent set is looked up by its bytes
--- (`set_no_event`, `set_beyond`, `set_there`), and the mask is added up set by set (`mask_more`), of those that are lent (`mask_all`).
+-- (`set_no_event`, `set_beyond`, `set_there`), and the mask is added up set by set (`mask_more`), of those that are lent
+-- (`mask_all`, `mask_lent`).
 -- Assumes nothing.
-use Rattle.std.specs.Prelude.{ℕ, zero, suc, ◌+◌, ◌*◌, ◌-◌, ◌/◌, ◌%◌, ◌^◌, ◌<◌, ◌≤◌, Bool, ◌&&◌, ◌||◌, cond, List, ◌≡◌, length, get_or}
+use Rattle.std.specs.Prelude.{ℕ, zero, suc, min, ◌+◌, ◌*◌, ◌-◌, ◌/◌, ◌%◌, ◌^◌, ◌<◌, ◌≤◌, Bool, ◌&&◌, ◌||◌, cond, List, ◌≡◌, length, get_or}
 use Rattle.std.proofs.Math.Bool.{true, false, and-false}
 use Rattle.std.proofs.lemmas.Bool.{false≢true}
 use Rattle.std.proofs.Math.Path.{refl, ap, sym}
 use Rattle.std.proofs.Common.{ap₂, ◌∙◌, add-one, arith, pow_mono}
 use Rattle.std.proofs.Math.Nat.{zero-div}
+use Rattle.std.specs.Int.{div_ceil}
 use borrow.Author.Tests.{leb-true, le-leb, ltb-true, ltb-false, le-ltb}
 use Rattle.std.proofs.Math.Dec.{eqb, leb, ltb}
 use Rattle.std.proofs.Math.ListN.{get_or-eq_default}
@@ -102,3 +104,11 @@ mask_all sets event n h t = by (ltb n most_sets) refl t
         let e : n + (most_sets - n) ≡ most_sets = omega arith in
         mask_rest f n (most_sets - n) (λ k l. sym (set_beyond sets k event (omega arith))) ∙ ap (mask_of f) e
     by false p q = let e : n ≡ most_sets = omega (arith, ltb-false n most_sets p) in ap (mask_of f) e
+
+-- so of no more sets than are lent
+pub mask_lent : (sets : List ℕ) (event n : ℕ) → n ≡ min (div_ceil (length sets) set_bytes) most_sets → mask_of (λ k. in_set sets k event) n ≡ masked (in_set sets) event
+mask_lent sets event n e = mask_all sets event n (omega arith) (by (ltb n most_sets) refl)
+  where
+    by : (b : Bool) → ltb n most_sets ≡ b → (b && ltb (set_bytes * n) (length sets)) ≡ false
+    by true p = le-ltb (set_bytes * n) (length sets) (omega (arith, ltb-true n most_sets p))
+    by false p = refl

@@ -5,16 +5,18 @@
 // sets are refused (crates `format` and `flow`): bytes that are missing at the end of the sets count as 0.
 #![tactic(auto)]
 
-ghost use Rattle.std.specs.Prelude.{◌≡◌, map, false, ◌||◌, cond, ◌+◌, ◌*◌, ◌<◌, ◌≤◌, ◌^◌, eqb, ltb, length, get_or};
+ghost use Rattle.std.specs.Prelude.{◌≡◌, ℕ, map, true, false, ◌||◌, cond, ◌+◌, ◌*◌, ◌<◌, ◌≤◌, ◌^◌, eqb, ltb, length, get_or};
 ghost use Rattle.flow.specs.Records.{most_events, all_numbers};
 ghost use Rattle.flow.specs.Refusals.{count};
 ghost use Rattle.flow.specs.Legends.{in_set};
 ghost use Rattle.flow.specs.Cues.{cue, cue_of, itself, masked};
 ghost use Rattle.format.specs.Matching.{no_machine};
-ghost use Rattle.format.specs.ListChecks.{entries_in, Whole};
+ghost use Rattle.format.specs.ListChecks.{entries_in};
 ghost use Rattle.format.specs.Told.{at_front};
 ghost use Rattle.format.specs.Items.{number_at, name_at, entry_at, entry_end, entries_at, entries_end};
 ghost use Rattle.matching.specs.Others.{takes_step, first_taking, other};
+ghost use Rattle.matching.specs.Entries.{entry_place};
+ghost use Rattle.matching.specs.SectionTest.{is_whole};
 ghost use Rattle.matching.specs.Asks.{asks, takes_event, HeardMarks, AlsoMarked, has_step, ask_by};
 
 // The highest event, and the number beside a closing, which is no event's.
@@ -25,12 +27,15 @@ const NO_EVENT: u16 = 65535;
 // How many numbers may follow a beginning: the events and the closings.
 pub const NUMBERS: usize = 259;
 
-// How many names there are.
-fn count_of_names(names: &[u8]) -> u16
-    requires { 2 ≤ length names.now }
-    ensures { result ≡ number_at names.now 0 }
+// Which events are marked, by their numbers; there is no event 0.
+pub type Marks = [bool; 257];
+
+// The offset behind the entry at an offset.
+fn end_of_entry(names: &[u8], at: usize) -> usize
+    requires { entry_end names.now at ≤ length names.now }
+    ensures { result ≡ entry_end names.now at }
 {
-    format::number_from(names[0], names[1])
+    format::end_of_name(names, format::end_of_name(names, at))
 }
 
 // The offset behind the first k entries.
@@ -38,11 +43,9 @@ pub fn behind_entries(names: &[u8], k: u16) -> usize
     requires { entries_end names.now k 2 ≤ length names.now }
     ensures { result ≡ entries_end names.now k 2 }
 {
-    let mut i: u16 = 0;
-    let mut at: usize = 2;
-    while i < k {
-        at = format::end_of_name(names, format::end_of_name(names, at));
-        i += 1;
+    let mut at = 2;
+    for _ in 0..k {
+        at = end_of_entry(names, at);
     }
     at
 }
@@ -61,41 +64,7 @@ fn takes_step(names: &[u8], entry: usize, at: usize) -> bool
     requires { (entry_end names.now entry ≤ length names.now) × (entry_end names.now at ≤ length names.now) }
     ensures { result ≡ takes_step (name_at names.now at) (entry_at names.now entry) }
 {
-    if without_machine(names, entry) {
-        format::same_step(names, entry, at)
-    } else {
-        false
-    }
-}
-
-// The number of the first of `count` entries that has no machine and the step name of the entry at `at`, or else `own`.
-fn first_taking(names: &[u8], count: u16, at: usize, own: u16) -> u16
-    requires { (entries_end names.now count 2 ≤ length names.now) × (entry_end names.now at ≤ length names.now) }
-    ensures { result ≡ first_taking (name_at names.now at) own (entries_at names.now count 2) 1 }
-{
-    let mut i: u16 = 0;
-    let mut entry: usize = 2;
-    while i < count {
-        if takes_step(names, entry, at) {
-            return i + 1;
-        }
-        entry = format::end_of_name(names, format::end_of_name(names, entry));
-        i += 1;
-    }
-    own
-}
-
-// The other event that takes an event, or the event itself.
-fn other_event(names: &[u8], event: u16) -> u16
-    requires { Whole names.now }
-    ensures { result ≡ other (entries_in names.now) event }
-{
-    let count = count_of_names(names);
-    if (event < 1) | (count < event) {
-        return event;
-    }
-    let at = behind_entries(names, event - 1);
-    first_taking(names, count, at, event)
+    without_machine(names, entry) && format::same_step(names, entry, at)
 }
 
 // Whether a set of the lent ones has an event: event k stands at bit k - 1.
@@ -106,12 +75,10 @@ fn in_set(sets: &[u8], set: usize, event: u16) -> bool
     if (event < 1) | (MOST_EVENTS < event) {
         return false;
     }
-    let at = flow::SET_BYTES * set + (event as usize - 1) / 8;
-    if at >= sets.len() {
-        return false;
-    }
+    let at = flow::SET_BYTES * set + usize::from(event - 1) / 8;
     let bit = (event - 1) % 8;
-    (sets[at] >> bit) % 2 == 1
+    let byte = sets.get(at).copied().unwrap_or(0);
+    (byte >> bit) % 2 == 1
 }
 
 // The bit of a set in the mask of an event, if the set has it.
@@ -130,11 +97,10 @@ fn set_bit(sets: &[u8], set: usize, event: u16) -> u64
 fn mask(sets: &[u8], event: u16) -> u64
     ensures { result ≡ masked (in_set sets.now) event }
 {
-    let mut bits: u64 = 0;
-    let mut set: usize = 0;
-    while (set < flow::MOST_SETS) & (flow::SET_BYTES * set < sets.len()) {
+    let lent = sets.len().div_ceil(flow::SET_BYTES).min(flow::MOST_SETS);
+    let mut bits = 0;
+    for set in 0..lent {
         bits += set_bit(sets, set, event);
-        set += 1;
     }
     bits
 }
@@ -144,150 +110,161 @@ fn packed(event: u16, mask: u64, other: u16) -> u64
     requires { mask < 65536 }
     ensures { result ≡ cue event mask other }
 {
-    4294967296 * (other as u64) + 65536 * mask + event as u64
-}
-
-// The cue of a record's number, where no names are lent.
-fn plain_cue(number: u16, sets: &[u8]) -> u64
-    ensures { result ≡ cue_of (masked (in_set sets.now)) itself number }
-{
-    if number <= MOST_EVENTS {
-        packed(number, mask(sets, number), number)
-    } else {
-        packed(number, 0, NO_EVENT)
-    }
-}
-
-// The cue of a record's number, by the names.
-fn named_cue(names: &[u8], number: u16, sets: &[u8]) -> u64
-    requires { Whole names.now }
-    ensures { result ≡ cue_of (masked (in_set sets.now)) (other (entries_in names.now)) number }
-{
-    if number <= MOST_EVENTS {
-        packed(number, mask(sets, number), other_event(names, number))
-    } else {
-        packed(number, 0, NO_EVENT)
-    }
-}
-
-// The cues of the records to the front of a table, where no names are lent; the rest of it stays.
-pub fn plain_cues(records: &[u16], sets: &[u8], cues: &mut [u64])
-    requires { length records.now ≤ length cues.old }
-    ensures { cues.new ≡ at_front (map (cue_of (masked (in_set sets.now)) itself) records.now) cues.old }
-{
-    let mut i = 0;
-    while i < records.len() {
-        cues[i] = plain_cue(records[i], sets);
-        i += 1;
-    }
-}
-
-// The cues of the records to the front of a table, by a names section that is not refused; the rest of it stays.
-pub fn named_cues(names: &[u8], records: &[u16], sets: &[u8], cues: &mut [u64])
-    requires { Whole names.now × (length records.now ≤ length cues.old) }
-    ensures { cues.new ≡ at_front (map (cue_of (masked (in_set sets.now)) (other (entries_in names.now))) records.now) cues.old }
-{
-    let mut i = 0;
-    while i < records.len() {
-        cues[i] = named_cue(names, records[i], sets);
-        i += 1;
-    }
+    4294967296 * u64::from(other) + 65536 * mask + u64::from(event)
 }
 
 // Marks an event, if it is one of 256.
 #[tactic(auto, using(crate::proofs::MarkLaws::also_event, crate::proofs::MarkLaws::also_above))]
-fn mark_event(event: u16, marks: &mut [bool; 257])
-    requires { length marks.old ≡ 257 }
+fn mark_event(event: u16, marks: &mut Marks)
     ensures { AlsoMarked (λ a. eqb a event) marks.old marks.new }
 {
     if event <= MOST_EVENTS {
-        marks[event as usize] = true;
+        marks[usize::from(event)] = true;
     }
 }
 
-// Marks the events of those among the first `count` entries that have the step name of the entry at `at`.
-fn mark_steps(names: &[u8], count: u16, at: usize, marks: &mut [bool; 257])
-    requires count_in_bounds { (entries_end names.now count 2 ≤ length names.now) × (entry_end names.now at ≤ length names.now) }
-    requires count_le_most_events { (count ≤ most_events) × (length marks.old ≡ 257) }
-    ensures { AlsoMarked (has_step (name_at names.now at) (entries_at names.now count 2)) marks.old marks.new }
-{
-    let mut i: u16 = 0;
-    let mut entry: usize = 2;
-    while i < count {
-        let same = format::same_step(names, at, entry);
-        let event = i as usize + 1;
-        marks[event] = marks[event] | same;
-        entry = format::end_of_name(names, format::end_of_name(names, entry));
-        i += 1;
-    }
+// What is lent of names: none, or a names section. By them an event's record may be taken by the leaves of another event too.
+pub trait Names {
+    // The other event that takes an event, or the event itself.
+    ghost beside: { Self → ℕ → ℕ };
+
+    fn other_event(&self, event: u16) -> u16
+        ensures { result ≡ beside self.now event };
+
+    // Marks the events that a leaf of an event takes.
+    fn mark_taken(&self, event: u16, marks: &mut Marks)
+        ensures { AlsoMarked (λ a. takes_event (beside self.now) a event) marks.old marks.new };
 }
 
-// Marks the events that a leaf of an event takes: itself, and if its entry has no machine, those that have its step name.
-fn mark_taken(names: &[u8], event: u16, marks: &mut [bool; 257])
-    requires { Whole names.now × (length marks.old ≡ 257) }
-    ensures { AlsoMarked (λ a. takes_event (other (entries_in names.now)) a event) marks.old marks.new }
-{
-    mark_event(event, marks);
-    let count = count_of_names(names);
-    if (event < 1) | (count < event) {
-        return;
-    }
-    let at = behind_entries(names, event - 1);
-    if without_machine(names, at) {
-        mark_steps(names, count, at, marks);
-    }
-}
+// No names.
+#[derive(Clone, Copy)]
+pub struct Unnamed;
 
-// Marks the events that node i takes, if it is an event leaf, where no names are lent.
-fn mark_plain_leaf(nodes: &[u16], i: usize, marks: &mut [bool; 257])
-    requires i_in_bounds { 3 * i + 2 < length nodes.now }
-    requires heard_marks { HeardMarks itself nodes.now i marks.old }
-    ensures { HeardMarks itself nodes.now (i + 1) marks.new }
-{
-    let form = flow::form_at(nodes, i);
-    let event = flow::first_at(nodes, i);
-    if form.event {
+impl Names for Unnamed {
+    ghost beside = { λ _. itself };
+
+    fn other_event(&self, event: u16) -> u16 {
+        event
+    }
+
+    fn mark_taken(&self, event: u16, marks: &mut Marks) {
         mark_event(event, marks);
     }
 }
 
-// The same by the names.
-fn mark_named_leaf(names: &[u8], nodes: &[u16], i: usize, marks: &mut [bool; 257])
-    requires whole { Whole names.now × (3 * i + 2 < length nodes.now) }
-    requires heard_marks { HeardMarks (other (entries_in names.now)) nodes.now i marks.old }
-    ensures { HeardMarks (other (entries_in names.now)) nodes.now (i + 1) marks.new }
-{
-    let form = flow::form_at(nodes, i);
-    let event = flow::first_at(nodes, i);
-    if form.event {
-        mark_taken(names, event, marks);
+// A names section that is not refused.
+#[derive(Clone, Copy)]
+pub struct Named<'a> {
+    pub section: &'a [u8],
+    pub ghost whole: { is_whole section.now ≡ true },
+}
+
+impl Named<'_> {
+    // How many names there are.
+    fn count(&self) -> u16
+        ensures { result ≡ length (entries_in self.now.section.now) }
+    {
+        format::number_from(self.section[0], self.section[1])
+    }
+
+    // The offset of an event's entry, if it has one.
+    fn entry_of(&self, event: u16) -> Option<usize>
+        ensures { result ≡ entry_place self.now.section.now event }
+    {
+        if (event < 1) | (self.count() < event) {
+            return None;
+        }
+        Some(behind_entries(self.section, event - 1))
+    }
+
+    // The number of the first entry that has no machine and the step name of the entry at an offset, or else `own`.
+    fn first_taking(&self, at: usize, own: u16) -> u16
+        requires { entry_end self.now.section.now at ≤ length self.now.section.now }
+        ensures { let s = self.now.section.now in result ≡ first_taking (name_at s at) own (entries_in s) 1 }
+    {
+        let mut entry = 2;
+        for i in 0..self.count() {
+            if takes_step(self.section, entry, at) {
+                return i + 1;
+            }
+            entry = end_of_entry(self.section, entry);
+        }
+        own
+    }
+
+    // Marks the events whose entries have the step name of the entry at an offset.
+    fn mark_steps(&self, at: usize, marks: &mut Marks)
+        requires { entry_end self.now.section.now at ≤ length self.now.section.now }
+        ensures { let s = self.now.section.now in AlsoMarked (has_step (name_at s at) (entries_in s)) marks.old marks.new }
+    {
+        let mut entry = 2;
+        for i in 0..usize::from(self.count()) {
+            marks[i + 1] |= format::same_step(self.section, at, entry);
+            entry = end_of_entry(self.section, entry);
+        }
     }
 }
 
-// Marks the events that the leaves take, where no names are lent; none is marked yet.
-fn mark_plain_leaves(nodes: &[u16], marks: &mut [bool; 257])
-    requires { HeardMarks itself nodes.now 0 marks.old }
-    ensures { HeardMarks itself nodes.now (count nodes.now) marks.new }
-{
-    let n = nodes.len() / 3;
-    let mut i = 0;
-    while i < n {
-        mark_plain_leaf(nodes, i, marks);
-        i += 1;
+impl Names for Named<'_> {
+    ghost beside = { λ names. other (entries_in names.section.now) };
+
+    fn other_event(&self, event: u16) -> u16 {
+        match self.entry_of(event) {
+            Some(at) => self.first_taking(at, event),
+            None => event,
+        }
+    }
+
+    // The event itself, and if its entry has no machine, those that have its step name.
+    fn mark_taken(&self, event: u16, marks: &mut Marks) {
+        mark_event(event, marks);
+        if let Some(at) = self.entry_of(event) {
+            if without_machine(self.section, at) {
+                self.mark_steps(at, marks);
+            }
+        }
     }
 }
 
-// The same by the names.
-fn mark_named_leaves(names: &[u8], nodes: &[u16], marks: &mut [bool; 257])
-    requires whole { Whole names.now }
-    requires heard_marks { HeardMarks (other (entries_in names.now)) nodes.now 0 marks.old }
-    ensures { HeardMarks (other (entries_in names.now)) nodes.now (count nodes.now) marks.new }
+// The cue of a record's number.
+fn cue<N: Names>(names: &N, number: u16, sets: &[u8]) -> u64
+    ensures { result ≡ cue_of (masked (in_set sets.now)) (N.beside names.now) number }
 {
-    let n = nodes.len() / 3;
-    let mut i = 0;
-    while i < n {
-        mark_named_leaf(names, nodes, i, marks);
-        i += 1;
+    if number <= MOST_EVENTS {
+        packed(number, mask(sets, number), names.other_event(number))
+    } else {
+        packed(number, 0, NO_EVENT)
+    }
+}
+
+// The cues of the records to the front of a table; the rest of it stays.
+pub fn write_cues<N: Names>(names: &N, records: &[u16], sets: &[u8], cues: &mut [u64])
+    requires { length records.now ≤ length cues.old }
+    ensures { cues.new ≡ at_front (map (cue_of (masked (in_set sets.now)) (N.beside names.now)) records.now) cues.old }
+{
+    for (i, number) in records.iter().enumerate() {
+        cues[i] = cue(names, *number, sets);
+    }
+}
+
+// Marks the events that node i takes, if it is an event leaf.
+fn mark_leaf<N: Names>(names: &N, nodes: &[u16], i: usize, marks: &mut Marks)
+    requires i_in_bounds { 3 * i + 2 < length nodes.now }
+    requires heard_marks { HeardMarks (N.beside names.now) nodes.now i marks.old }
+    ensures { HeardMarks (N.beside names.now) nodes.now (i + 1) marks.new }
+{
+    if flow::form_at(nodes, i).event {
+        names.mark_taken(flow::first_at(nodes, i), marks);
+    }
+}
+
+// Marks the events that the leaves take; none is marked yet.
+fn mark_leaves<N: Names>(names: &N, nodes: &[u16], marks: &mut Marks)
+    requires { HeardMarks (N.beside names.now) nodes.now 0 marks.old }
+    ensures { HeardMarks (N.beside names.now) nodes.now (count nodes.now) marks.new }
+{
+    for i in 0..nodes.len() / 3 {
+        mark_leaf(names, nodes, i, marks);
     }
 }
 
@@ -296,7 +273,7 @@ pub fn nth_number(place: usize) -> u16
     requires { place < 259 }
     ensures { result ≡ get_or all_numbers place 0 }
 {
-    let events = MOST_EVENTS as usize;
+    let events = usize::from(MOST_EVENTS);
     if place < events {
         place as u16 + 1
     } else {
@@ -305,62 +282,31 @@ pub fn nth_number(place: usize) -> u16
 }
 
 // Whether a number is asked: a closing, or a marked event.
-fn is_asked(marks: &[bool; 257], number: u16) -> bool
+fn is_asked(marks: &Marks, number: u16) -> bool
     ensures { result ≡ (ltb most_events number || get_or marks.now number false) }
 {
-    if number > MOST_EVENTS {
-        return true;
-    }
-    marks[number as usize]
+    number > MOST_EVENTS || marks[usize::from(number)]
 }
 
-// What is asked for a number, by the marks, where no names are lent.
-fn plain_ask(marks: &[bool; 257], number: u16, sets: &[u8]) -> u64
-    ensures { result ≡ ask_by (masked (in_set sets.now)) itself marks.now number }
+// What is asked for a number, by the marks.
+fn ask<N: Names>(names: &N, marks: &Marks, number: u16, sets: &[u8]) -> u64
+    ensures { result ≡ ask_by (masked (in_set sets.now)) (N.beside names.now) marks.now number }
 {
     if is_asked(marks, number) {
-        plain_cue(number, sets)
+        cue(names, number, sets)
     } else {
         0
     }
 }
 
-// The same by the names.
-fn named_ask(names: &[u8], marks: &[bool; 257], number: u16, sets: &[u8]) -> u64
-    requires { Whole names.now }
-    ensures { result ≡ ask_by (masked (in_set sets.now)) (other (entries_in names.now)) marks.now number }
-{
-    if is_asked(marks, number) {
-        named_cue(names, number, sets)
-    } else {
-        0
-    }
-}
-
-// What is asked for each number, where no names are lent.
-pub fn plain_asks(nodes: &[u16], sets: &[u8], table: &mut [u64])
+// What is asked for each number.
+pub fn write_asks<N: Names>(names: &N, nodes: &[u16], sets: &[u8], table: &mut [u64])
     requires { length table.old ≡ 259 }
-    ensures { table.new ≡ asks (masked (in_set sets.now)) itself nodes.now }
+    ensures { table.new ≡ asks (masked (in_set sets.now)) (N.beside names.now) nodes.now }
 {
-    let mut marks = [false; 257];
-    mark_plain_leaves(nodes, &mut marks);
-    let mut i = 0;
-    while i < NUMBERS {
-        table[i] = plain_ask(&marks, nth_number(i), sets);
-        i += 1;
-    }
-}
-
-// What is asked for each number, by a names section that is not refused.
-pub fn named_asks(names: &[u8], nodes: &[u16], sets: &[u8], table: &mut [u64])
-    requires { Whole names.now × (length table.old ≡ 259) }
-    ensures { table.new ≡ asks (masked (in_set sets.now)) (other (entries_in names.now)) nodes.now }
-{
-    let mut marks = [false; 257];
-    mark_named_leaves(names, nodes, &mut marks);
-    let mut i = 0;
-    while i < NUMBERS {
-        table[i] = named_ask(names, &marks, nth_number(i), sets);
-        i += 1;
+    let mut marks: Marks = [false; 257];
+    mark_leaves(names, nodes, &mut marks);
+    for (place, asked) in table.iter_mut().enumerate() {
+        *asked = ask(names, &marks, nth_number(place), sets);
     }
 }

@@ -18,27 +18,27 @@ returns-in-Err c =
     let a = c.args in
     next_refuses (flow_of a.sets.now a.nodes.now) a.nodes.now a.beginning.now a.allowance a.list.now a.work.now _ (sym c.check_next.ensures ∙ c.in-Err.is)
 
-pub plain_cues-requires : goal.plain_cues-requires
-plain_cues-requires c =
+pub write_cues-requires : goal.write_cues-requires
+write_cues-requires c =
     let a = c.args in
     records_few Beginning a.nodes.now a.beginning.now (next_passed a.sets.now a.nodes.now a.beginning.now (length a.list.now) (length a.work.now) (sym c.check_next.ensures ∙ c.in_default.is)).0.records
 
 pub slice_bounds-cues-end : goal.slice_bounds-cues-end
 slice_bounds-cues-end c =
     let a = c.args in
-    omega (arith, c.plain_cues.auto.cues, records_few Beginning a.nodes.now a.beginning.now (next_passed a.sets.now a.nodes.now a.beginning.now (length a.list.now) (length a.work.now) (sym c.check_next.ensures ∙ c.in_default.is)).0.records)
+    omega (arith, c.write_cues.auto.cues, records_few Beginning a.nodes.now a.beginning.now (next_passed a.sets.now a.nodes.now a.beginning.now (length a.list.now) (length a.work.now) (sym c.check_next.ensures ∙ c.in_default.is)).0.records)
 
 pub slice_bounds-next_by-end : goal.slice_bounds-next_by-end
 slice_bounds-next_by-end c =
     let a = c.args in
-    sym (length-take-le (length a.beginning.now) c.plain_cues.new.cues (omega (arith, c.plain_cues.auto.cues, records_few Beginning a.nodes.now a.beginning.now (next_passed a.sets.now a.nodes.now a.beginning.now (length a.list.now) (length a.work.now) (sym c.check_next.ensures ∙ c.in_default.is)).0.records)))
+    sym (length-take-le (length a.beginning.now) c.write_cues.new.cues (omega (arith, c.write_cues.auto.cues, records_few Beginning a.nodes.now a.beginning.now (next_passed a.sets.now a.nodes.now a.beginning.now (length a.list.now) (length a.work.now) (sym c.check_next.ensures ∙ c.in_default.is)).0.records)))
 
 pub next_by-requires : goal.next_by-requires
 next_by-requires c =
     let a = c.args in
-    plain_next_ready a.sets.now a.nodes.now a.beginning.now a.list.now a.work.now (sym c.check_next.ensures ∙ c.in_default.is) (cues_front (cue_of (masked (in_set a.sets.now)) itself) a.beginning.now _ _ c.plain_cues.ensures) c.plain_asks.ensures
+    plain_next_ready a.sets.now a.nodes.now a.beginning.now a.list.now a.work.now (sym c.check_next.ensures ∙ c.in_default.is) (cues_front (cue_of (masked (in_set a.sets.now)) itself) a.beginning.now _ _ c.write_cues.ensures) c.write_asks.ensures
 
 pub returns : goal.returns
 returns c =
     let a = c.args in
-    plain_next a.sets.now a.nodes.now a.beginning.now a.list.now a.work.now (sym c.check_next.ensures ∙ c.in_default.is) (cues_front (cue_of (masked (in_set a.sets.now)) itself) a.beginning.now _ _ c.plain_cues.ensures) c.plain_asks.ensures c.next_by.ensures
+    plain_next a.sets.now a.nodes.now a.beginning.now a.list.now a.work.now (sym c.check_next.ensures ∙ c.in_default.is) (cues_front (cue_of (masked (in_set a.sets.now)) itself) a.beginning.now _ _ c.write_cues.ensures) c.write_asks.ensures c.next_by.ensures

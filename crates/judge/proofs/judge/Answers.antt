@@ -16,27 +16,27 @@ returns-in-Err c =
     let a = c.args in
     judge_refuses (flow_of a.sets.now a.nodes.now) a.nodes.now a.records.now a.allowance a.work.now _ (sym c.check_all.ensures ∙ c.in-Err.is)
 
-pub plain_cues-requires : goal.plain_cues-requires
-plain_cues-requires c =
+pub write_cues-requires : goal.write_cues-requires
+write_cues-requires c =
     let a = c.args in
     records_few Whole a.nodes.now a.records.now (judge_passed a.sets.now a.nodes.now a.records.now (length a.work.now) (sym c.check_all.ensures ∙ c.in_default.is)).records
 
 pub slice_bounds-cues-end : goal.slice_bounds-cues-end
 slice_bounds-cues-end c =
     let a = c.args in
-    omega (arith, c.plain_cues.auto.cues, records_few Whole a.nodes.now a.records.now (judge_passed a.sets.now a.nodes.now a.records.now (length a.work.now) (sym c.check_all.ensures ∙ c.in_default.is)).records)
+    omega (arith, c.write_cues.auto.cues, records_few Whole a.nodes.now a.records.now (judge_passed a.sets.now a.nodes.now a.records.now (length a.work.now) (sym c.check_all.ensures ∙ c.in_default.is)).records)
 
 pub slice_bounds-answer_by-end : goal.slice_bounds-answer_by-end
 slice_bounds-answer_by-end c =
     let a = c.args in
-    sym (length-take-le (length a.records.now) c.plain_cues.new.cues (omega (arith, c.plain_cues.auto.cues, records_few Whole a.nodes.now a.records.now (judge_passed a.sets.now a.nodes.now a.records.now (length a.work.now) (sym c.check_all.ensures ∙ c.in_default.is)).records)))
+    sym (length-take-le (length a.records.now) c.write_cues.new.cues (omega (arith, c.write_cues.auto.cues, records_few Whole a.nodes.now a.records.now (judge_passed a.sets.now a.nodes.now a.records.now (length a.work.now) (sym c.check_all.ensures ∙ c.in_default.is)).records)))
 
 pub answer_by-requires : goal.answer_by-requires
 answer_by-requires c =
     let a = c.args in
-    plain_ready a.sets.now a.nodes.now a.records.now a.work.now (sym c.check_all.ensures ∙ c.in_default.is) (cues_front (cue_of (masked (in_set a.sets.now)) itself) a.records.now _ _ c.plain_cues.ensures)
+    plain_ready a.sets.now a.nodes.now a.records.now a.work.now (sym c.check_all.ensures ∙ c.in_default.is) (cues_front (cue_of (masked (in_set a.sets.now)) itself) a.records.now _ _ c.write_cues.ensures)
 
 pub returns : goal.returns
 returns c =
     let a = c.args in
-    plain_judged a.sets.now a.nodes.now a.records.now a.work.now (sym c.check_all.ensures ∙ c.in_default.is) (cues_front (cue_of (masked (in_set a.sets.now)) itself) a.records.now _ _ c.plain_cues.ensures) c.answer_by.ensures
+    plain_judged a.sets.now a.nodes.now a.records.now a.work.now (sym c.check_all.ensures ∙ c.in_default.is) (cues_front (cue_of (masked (in_set a.sets.now)) itself) a.records.now _ _ c.write_cues.ensures) c.answer_by.ensures

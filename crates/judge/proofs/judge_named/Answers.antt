@@ -8,6 +8,7 @@ use Rattle.flow.specs.Cues.{cue_of, masked}
 use Rattle.flow.specs.Legends.{in_set}
 use Rattle.format.specs.ListChecks.{entries_in}
 use Rattle.matching.specs.Others.{other}
+use Rattle.matching.specs.SectionTest.{by_whole}
 use Rattle.judge.specs.Judged.{named_flow}
 use Rattle.judge.specs.JudgedLaws.{judge_refuses, named_passed, named_lists, records_few}
 use Rattle.judge.specs.ByCues.{cues_front, named_ready, named_judged}
@@ -18,27 +19,32 @@ returns-in-Err c =
     let a = c.args in
     judge_refuses (named_flow a.names.now a.sets.now a.nodes.now) a.nodes.now a.records.now a.allowance a.work.now _ (sym c.check_named.ensures ∙ c.in-Err.is)
 
-pub named_cues-requires : goal.named_cues-requires
-named_cues-requires c =
+pub invariant_of-write_cues : goal.invariant_of-write_cues
+invariant_of-write_cues c =
     let a = c.args in
-    ((named_lists a.sets.now a.nodes.now a.records.now (length a.work.now) a.names.now (sym c.check_named.ensures ∙ c.in_default.is)).section, records_few Whole a.nodes.now a.records.now (named_passed a.sets.now a.nodes.now a.records.now (length a.work.now) a.names.now (sym c.check_named.ensures ∙ c.in_default.is)).records)
+    record { whole = by_whole a.names.now (named_lists a.sets.now a.nodes.now a.records.now (length a.work.now) a.names.now (sym c.check_named.ensures ∙ c.in_default.is)).section }
+
+pub write_cues-requires : goal.write_cues-requires
+write_cues-requires c =
+    let a = c.args in
+    records_few Whole a.nodes.now a.records.now (named_passed a.sets.now a.nodes.now a.records.now (length a.work.now) a.names.now (sym c.check_named.ensures ∙ c.in_default.is)).records
 
 pub slice_bounds-cues-end : goal.slice_bounds-cues-end
 slice_bounds-cues-end c =
     let a = c.args in
-    omega (arith, c.named_cues.auto.cues, records_few Whole a.nodes.now a.records.now (named_passed a.sets.now a.nodes.now a.records.now (length a.work.now) a.names.now (sym c.check_named.ensures ∙ c.in_default.is)).records)
+    omega (arith, c.write_cues.auto.cues, records_few Whole a.nodes.now a.records.now (named_passed a.sets.now a.nodes.now a.records.now (length a.work.now) a.names.now (sym c.check_named.ensures ∙ c.in_default.is)).records)
 
 pub slice_bounds-answer_by-end : goal.slice_bounds-answer_by-end
 slice_bounds-answer_by-end c =
     let a = c.args in
-    sym (length-take-le (length a.records.now) c.named_cues.new.cues (omega (arith, c.named_cues.auto.cues, records_few Whole a.nodes.now a.records.now (named_passed a.sets.now a.nodes.now a.records.now (length a.work.now) a.names.now (sym c.check_named.ensures ∙ c.in_default.is)).records)))
+    sym (length-take-le (length a.records.now) c.write_cues.new.cues (omega (arith, c.write_cues.auto.cues, records_few Whole a.nodes.now a.records.now (named_passed a.sets.now a.nodes.now a.records.now (length a.work.now) a.names.now (sym c.check_named.ensures ∙ c.in_default.is)).records)))
 
 pub answer_by-requires : goal.answer_by-requires
 answer_by-requires c =
     let a = c.args in
-    named_ready a.sets.now a.nodes.now a.records.now a.work.now a.names.now (sym c.check_named.ensures ∙ c.in_default.is) (cues_front (cue_of (masked (in_set a.sets.now)) (other (entries_in a.names.now))) a.records.now _ _ c.named_cues.ensures)
+    named_ready a.sets.now a.nodes.now a.records.now a.work.now a.names.now (sym c.check_named.ensures ∙ c.in_default.is) (cues_front (cue_of (masked (in_set a.sets.now)) (other (entries_in a.names.now))) a.records.now _ _ c.write_cues.ensures)
 
 pub returns : goal.returns
 returns c =
     let a = c.args in
-    named_judged a.sets.now a.nodes.now a.records.now a.work.now a.names.now (sym c.check_named.ensures ∙ c.in_default.is) (cues_front (cue_of (masked (in_set a.sets.now)) (other (entries_in a.names.now))) a.records.now _ _ c.named_cues.ensures) c.answer_by.ensures
+    named_judged a.sets.now a.nodes.now a.records.now a.work.now a.names.now (sym c.check_named.ensures ∙ c.in_default.is) (cues_front (cue_of (masked (in_set a.sets.now)) (other (entries_in a.names.now))) a.records.now _ _ c.write_cues.ensures) c.answer_by.ensures

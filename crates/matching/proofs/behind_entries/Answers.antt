@@ -1,36 +1,22 @@
--- `matching::behind_entries` meets its contract: the loop's invariant: from the offset on, the entries that are left end where all do.
--- Assumes nothing.
-use Prim.Native.Nat.{◌-◌, ◌≤◌}
-use mathlib.Core.Path.{◌≡◌, ap, sym, ◌∙◌}
+-- `matching::behind_entries` meets its contract: the loop's invariant: the offset is behind the entries that were passed. Assumes nothing.
+use Prim.Native.Nat.{ℕ}
+use mathlib.Core.Path.{◌≡◌, refl, ap, ◌∙◌}
 use native.Mathlib.Omega.{arith}
-use lib.ListN.{length}
-use Rattle.format.specs.Items.{name_end, entry_at, entry_end, entries_end}
-use Rattle.format.specs.NameLaws.{end_step, end_inside}
+use Rattle.format.specs.Items.{entries_end}
+use Rattle.matching.proofs.CueLaws.{passed_inside, passed_more}
 use Rattle.matching.proofs.behind_entries.Goals as goal
 
-pub end_of_name-requires : goal.end_of_name-requires
-end_of_name-requires c =
-    let s = c.args.names.now in
-    let l = c.loop-i in
-    omega (arith, end_inside s (entry_at s 2) c.args.k l.i l.at (omega arith), c.requires, l.invariant.1)
+pub loop-init : goal.loop-init
+unfolding entries_end
+loop-init c = refl
 
-pub end_of_name-at-requires : goal.end_of_name-at-requires
-end_of_name-at-requires c =
-    let s = c.args.names.now in
-    let l = c.loop-i in
-    let h : entry_end s l.at ≤ length s = omega (arith, end_inside s (entry_at s 2) c.args.k l.i l.at (omega arith), c.requires, l.invariant.1) in
-    rw c.end_of_name.ensures h
+pub end_of_entry-at-requires : goal.end_of_entry-at-requires
+end_of_entry-at-requires c = passed_inside c.args.names.now c.loop.counter c.args.k (omega arith) c.loop.invariant c.requires
 
-pub loop-i-preserved : goal.loop-i-preserved
-loop-i-preserved c =
-    let s = c.args.names.now in
-    let l = c.loop-i in
-    let e = c.end_of_name-at.ensures ∙ ap (name_end s) c.end_of_name.ensures in
-    (omega arith, rw e (sym (end_step s (entry_at s 2) c.args.k l.i l.at (omega arith)) ∙ l.invariant.1))
+pub loop-preserved : goal.loop-preserved
+loop-preserved c = passed_more c.args.names.now c.loop.counter c.loop.invariant c.end_of_entry-at.ensures
 
 pub returns : goal.returns
-unfolding entries_end
 returns c =
-    let l = c.loop-i in
-    let z : c.args.k - l.i ≡ 0 = omega arith in
-    rw z at l.invariant.1
+    let all : c.loop.counter ≡ c.args.k = omega arith in
+    c.loop.invariant ∙ ap (λ (n : ℕ). entries_end c.args.names.now n 2) all

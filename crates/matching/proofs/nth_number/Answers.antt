@@ -7,4 +7,4 @@ pub returns-then-place-events : goal.returns-then-place-events
 returns-then-place-events c = nth_event _ (omega arith)
 
 pub returns-else-place-events : goal.returns-else-place-events
-returns-else-place-events c = nth_closing _ (omega arith) (omega arith)
+returns-else-place-events c = rw c.from-events.ensures (nth_closing _ (omega arith) (omega arith))

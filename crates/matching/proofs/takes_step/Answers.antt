@@ -21,4 +21,4 @@ pub returns-then-without_machine : goal.returns-then-without_machine
 returns-then-without_machine c = without _ _ (sym c.without_machine.ensures ∙ c.if-without_machine.true) c.same_step.ensures
 
 pub returns-else-without_machine : goal.returns-else-without_machine
-returns-else-without_machine c = with-one _ _ (sym c.without_machine.ensures ∙ c.if-without_machine.false)
+returns-else-without_machine c = c.if-without_machine.false ∙ with-one _ _ (sym c.without_machine.ensures ∙ c.if-without_machine.false)
