@@ -1,5 +1,7 @@
 -- Definitions.
 pub mod Fetched
+pub mod Stopped
+pub mod Lent
 pub mod Filler
 pub mod Text
 pub mod Promised
