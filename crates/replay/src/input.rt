@@ -43,7 +43,7 @@ pub fn fetch_numbers(rt: &impl Input, table: &mut [u16], n: usize) -> Result<(),
 }
 
 // Ends the run: says what is no case, or ends with the error of the read or the write.
-pub fn end(rt: &impl Print, stop: Stop) -> io::Result<()>
+pub fn end_with(rt: &impl Print, stop: Stop) -> io::Result<()>
     ensures { Ends stop result }
 {
     match stop {

@@ -14,18 +14,15 @@ use judge::Answer;
 fn answer(lists: Lists, work: &mut [u8], allowance: u32) -> Answer
     ensures { let l = lists.entry in LentJudged (option_copied l.names) l.sets.now l.nodes.now l.records.now allowance work.old result work.new }
 {
-    match lists.names {
-        None => judge::judge(lists.nodes, lists.records, lists.sets, work, allowance),
-        Some(names) => {
-            judge::judge_named(
-                names,
-                lists.nodes,
-                lists.records,
-                lists.sets,
-                work,
-                allowance,
-            )
-        }
+    let Lists {
+        names,
+        nodes,
+        records,
+        sets,
+    } = lists;
+    match names {
+        None => judge::judge(nodes, records, sets, work, allowance),
+        Some(names) => judge::judge_named(names, nodes, records, sets, work, allowance),
     }
 }
 

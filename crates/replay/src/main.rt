@@ -163,10 +163,16 @@ fn at_most(most: usize, asked: usize) -> Result<usize, Stop>
     Ok(asked)
 }
 
+// The first bytes of a case, behind its letter.
+fn head<const N: usize>(rt: &impl Input) -> Result<[u8; N], Stop> {
+    let mut head = [0u8; N];
+    input::fetch(rt, &mut head, N)?;
+    Ok(head)
+}
+
 // A flow file: a length of two bytes and the file. Prints the program's line.
 fn file_case(rt: &(impl Input + Print)) -> Result<(), Stop> {
-    let mut head = [0u8; 2];
-    input::fetch(rt, &mut head, 2)?;
+    let head = head::<2>(rt)?;
     let n = format::number_from(head[0], head[1]) as usize;
     let mut file = [0u8; 65535];
     input::fetch(rt, &mut file, n)?;
@@ -265,22 +271,17 @@ fn names_lent(rt: &(impl Input + Print), call: Call) -> Result<(), Stop> {
 
 // A call of the judge without names or sets, and the numbers.
 fn judge_case(rt: &(impl Input + Print)) -> Result<(), Stop> {
-    let mut head = [0u8; 12];
-    input::fetch(rt, &mut head, 12)?;
-    lists_lent(rt, Call::from(head), None)
+    lists_lent(rt, Call::from(head::<12>(rt)?), None)
 }
 
 // A call with everything that may be lent, and all of it.
 fn call_case(rt: &(impl Input + Print)) -> Result<(), Stop> {
-    let mut head = [0u8; 23];
-    input::fetch(rt, &mut head, 23)?;
-    names_lent(rt, Call::try_from(head)?)
+    names_lent(rt, Call::try_from(head::<23>(rt)?)?)
 }
 
 // A call of the reader: the room for node numbers, for records and the length of the file, of two bytes each, and the file.
 fn read_case(rt: &(impl Input + Print)) -> Result<(), Stop> {
-    let mut head = [0u8; 6];
-    input::fetch(rt, &mut head, 6)?;
+    let head = head::<6>(rt)?;
     let node_room = format::number_from(head[0], head[1]) as usize;
     let record_room = format::number_from(head[2], head[3]) as usize;
     let n = format::number_from(head[4], head[5]) as usize;
@@ -330,6 +331,6 @@ fn cases(rt: &(impl Input + Print)) -> Result<(), Stop> {
 fn main(rt: HostRuntime) -> io::Result<()> {
     match cases(&rt) {
         Ok(()) => Ok(()),
-        Err(stop) => input::end(&rt, stop),
+        Err(stop) => input::end_with(&rt, stop),
     }
 }

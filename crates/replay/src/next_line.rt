@@ -70,11 +70,8 @@ fn zeros_left(answer: Next, lists: Lists) -> usize
 fn clean(answer: Next, lists: Lists, list: &[u16], work: &[u8]) -> bool
     ensures { let l = lists.entry in result ≡ next_clean answer (length l.nodes.now) (length l.records.now) list.now work.now }
 {
-    if filler::numbers_kept(length_listed(answer), list) {
-        promised::clean(zeros_left(answer, lists), work)
-    } else {
-        false
-    }
+    filler::numbers_kept(length_listed(answer), list)
+        && promised::clean(zeros_left(answer, lists), work)
 }
 
 fn write_case(answer: Next, list: &[u16], clean: bool, out: &mut [u8]) -> usize

@@ -21,4 +21,4 @@ unfolding next_clean
 returns-else-numbers_kept c =
     let a = c.args in
     let listed = c.numbers_kept.ensures ∙ ap (λ (n : ℕ). kept number_filler n a.list.now) c.length_listed.ensures in
-    both_stop listed (is_clean (next_zeros a.answer (length a.lists.nodes.now) (length a.lists.records.now)) a.work.now) c.if-numbers_kept.false
+    c.if-numbers_kept.false ∙ both_stop listed (is_clean (next_zeros a.answer (length a.lists.nodes.now) (length a.lists.records.now)) a.work.now) c.if-numbers_kept.false
