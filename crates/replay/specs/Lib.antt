@@ -2,6 +2,7 @@
 pub mod Fetched
 pub mod Stopped
 pub mod Lent
+pub mod Codes
 pub mod Filler
 pub mod Text
 pub mod Promised

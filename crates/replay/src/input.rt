@@ -48,6 +48,6 @@ pub fn end_with(rt: &impl Print, stop: Stop) -> io::Result<()>
 {
     match stop {
         Stop::BadCase => rt.write_all(b"bad case\n"),
-        Stop::Failed(error) => Err(error),
+        Stop::Failed(e) => Err(e),
     }
 }

@@ -16,6 +16,7 @@ mod text;
 mod write_line;
 
 ghost use Rattle.std.specs.Prelude.{◌≤◌, IfOk};
+ghost use Rattle.replay.specs.Codes.{TellsKind, TellsFunction};
 
 use input::Stop;
 use lists::Lists;
@@ -32,6 +33,8 @@ enum Kind {
 
 impl TryFrom<u8> for Kind {
     type Error = Stop;
+
+    ghost try_from_gives = { TellsKind };
 
     fn try_from(letter: u8) -> Result<Kind, Stop> {
         match letter {
@@ -55,6 +58,8 @@ enum Function {
 impl TryFrom<u8> for Function {
     type Error = Stop;
 
+    ghost try_from_gives = { TellsFunction };
+
     fn try_from(number: u8) -> Result<Function, Stop> {
         match number {
             0 => Ok(Function::Judge),
@@ -64,6 +69,9 @@ impl TryFrom<u8> for Function {
         }
     }
 }
+
+// The one edition.
+const EDITION: u8 = 1;
 
 impl Function {
     // Whether it takes the edition, with names lent or not: the judge and `next` the one edition, with names or without; the writer
@@ -75,9 +83,6 @@ impl Function {
         }
     }
 }
-
-// The one edition.
-const EDITION: u8 = 1;
 
 // The most that a case asks for.
 const MOST_NUMBERS: usize = 400;
