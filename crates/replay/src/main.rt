@@ -70,7 +70,7 @@ impl TryFrom<u8> for Function {
     }
 }
 
-// The one edition.
+// The one edition. A number, since the writer takes any other too.
 const EDITION: u8 = 1;
 
 impl Function {
@@ -190,7 +190,7 @@ fn file_case(rt: &(impl Input + Print)) -> Result<(), Stop> {
 // A call of the judge, with the names or without.
 fn judge_call(rt: &impl Print, call: Call, lists: Lists) -> Result<(), Stop> {
     let lent = at_most(MOST_WORK, call.work as usize)?;
-    let mut work = [0u8; 40000];
+    let mut work = [0u8; MOST_WORK];
     let mut out = [0u8; 64];
     let end = judge_line::judge_lists(lists, &mut work[..lent], call.allowance, &mut out);
     rt.write_all(&out[..end])?;
@@ -201,8 +201,8 @@ fn judge_call(rt: &impl Print, call: Call, lists: Lists) -> Result<(), Stop> {
 fn next_call(rt: &impl Print, call: Call, lists: Lists) -> Result<(), Stop> {
     let lent = at_most(MOST_WORK, call.work as usize)?;
     let room = at_most(MOST_ROOM, call.room as usize)?;
-    let mut list = [0u16; 70000];
-    let mut work = [0u8; 40000];
+    let mut list = [0u16; MOST_ROOM];
+    let mut work = [0u8; MOST_WORK];
     let mut out = [0u8; 2884];
     let end = next_line::next_lists(
         lists,
@@ -218,7 +218,7 @@ fn next_call(rt: &impl Print, call: Call, lists: Lists) -> Result<(), Stop> {
 // A call of the writer.
 fn write_call(rt: &impl Print, call: Call, names: &[u8], lists: Lists) -> Result<(), Stop> {
     let room = at_most(MOST_ROOM, call.room as usize)?;
-    let mut file = [0u8; 70000];
+    let mut file = [0u8; MOST_ROOM];
     let mut out = [0u8; 44842];
     let end = write_line::write_lists(
         names,
@@ -247,12 +247,12 @@ fn call_with(rt: &impl Print, call: Call, lists: Lists) -> Result<(), Stop> {
 fn lists_lent(rt: &(impl Input + Print), call: Call, names: Option<&[u8]>) -> Result<(), Stop> {
     let nodes = at_most(MOST_NUMBERS, call.nodes as usize)?;
     let records = at_most(MOST_NUMBERS, call.records as usize)?;
-    let mut ns = [0u16; 400];
+    let mut ns = [0u16; MOST_NUMBERS];
     input::fetch_numbers(rt, &mut ns, nodes)?;
-    let mut rs = [0u16; 400];
+    let mut rs = [0u16; MOST_NUMBERS];
     input::fetch_numbers(rt, &mut rs, records)?;
     let bytes = at_most(MOST_SETS, call.sets as usize)?;
-    let mut sets = [0u8; 600];
+    let mut sets = [0u8; MOST_SETS];
     input::fetch(rt, &mut sets, bytes)?;
     let lists = Lists {
         names,
@@ -324,6 +324,7 @@ fn letter(rt: &impl Input) -> io::Result<Option<u8>> {
 
 // All cases.
 fn cases(rt: &(impl Input + Print)) -> Result<(), Stop> {
+    // Bounded, since every loop is proved to end and the end of the input is not: so many cases no run reads.
     for _ in 0..u64::MAX {
         let Some(letter) = letter(rt)? else {
             break;
