@@ -1,5 +1,8 @@
 -- Definitions.
 pub mod Fetched
+pub mod Stopped
+pub mod Lent
+pub mod Codes
 pub mod Filler
 pub mod Text
 pub mod Promised

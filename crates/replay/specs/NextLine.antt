@@ -1,19 +1,19 @@
 -- The line of a call of `next`, and when the list and the work bytes count as clean. The numbers of the list are all 42405 and the work bytes
 -- all 165 before the call; the numbers behind those listed stay so, and of a call that is refused or undecided all of them. The work bytes
 -- are as after a call of the judge. Definitions only: NextLineLaws has that the call leaves them clean. Assumes nothing.
-use Rattle.std.specs.Prelude.{ℕ, ◌≤◌, ◌/◌, Bool, true, ◌&&◌, List, [], ◌∷◌, ◌++◌, ◌≡◌, length, take, replicate, Result, ⊤}
+use Rattle.std.specs.Prelude.{ℕ, ◌≤◌, ◌/◌, Bool, true, ◌&&◌, List, [], ◌∷◌, ◌++◌, ◌≡◌, length, take, replicate, Result, ⊤, Option}
 use Rattle.calculus.specs.Records.{State}
 use Rattle.flow.specs.declared.Refusal.{Refusal}
-use Rattle.flow.specs.Drawn.{flow_of}
 use Rattle.ahead.specs.declared.answer.Found.{Found}
 use Rattle.ahead.specs.declared.answer.Next.{Next}
 use Rattle.ahead.specs.declared.answer.Next.TheVariants.{Listed, Undecided, Refused}
 use Rattle.ahead.specs.Told.{numbers_wanted}
-use Rattle.ahead.specs.Outcome.{next_check, named_next_check, next_by, list_by}
-use Rattle.judge.specs.Judged.{room_of, room_wanted, named_flow, bytes_by}
+use Rattle.ahead.specs.Outcome.{next_by, list_by}
+use Rattle.judge.specs.Judged.{room_of, room_wanted, bytes_by}
 use Rattle.line.specs.declared.VerdictWord.TheVariants as word
 use Rattle.line.specs.Line.{spelled, spaced, Put}
 use Rattle.replay.specs.Filler.{filler, number_filler, kept}
+use Rattle.replay.specs.Lent.{lent_flow, lent_next_check}
 use Rattle.replay.specs.Promised.{is_clean}
 use Rattle.replay.specs.Text.{refused_text, numbers_text, noted}
 
@@ -70,12 +70,7 @@ pub record NextCase (c : Result ⊤ Refusal) (flow : State) (ns rs : List ℕ) (
   pub list_after : list' ≡ list_by c flow rs allowance (replicate room number_filler)
   pub work_after : after ≡ bytes_by c (room_wanted ns rs) (replicate n filler)
 
--- of `next_lists`: the list and the work bytes before the call, and after it
-abbrev pub NextCaseOf : List ℕ → List ℕ → List ℕ → ℕ → List ℕ → List ℕ → List ℕ → List ℕ → List ℕ → List ℕ → ℕ → Type 0
-NextCaseOf sets ns rs allowance list work list' after out out' r =
-    NextCase (next_check sets ns rs (length list) (length work)) (flow_of sets ns) ns rs allowance (length list) (length work) list' after out out' r
-
--- of `next_named_lists`
-abbrev pub NamedNextCaseOf : List ℕ → List ℕ → List ℕ → List ℕ → ℕ → List ℕ → List ℕ → List ℕ → List ℕ → List ℕ → List ℕ → ℕ → Type 0
-NamedNextCaseOf s sets ns rs allowance list work list' after out out' r =
-    NextCase (named_next_check s sets ns rs (length list) (length work)) (named_flow s sets ns) ns rs allowance (length list) (length work) list' after out out' r
+-- of `next_lists`, with a names section or without: the list and the work bytes before the call, and after it
+abbrev pub NextCaseOf : Option (List ℕ) → List ℕ → List ℕ → List ℕ → ℕ → List ℕ → List ℕ → List ℕ → List ℕ → List ℕ → List ℕ → ℕ → Type 0
+NextCaseOf names sets ns rs allowance list work list' after out out' r =
+    NextCase (lent_next_check names sets ns rs (length list) (length work)) (lent_flow names sets ns) ns rs allowance (length list) (length work) list' after out out' r

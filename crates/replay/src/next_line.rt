@@ -1,9 +1,11 @@
 // A call of `next` and its line, without names and with them: what is answered and the numbers that are listed, with `clean` behind them if
 // the list and the work bytes are as promised, else `dirty`.
-ghost use Rattle.std.specs.Prelude.{◌≡◌, ◌≤◌, length};
+ghost use Rattle.std.specs.Prelude.{◌≡◌, ◌≤◌, length, option_copied};
 ghost use Rattle.line.specs.Line.{Put};
-ghost use Rattle.replay.specs.NextLine.{length_listed, next_zeros, next_clean, listed_text, undecided_text, next_text, next_line, Tellable, NextCaseOf, NamedNextCaseOf};
+ghost use Rattle.replay.specs.Lent.{LentNext};
+ghost use Rattle.replay.specs.NextLine.{length_listed, next_zeros, next_clean, listed_text, undecided_text, next_text, next_line, Tellable, NextCaseOf};
 
+use crate::lists::Lists;
 use crate::{filler, promised, text};
 use ahead::answer::{Found, Next};
 
@@ -50,35 +52,26 @@ fn length_listed(answer: Next) -> usize
 {
     match answer {
         Next::Listed(f) => f.length as usize,
-        Next::Undecided(_) => 0,
-        Next::Refused(_) => 0,
+        Next::Undecided(_) | Next::Refused(_) => 0,
     }
 }
 
 // How many work bytes are to be zero after the call.
-fn zeros_left(answer: Next, numbers: usize, records: usize) -> usize
-    requires numbers_bound { numbers ≤ 400 }
-    requires records_bound { records ≤ 400 }
-    ensures { result ≡ next_zeros answer numbers records }
+fn zeros_left(answer: Next, lists: Lists) -> usize
+    ensures { result ≡ next_zeros answer (length lists.entry.nodes.now) (length lists.entry.records.now) }
 {
     match answer {
-        Next::Listed(_) => promised::wanted(numbers, records),
-        Next::Undecided(_) => promised::wanted(numbers, records),
+        Next::Listed(_) | Next::Undecided(_) => promised::wanted(lists),
         Next::Refused(_) => 0,
     }
 }
 
-// Whether the list and the work bytes are as promised, after a call on so many node numbers and records.
-fn clean(answer: Next, numbers: usize, records: usize, list: &[u16], work: &[u8]) -> bool
-    requires numbers_bound { numbers ≤ 400 }
-    requires records_bound { records ≤ 400 }
-    ensures { result ≡ next_clean answer numbers records list.now work.now }
+// Whether the list and the work bytes are as promised.
+fn clean(answer: Next, lists: Lists, list: &[u16], work: &[u8]) -> bool
+    ensures { let l = lists.entry in result ≡ next_clean answer (length l.nodes.now) (length l.records.now) list.now work.now }
 {
-    if filler::numbers_kept(length_listed(answer), list) {
-        promised::clean(zeros_left(answer, numbers, records), work)
-    } else {
-        false
-    }
+    filler::numbers_kept(length_listed(answer), list)
+        && promised::clean(zeros_left(answer, lists), work)
 }
 
 fn write_case(answer: Next, list: &[u16], clean: bool, out: &mut [u8]) -> usize
@@ -91,49 +84,37 @@ fn write_case(answer: Next, list: &[u16], clean: bool, out: &mut [u8]) -> usize
     text::put_note(clean, out, end)
 }
 
-// `next` on a list and work bytes that are all filler, and the line of its case: both are always found clean.
-pub fn next_lists(
-    nodes: &[u16],
-    records: &[u16],
-    sets: &[u8],
-    list: &mut [u16],
-    work: &mut [u8],
-    allowance: u32,
-    out: &mut [u8],
-) -> usize
-    requires nodes_len_bound { length nodes.now ≤ 400 }
-    requires records_len_bound { length records.now ≤ 400 }
-    requires in_bounds { 2884 ≤ length out.old }
-    ensures next_case_of { NextCaseOf sets.now nodes.now records.now allowance list.old work.old list.new work.new out.old out.new result }
-    ensures upper_bound { result ≤ 2884 }
+// What `next` answers.
+fn answer(lists: Lists, list: &mut [u16], work: &mut [u8], allowance: u32) -> Next
+    ensures { let l = lists.entry in LentNext (option_copied l.names) l.sets.now l.nodes.now l.records.now allowance list.old work.old result list.new work.new }
 {
-    filler::fill_numbers(list);
-    filler::fill(work);
-    let answer = ahead::next(nodes, records, sets, list, work, allowance);
-    let clean = clean(answer, nodes.len(), records.len(), list, work);
-    write_case(answer, list, clean, out)
+    let Lists {
+        names,
+        nodes,
+        records,
+        sets,
+    } = lists;
+    match names {
+        None => ahead::next(nodes, records, sets, list, work, allowance),
+        Some(names) => ahead::next_named(names, nodes, records, sets, list, work, allowance),
+    }
 }
 
-// The same with a names section.
-pub fn next_named_lists(
-    names: &[u8],
-    nodes: &[u16],
-    records: &[u16],
-    sets: &[u8],
+// `next` on a list and work bytes that are all filler, and the line of its case: both are always found clean.
+pub fn next_lists(
+    lists: Lists,
     list: &mut [u16],
     work: &mut [u8],
     allowance: u32,
     out: &mut [u8],
 ) -> usize
-    requires nodes_len_bound { length nodes.now ≤ 400 }
-    requires records_len_bound { length records.now ≤ 400 }
-    requires in_bounds { 2884 ≤ length out.old }
-    ensures named_next_case_of { NamedNextCaseOf names.now sets.now nodes.now records.now allowance list.old work.old list.new work.new out.old out.new result }
+    requires { 2884 ≤ length out.old }
+    ensures next_case_of { let l = lists.entry in NextCaseOf (option_copied l.names) l.sets.now l.nodes.now l.records.now allowance list.old work.old list.new work.new out.old out.new result }
     ensures upper_bound { result ≤ 2884 }
 {
     filler::fill_numbers(list);
     filler::fill(work);
-    let answer = ahead::next_named(names, nodes, records, sets, list, work, allowance);
-    let clean = clean(answer, nodes.len(), records.len(), list, work);
+    let answer = answer(lists, list, work, allowance);
+    let clean = clean(answer, lists, list, work);
     write_case(answer, list, clean, out)
 }

@@ -18,4 +18,4 @@ numbers_fetched {n} bytes {table} fits e h =
     }
 
 pub returns : goal.returns
-returns g c = numbers_fetched c.fetch.new.room c.requires.n_in_bounds c.fill.ensures c.in_ok-there.ensures.nothing_there
+returns g c = numbers_fetched c.fetch.new.room c.requires.n_in_bounds c.fill.ensures c.in_ok-fetch.ensures.nothing_there

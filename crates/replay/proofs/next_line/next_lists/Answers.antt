@@ -1,28 +1,24 @@
 -- `replay::next_line::next_lists` meets its contract: the list and the work bytes are filled, listed and worked on, and found clean, always. Assumes nothing.
 use lib.ListN.{length}
-use Rattle.ahead.specs.Outcome.{next_check}
+use Rattle.std.specs.Prelude.{option_copied}
+use Rattle.replay.specs.Lent.{lent_flow, lent_next_check}
 use Rattle.replay.specs.NextLineLaws.{next_tellable, next_case}
 use Rattle.replay.proofs.next_line.next_lists.Goals as goal
-
-pub clean-clean-requires : goal.clean-clean-requires
-clean-clean-requires c =
-    record {
-      numbers_bound = c.requires.nodes_len_bound;
-      records_bound = c.requires.records_len_bound;
-    }
 
 pub write_case-requires : goal.write_case-requires
 write_case-requires c =
     record {
-      tellable = next_tellable c.next-answer.ensures;
-      in_bounds = c.requires.in_bounds;
+      tellable = next_tellable c.answer-answer.ensures;
+      in_bounds = c.requires;
     }
 
 pub returns : goal.returns
 returns c =
+    let l = c.args.lists in
+    let names = option_copied l.names in
     let filled = c.fill_numbers.ensures in
     let cleaned = c.fill.ensures in
-    let h = c.next-answer.ensures in record {
-      next_case_of = next_case (next_check c.args.sets.now c.args.nodes.now c.args.records.now) (length c.args.list.now) (length c.args.work.now) filled cleaned h c.clean-clean.ensures c.write_case.ensures.put;
+    let h = c.answer-answer.ensures in record {
+      next_case_of = next_case (lent_next_check names l.sets.now l.nodes.now l.records.now) (length c.args.list.now) (length c.args.work.now) {flow = lent_flow names l.sets.now l.nodes.now} filled cleaned h c.clean-clean.ensures c.write_case.ensures.put;
       upper_bound = c.write_case.ensures.upper_bound;
     }

@@ -15,4 +15,4 @@ returns-then-bytes_kept c = both_go c.bytes_kept.ensures _ c.if-bytes_kept.true 
 
 pub returns-else-bytes_kept : goal.returns-else-bytes_kept
 unfolding is_clean
-returns-else-bytes_kept c = both_stop c.bytes_kept.ensures _ c.if-bytes_kept.false
+returns-else-bytes_kept c = c.if-bytes_kept.false ∙ both_stop c.bytes_kept.ensures _ c.if-bytes_kept.false
