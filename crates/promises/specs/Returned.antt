@@ -1,13 +1,14 @@
 -- What the round trip is stated with: what a reading gives back of lists that were written, and that some lists are written as a file.
 -- `s` are the bytes of a names section, `ns` the numbers of the nodes, `rs` the records, `sets` the bytes of the sets. Definitions only:
 -- RoundTrip has the theorems. Assumes nothing.
-use Rattle.std.specs.Prelude.{ℕ, ◌≤◌, List, ◌≡◌, length, take, drop}
+use Rattle.std.specs.Prelude.{ℕ, ◌≤◌, List, ◌≡◌, length, take, drop, Result}
 use Rattle.format.specs.Format.{Entry, names_section}
 use Rattle.format.specs.Limits.{Bytes}
 use Rattle.format.specs.Told.{at_front}
 use Rattle.reader.specs.declared.Reading.{Reading}
 use Rattle.reader.specs.Report.{reported, read_report, counts_of}
-use Rattle.writer.specs.declared.Writing.{Writing}
+use Rattle.flow.specs.declared.Refusal.{Refusal}
+use Rattle.writer.specs.declared.Size.{Size}
 use Rattle.writer.specs.Told.{writing_told, writing_written}
 use Rattle.writer.specs.Writing.{WrittenAs}
 
@@ -34,7 +35,7 @@ pub record WrittenFor (t : List ℕ) : Type 0 where
   pub sets : List ℕ
   pub file : List ℕ
   pub file' : List ℕ
-  pub answer : Writing
+  pub answer : Result Size Refusal
   pub bytes : Bytes s
   pub sets_bytes : Bytes sets
   pub written : WrittenAs s ns rs sets file file' answer

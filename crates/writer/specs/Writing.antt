@@ -1,7 +1,7 @@
 -- What the writer answers, and what stands in the lent bytes then, computed: the first ground that holds, or the sections.
 -- A reader need not believe this file, but only that `WrittenAs` is what `write` ensures: promises/specs/Writer tells by Told and Writes
 -- alone what is answered then, and what becomes of the bytes. Definitions only. Assumes nothing.
-use Rattle.std.specs.Prelude.{ℕ, List, [], ◌∷◌, ◌++◌, ◌≡◌, ltb, length}
+use Rattle.std.specs.Prelude.{ℕ, Result, Ok, Err, List, [], ◌∷◌, ◌++◌, ◌≡◌, ltb, length}
 use Rattle.flow.specs.declared.Check.{Check}
 use Rattle.flow.specs.declared.Check.TheVariants as check
 use Rattle.flow.specs.declared.Extent.TheVariants.{Whole}
@@ -10,8 +10,8 @@ use Rattle.format.specs.Format.{Entry, numbers_section, sets_section}
 use Rattle.format.specs.Contents.{lists_order}
 use Rattle.format.specs.Told.{at_front}
 use Rattle.format.specs.ListChecks.{named_check}
-use Rattle.writer.specs.declared.Writing.{Writing}
-use Rattle.writer.specs.declared.Writing.TheVariants.{Written, Refused}
+use Rattle.flow.specs.declared.Refusal.{Refusal}
+use Rattle.writer.specs.declared.Size.{Size}
 
 -- the names section as it is lent, then the nodes and the records, and the sets where there are any
 unfoldable pub lists_bytes : List ℕ → List ℕ → List ℕ → List ℕ → List ℕ
@@ -28,21 +28,21 @@ module _ (s ns rs sets : List ℕ) (room : ℕ) where
   write_check = named_check s order_by_bytes
 
 -- the answer, and the bytes that stand first then
-unfoldable pub wrote : List ℕ → Check → Writing
-wrote bytes check.Fine = Written (record { length = length bytes })
-wrote bytes (check.Refused r) = Refused r
+unfoldable pub wrote : List ℕ → Check → Result Size Refusal
+wrote bytes check.Fine = Ok (record { length = length bytes })
+wrote bytes (check.Refused r) = Err r
 
 unfoldable pub put_first : List ℕ → Check → List ℕ
 put_first bytes check.Fine = bytes
 put_first bytes (check.Refused r) = []
 
-abbrev pub writing : List ℕ → List ℕ → List ℕ → List ℕ → ℕ → Writing
+abbrev pub writing : List ℕ → List ℕ → List ℕ → List ℕ → ℕ → Result Size Refusal
 writing s ns rs sets room = wrote (lists_bytes s ns rs sets) (write_check s ns rs sets room)
 
 abbrev pub bytes_first : List ℕ → List ℕ → List ℕ → List ℕ → ℕ → List ℕ
 bytes_first s ns rs sets room = put_first (lists_bytes s ns rs sets) (write_check s ns rs sets room)
 
 -- the contract of `write`
-pub record WrittenAs (s ns rs sets file file' : List ℕ) (r : Writing) : Type 0 where
+pub record WrittenAs (s ns rs sets file file' : List ℕ) (r : Result Size Refusal) : Type 0 where
   pub answer : r ≡ writing s ns rs sets (length file)
   pub file_after : file' ≡ at_front (bytes_first s ns rs sets (length file)) file

@@ -16,12 +16,6 @@ pub struct Size {
     pub length: u32,
 }
 
-#[derive(Clone, Copy)]
-pub enum Writing {
-    Written(Size),
-    Refused(Refusal),
-}
-
 // The bytes as they are at the front of the room; the rest of it stays.
 fn put_bytes(bytes: &[u8], room: &mut [u8])
     requires { length bytes.now ≤ length room.old }
@@ -101,17 +95,23 @@ fn put_lists(names: &[u8], nodes: &[u16], records: &[u16], sets: &[u8], file: &m
 }
 
 // The flow file of a names section, nodes, records and sets, at the front of the lent bytes, whose rest stays; or a refusal, and all stay.
-pub fn write(names: &[u8], nodes: &[u16], records: &[u16], sets: &[u8], file: &mut [u8]) -> Writing
+pub fn write(
+    names: &[u8],
+    nodes: &[u16],
+    records: &[u16],
+    sets: &[u8],
+    file: &mut [u8],
+) -> Result<Size, Refusal>
     ensures { WrittenAs names.now nodes.now records.now sets.now file.old file.new result }
 {
     let check = format::check_lists(names, nodes, records, sets, Extent::Whole);
     if let Check::Refused(refusal) = check {
-        return Writing::Refused(refusal);
+        return Err(refusal);
     }
     let end = names.len() + 4 + 2 * (nodes.len() + records.len()) + sets_room(sets);
     if file.len() < end {
-        return Writing::Refused(format::refusal(flow::NO_ROOM, 0));
+        return Err(format::refusal(flow::NO_ROOM, 0));
     }
     put_lists(names, nodes, records, sets, file);
-    Writing::Written(Size { length: end as u32 })
+    Ok(Size { length: end as u32 })
 }
