@@ -39,7 +39,7 @@ pub fn judge_lists(
     ensures work_after { work.new ≡ work_after sets.now nodes.now records.now (replicate (length work.old) filler) }
     ensures upper_bound { result ≤ 49 }
 {
-    filler::fill(work);
+    work.fill(filler::FILLER);
     let answer = judge::judge(nodes, records, sets, work, allowance);
     write_case(answer, nodes.len(), records.len(), work, out)
 }
@@ -61,7 +61,7 @@ pub fn judge_named_lists(
     ensures work_after { work.new ≡ named_work_after names.now sets.now nodes.now records.now (replicate (length work.old) filler) }
     ensures upper_bound { result ≤ 49 }
 {
-    filler::fill(work);
+    work.fill(filler::FILLER);
     let answer = judge::judge_named(names, nodes, records, sets, work, allowance);
     write_case(answer, nodes.len(), records.len(), work, out)
 }

@@ -74,11 +74,8 @@ fn clean(answer: Next, numbers: usize, records: usize, list: &[u16], work: &[u8]
     requires records_bound { records ≤ 400 }
     ensures { result ≡ next_clean answer numbers records list.now work.now }
 {
-    if filler::numbers_kept(length_listed(answer), list) {
-        promised::clean(zeros_left(answer, numbers, records), work)
-    } else {
-        false
-    }
+    filler::kept(filler::NUMBER_FILLER, length_listed(answer), list)
+        && promised::clean(zeros_left(answer, numbers, records), work)
 }
 
 fn write_case(answer: Next, list: &[u16], clean: bool, out: &mut [u8]) -> usize
@@ -107,8 +104,8 @@ pub fn next_lists(
     ensures next_case_of { NextCaseOf sets.now nodes.now records.now allowance list.old work.old list.new work.new out.old out.new result }
     ensures upper_bound { result ≤ 2884 }
 {
-    filler::fill_numbers(list);
-    filler::fill(work);
+    list.fill(filler::NUMBER_FILLER);
+    work.fill(filler::FILLER);
     let answer = ahead::next(nodes, records, sets, list, work, allowance);
     let clean = clean(answer, nodes.len(), records.len(), list, work);
     write_case(answer, list, clean, out)
@@ -131,8 +128,8 @@ pub fn next_named_lists(
     ensures named_next_case_of { NamedNextCaseOf names.now sets.now nodes.now records.now allowance list.old work.old list.new work.new out.old out.new result }
     ensures upper_bound { result ≤ 2884 }
 {
-    filler::fill_numbers(list);
-    filler::fill(work);
+    list.fill(filler::NUMBER_FILLER);
+    work.fill(filler::FILLER);
     let answer = ahead::next_named(names, nodes, records, sets, list, work, allowance);
     let clean = clean(answer, nodes.len(), records.len(), list, work);
     write_case(answer, list, clean, out)

@@ -51,7 +51,7 @@ fn length_written(answer: Result<Size, Refusal>) -> usize
 fn clean(answer: Result<Size, Refusal>, file: &[u8]) -> bool
     ensures { result ≡ file_clean answer file.now }
 {
-    filler::bytes_kept(length_written(answer), file)
+    filler::kept(filler::FILLER, length_written(answer), file)
 }
 
 fn write_case(answer: Result<Size, Refusal>, file: &[u8], clean: bool, out: &mut [u8]) -> usize
@@ -78,7 +78,7 @@ pub fn write_lists(
     ensures file_after { file.new ≡ at_front (bytes_first names.now nodes.now records.now sets.now (length file.old)) (replicate (length file.old) filler) }
     ensures prefix_len { IsPrefixLen result out.new }
 {
-    filler::fill(file);
+    file.fill(filler::FILLER);
     let answer = writer::write(names, nodes, records, sets, file);
     write_case(answer, file, clean(answer, file), out)
 }

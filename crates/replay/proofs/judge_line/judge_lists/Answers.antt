@@ -7,8 +7,9 @@ use Rattle.replay.proofs.judge_line.judge_lists.Goals as goal
 pub returns : goal.returns
 returns c =
     let args = c.args in
+    let filled = c.fill.ensures.after (λ y e. e) in
     let j = c.judge-answer.ensures in record {
-      put = case_clean (judge_check args.sets.now args.nodes.now args.records.now) (length args.work.now) c.fill.ensures j c.write_case.ensures.put;
-      work_after = rw c.fill.ensures at j.leaves;
+      put = case_clean (judge_check args.sets.now args.nodes.now args.records.now) (length args.work.now) filled j c.write_case.ensures.put;
+      work_after = rw filled at j.leaves;
       upper_bound = c.write_case.ensures.upper_bound;
     }

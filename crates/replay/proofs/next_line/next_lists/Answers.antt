@@ -20,8 +20,8 @@ write_case-requires c =
 
 pub returns : goal.returns
 returns c =
-    let filled = c.fill_numbers.ensures in
-    let cleaned = c.fill.ensures in
+    let filled = c.fill.ensures.after (λ y e. e) in
+    let cleaned = c.fill-2.ensures.after (λ y e. e) in
     let h = c.next-answer.ensures in record {
       next_case_of = next_case (next_check c.args.sets.now c.args.nodes.now c.args.records.now) (length c.args.list.now) (length c.args.work.now) filled cleaned h c.clean-clean.ensures c.write_case.ensures.put;
       upper_bound = c.write_case.ensures.upper_bound;

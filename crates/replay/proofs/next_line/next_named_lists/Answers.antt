@@ -21,8 +21,8 @@ write_case-requires c =
 
 pub returns : goal.returns
 returns c =
-    let filled = c.fill_numbers.ensures in
-    let cleaned = c.fill.ensures in
+    let filled = c.fill.ensures.after (λ y e. e) in
+    let cleaned = c.fill-2.ensures.after (λ y e. e) in
     let h = c.next_named-answer.ensures in record {
       named_next_case_of = next_case (named_next_check c.args.names.now c.args.sets.now c.args.nodes.now c.args.records.now) (length c.args.list.now) (length c.args.work.now) {flow = named_flow c.args.names.now c.args.sets.now c.args.nodes.now} filled cleaned h c.clean-clean.ensures c.write_case.ensures.put;
       upper_bound = c.write_case.ensures.upper_bound;
