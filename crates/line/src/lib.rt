@@ -148,10 +148,8 @@ pub fn put_shown(name: &[u8], out: &mut [u8], at: usize) -> usize
     ensures upper_bound { result ≤ at + 4 * length name.now }
 {
     let mut end = at;
-    let mut i = 0;
-    while i < name.len() {
-        end = put_shown_byte(name[i], out, end);
-        i += 1;
+    for byte in name {
+        end = put_shown_byte(*byte, out, end);
     }
     end
 }

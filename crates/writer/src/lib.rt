@@ -38,11 +38,9 @@ fn put_numbers(numbers: &[u16], room: &mut [u8])
     requires { 2 * length numbers.now ≤ length room.old }
     ensures { room.new ≡ at_front (numbers_bytes numbers.now) room.old }
 {
-    let mut i = 0;
-    while i < numbers.len() {
+    for (i, number) in numbers.iter().enumerate() {
         let at = 2 * i;
-        put_number(numbers[i], &mut room[at..]);
-        i += 1;
+        put_number(*number, &mut room[at..]);
     }
 }
 
