@@ -17,6 +17,20 @@ pub enum VerdictWord {
     Refused,
 }
 
+impl VerdictWord {
+    fn text(self) -> &'static [u8]
+        ensures spelled { result.now ≡ spelled self }
+        ensures short { length result.now ≤ 9 }
+    {
+        match self {
+            VerdictWord::Accepted => b"accepted",
+            VerdictWord::Rejected => b"rejected",
+            VerdictWord::Undecided => b"undecided",
+            VerdictWord::Refused => b"refused",
+        }
+    }
+}
+
 // What a line tells.
 #[derive(Clone, Copy)]
 pub struct Line {
@@ -36,19 +50,6 @@ pub fn put(text: &[u8], out: &mut [u8], at: usize) -> usize
     end
 }
 
-fn put_word(word: VerdictWord, out: &mut [u8]) -> usize
-    requires { 9 ≤ length out.old }
-    ensures put { Put (spelled word) out.old 0 out.new result }
-    ensures upper_bound { result ≤ 9 }
-{
-    match word {
-        VerdictWord::Accepted => put(b"accepted", out, 0),
-        VerdictWord::Rejected => put(b"rejected", out, 0),
-        VerdictWord::Undecided => put(b"undecided", out, 0),
-        VerdictWord::Refused => put(b"refused", out, 0),
-    }
-}
-
 // Puts the number in decimal at an offset of the room, leaves the rest, and answers the offset behind it.
 pub fn put_decimal(n: u32, out: &mut [u8], at: usize) -> usize
     requires { at + 10 ≤ length out.old }
@@ -56,7 +57,7 @@ pub fn put_decimal(n: u32, out: &mut [u8], at: usize) -> usize
     ensures upper_bound { result ≤ at + 10 }
 {
     let mut digits = [0u8; 20];
-    let k = io::decimal(n as u64, &mut digits);
+    let k = io::decimal(u64::from(n), &mut digits);
     put(&digits[..k], out, at)
 }
 
@@ -77,8 +78,8 @@ pub fn write_text(line: Line, out: &mut [u8]) -> usize
     ensures upper_bound { result ≤ 42 }
 {
     let word = line.word;
-    let a = put_word(word, out);
-    let b = put_number(line.number as u32, out, a);
+    let a = put(word.text(), out, 0);
+    let b = put_number(u32::from(line.number), out, a);
     let c = put_number(line.place, out, b);
     put_number(line.count, out, c)
 }
@@ -101,31 +102,22 @@ pub fn write_line(line: Line, out: &mut [u8; 64]) -> usize
     put_line(line, out)
 }
 
-// A hexadecimal digit.
-fn digit(d: u8) -> u8
-    requires { d < 16 }
-    ensures { result ≡ hex_digit_ascii d }
-{
-    if d < 10 { 48 + d } else { 87 + d }
-}
-
 // Puts a byte as two digits at an offset of the room, leaves the rest, and answers the offset behind them.
 pub fn put_byte(byte: u8, out: &mut [u8], at: usize) -> usize
     requires { at + 2 ≤ length out.old }
     ensures put { Put (hex_byte byte) out.old at out.new result }
     ensures upper_bound { result ≤ at + 2 }
 {
-    let mut pair = [0u8; 2];
-    pair[0] = digit(byte / 16);
-    pair[1] = digit(byte % 16);
-    put(&pair, out, at)
+    let mut digits = [0u8; 16];
+    let k = io::hex(u64::from(byte), 2, &mut digits);
+    put(&digits[..k], out, at)
 }
 
 // Whether a byte is shown as it is: text, and no backslash.
 fn is_text(byte: u8) -> bool
     ensures { result ≡ is_text byte }
 {
-    (32 <= byte) & (byte <= 126) & (byte != 92)
+    (b' '..=b'~').contains(&byte) && byte != b'\\'
 }
 
 fn put_shown_byte(byte: u8, out: &mut [u8], at: usize) -> usize
@@ -134,8 +126,7 @@ fn put_shown_byte(byte: u8, out: &mut [u8], at: usize) -> usize
     ensures upper_bound { result ≤ at + 4 }
 {
     if is_text(byte) {
-        let text = [byte; 1];
-        return put(&text, out, at);
+        return put(&[byte], out, at);
     }
     let from = put(b"\\x", out, at);
     put_byte(byte, out, from)
@@ -148,10 +139,8 @@ pub fn put_shown(name: &[u8], out: &mut [u8], at: usize) -> usize
     ensures upper_bound { result ≤ at + 4 * length name.now }
 {
     let mut end = at;
-    let mut i = 0;
-    while i < name.len() {
-        end = put_shown_byte(name[i], out, end);
-        i += 1;
+    for byte in name {
+        end = put_shown_byte(*byte, out, end);
     }
     end
 }

@@ -5,7 +5,6 @@ pub mod Listing
 pub mod FileParts
 pub mod Answering
 pub mod Rewriting
-pub mod Copying
 pub mod NextFile
 -- Theorems on the way to the code.
 pub mod ProgramLaws

@@ -6,18 +6,17 @@ use Rattle.flow.specs.declared.Refusal.{Refusal}
 use Rattle.format.specs.Told.{at_front}
 use Rattle.reader.specs.declared.Counts.{Counts}
 use Rattle.reader.specs.Reading.{reading}
-use Rattle.writer.specs.declared.Writing.{Writing}
-use Rattle.writer.specs.declared.Writing.TheVariants.{Refused}
+use Rattle.writer.specs.declared.Size.{Size}
 use Rattle.writer.specs.Writing.{writing, bytes_first}
 use Rattle.program.specs.FileParts.{names_of, sets_of}
 
 -- the answer, and the bytes that stand first in the lent ones then
 pub record Copy : Type 0 where
-  pub answer : Writing
+  pub answer : Result Size Refusal
   pub bytes : List ℕ
 
 abbrev pub refused_copy : Refusal → Copy
-refused_copy r = record { answer = Refused r; bytes = [] }
+refused_copy r = record { answer = Err r; bytes = [] }
 
 module _ (file : List ℕ) (room : ℕ) where
   unfoldable pub copied : Result Counts Refusal → List ℕ → List ℕ → Copy
@@ -30,6 +29,6 @@ module _ (file : List ℕ) (room : ℕ) where
   rewriting = copied (reading file 192 256).answer (reading file 192 256).nodes (reading file 192 256).records
 
 -- the contract of `rewrite_file`
-pub record FileRewritten (file out out' : List ℕ) (r : Writing) : Type 0 where
+pub record FileRewritten (file out out' : List ℕ) (r : Result Size Refusal) : Type 0 where
   pub answer : r ≡ (rewriting file (length out)).answer
   pub out_after : out' ≡ at_front (rewriting file (length out)).bytes out

@@ -1,5 +1,6 @@
 -- From what the reader answered to what comes of a file that is written again. Assumes nothing.
-use Rattle.std.specs.Prelude.{ℕ, ◌-◌, ◌≡◌, take, drop, Result, Ok, Err}
+use Rattle.std.specs.Prelude.{ℕ, ◌-◌, ◌≡◌, take, drop, Result, Ok, Err, ◌≤◌}
+use Rattle.std.specs.Result.{ForOk}
 use Rattle.std.proofs.Common.{arith, ◌∙◌, length-append}
 use mathlib.Core.List.{List}
 use Rattle.std.proofs.Math.Path.{sym, ap, subst}
@@ -9,26 +10,23 @@ use Rattle.format.specs.Told.{at_front}
 use Rattle.reader.specs.declared.Counts.{Counts}
 use Rattle.reader.specs.Reading.{Outcome, reading}
 use Rattle.writer.specs.declared.Size.{Size}
-use Rattle.writer.specs.declared.Writing.{Writing}
-use Rattle.writer.specs.declared.Writing.TheVariants.{Written, Refused}
 use Rattle.writer.specs.Writing.{WrittenAs}
 use Rattle.writer.proofs.WriterLaws.{written_lists}
 use Rattle.program.specs.FileParts.{names_of, sets_of}
 use Rattle.program.specs.Rewriting.{Copy, refused_copy, copied, rewriting, FileRewritten}
-use Rattle.program.specs.Copying.{WithinRoom}
 use Rattle.program.specs.ProgramLaws.{Held, sets_all}
 
 ---- The file, by what the reader answered ----
 
 module _ {file out : List ℕ} where
-  pub refused_rewritten : {q : Refusal} → (reading file 192 256).answer ≡ Err q → FileRewritten file out out (Refused q)
+  pub refused_rewritten : {q : Refusal} → (reading file 192 256).answer ≡ Err q → FileRewritten file out out (Err q)
   unfolding rewriting copied
   refused_rewritten e =
       let o = reading file 192 256 in
       let k = ap (λ (a : Result Counts Refusal). copied file (length out) a o.nodes o.records) e in
       record { answer = sym (ap (λ (c : Copy). c.answer) k); out_after = sym (ap (λ (c : Copy). at_front c.bytes out) k) }
 
-  pub held_rewritten : {nodes' records' out' : List ℕ} {c : Counts} {n k : ℕ} {r : Writing} → Held file nodes' records' c n k
+  pub held_rewritten : {nodes' records' out' : List ℕ} {c : Counts} {n k : ℕ} {r : Result Size Refusal} → Held file nodes' records' c n k
       → {s : List ℕ} → s ≡ names_of file → WrittenAs s (take n nodes') (take k records') (take (length file - c.sets_at) (sets_of c file)) out out' r → FileRewritten file out out' r
   unfolding rewriting copied
   held_rewritten {nodes'} {records'} {out'} {c} {n} {k} {r} h e v =
@@ -41,7 +39,7 @@ module _ {file out : List ℕ} where
 
 -- as much as the answer says
 Sized : Copy → Type 0
-Sized k = (e : Size) → k.answer ≡ Written e → e.length ≡ length k.bytes
+Sized k = (e : Size) → k.answer ≡ Ok e → e.length ≡ length k.bytes
 
 refused_sized : (r : Refusal) → Sized (refused_copy r)
 unfolding Sized
@@ -56,7 +54,7 @@ module _ (file : List ℕ) (room : ℕ) where
       by (Err r) ns rs = refused_sized r
       by (Ok c) ns rs = λ e h. let w = written_lists (names_of file) ns rs (sets_of c file) room h in w.sized ∙ ap length (sym w.first)
 
-pub rewritten_within : {file out out' : List ℕ} {r : Writing} → FileRewritten file out out' r → WithinRoom out' r
+pub rewritten_within : {file out out' : List ℕ} {r : Result Size Refusal} → FileRewritten file out out' r → ForOk r (λ e. e.length ≤ length out')
 unfolding Sized
 rewritten_within {file} {out} h e d =
     let bytes = (rewriting file (length out)).bytes in

@@ -5,7 +5,8 @@
 
 mod listing;
 
-ghost use Rattle.std.specs.Prelude.{◌≡◌};
+ghost use Rattle.std.specs.Prelude.{◌≡◌, ◌≤◌, length};
+ghost use Rattle.std.specs.Result.{ForOk};
 ghost use Rattle.io.specs.Counts.{IsPrefixLen};
 ghost use Rattle.judge.specs.Judged.{judged_named};
 ghost use Rattle.line.specs.Line.{Put};
@@ -13,14 +14,14 @@ ghost use Rattle.program.specs.Program.{states_allowed, work_lent};
 ghost use Rattle.program.specs.FileParts.{names_of};
 ghost use Rattle.program.specs.Answering.{FileAnswered, AnswerTold, FilePrinted};
 ghost use Rattle.program.specs.Rewriting.{FileRewritten};
-ghost use Rattle.program.specs.Copying.{WithinRoom};
 ghost use Rattle.program.specs.Listing.{so_many};
 ghost use Rattle.program.specs.NextFile.{tables_text, NextPrinted};
 
 use ahead::answer::Next;
+use flow::Refusal;
 use judge::{Answer, Reach};
 use line::{Line, VerdictWord};
-use writer::Writing;
+use writer::Size;
 
 // "allows 1,000,000 states"
 const ALLOWANCE: u32 = 1000000;
@@ -110,9 +111,9 @@ pub fn write_file_line(file: &[u8], out: &mut [u8; 64]) -> usize
 }
 
 // Reads the file, and writes what it holds at the front of the lent bytes, whose rest stays; or a refusal, and all stay.
-pub fn rewrite_file(file: &[u8], out: &mut [u8]) -> Writing
+pub fn rewrite_file(file: &[u8], out: &mut [u8]) -> Result<Size, Refusal>
     ensures file_rewritten { FileRewritten file.now out.old out.new result }
-    ensures within_room { WithinRoom out.new result }
+    ensures within_room { ForOk result (λ size. size.length ≤ length out.new) }
 {
     let mut nodes = [0u16; 192];
     let mut records = [0u16; 256];
@@ -123,7 +124,7 @@ pub fn rewrite_file(file: &[u8], out: &mut [u8]) -> Writing
             let at = counts.sets_at;
             writer::write(names_of(file), &nodes[..n], &records[..k], &file[at..], out)
         }
-        Err(r) => Writing::Refused(r),
+        Err(r) => Err(r),
     }
 }
 

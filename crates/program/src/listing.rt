@@ -92,10 +92,8 @@ fn put_lines(names: &[u8], list: &[u16], out: &mut [u8]) -> usize
     ensures upper_bound { result ≤ 333 * length list.now }
 {
     let mut end = 0;
-    let mut i = 0;
-    while i < list.len() {
-        end = put_number_line(names, list[i], out, end);
-        i += 1;
+    for number in list {
+        end = put_number_line(names, *number, out, end);
     }
     end
 }

@@ -8,7 +8,8 @@ use Rattle.format.specs.Limits.{Bytes}
 use Rattle.format.specs.Told.{at_front}
 use Rattle.reader.specs.declared.Counts.{Counts}
 use Rattle.reader.specs.Report.{reported, read_report, counts_of}
-use Rattle.writer.specs.declared.Writing.{Writing}
+use Rattle.flow.specs.declared.Refusal.{Refusal}
+use Rattle.writer.specs.declared.Size.{Size}
 use Rattle.writer.specs.Told.{writing_told, writing_written}
 use Rattle.writer.specs.Writing.{WrittenAs}
 
@@ -35,7 +36,7 @@ pub record WrittenFor (t : List ℕ) : Type 0 where
   pub sets : List ℕ
   pub file : List ℕ
   pub file' : List ℕ
-  pub answer : Writing
+  pub answer : Result Size Refusal
   pub bytes : Bytes s
   pub sets_bytes : Bytes sets
   pub written : WrittenAs s ns rs sets file file' answer

@@ -1,7 +1,7 @@
 -- What `rewrite_file` does, for every file and room, by its contract: a file that is read comes out as it was, if there is room for it,
 -- and is refused with 14 if not; every other file is refused as the reader refuses it, and the lent bytes stay as they were.
 -- Theorems only. Assumes nothing.
-use Rattle.std.specs.Prelude.{ℕ, ◌≤◌, ◌<◌, ◌⊎◌, ◌↔◌, ◌≡◌, refl, T, ltb, length}
+use Rattle.std.specs.Prelude.{ℕ, ◌≤◌, ◌<◌, ◌⊎◌, ◌↔◌, ◌≡◌, refl, T, ltb, length, Result}
 use mathlib.Core.List.{List}
 use Rattle.std.proofs.Common.{inl, inr, sym, ◌∙◌, subst, arith, lt-ltb}
 use Rattle.std.proofs.Math.Path.{ap, ap₂}
@@ -12,7 +12,8 @@ use Rattle.format.specs.NameFaults.{in_order}
 use Rattle.format.specs.Told.{refusal_of, at_front}
 use Rattle.reader.specs.Faults.{Readable, Refuses}
 use Rattle.reader.specs.Reading.{Outcome}
-use Rattle.writer.specs.declared.Writing.{Writing}
+use Rattle.flow.specs.declared.Refusal.{Refusal}
+use Rattle.writer.specs.declared.Size.{Size}
 use Rattle.writer.specs.Told.{WritingTold, writing_told, writing_written, writing_refused}
 use Rattle.writer.specs.Writes.{WriteRefuses}
 use Rattle.writer.specs.Writing.{writing, bytes_first, WrittenAs}
@@ -46,7 +47,7 @@ module _ (file : List ℕ) (room : ℕ) where
 
 ---- What it promises ----
 
-module _ {file out out' : List ℕ} {r : Writing} (ensured : FileRewritten file out out' r) where
+module _ {file out out' : List ℕ} {r : Result Size Refusal} (ensured : FileRewritten file out out' r) where
   -- a file that is read: what `write` ensures of its parts is ensured
   as_written : {f : File} → Readable file 192 256 f → WrittenAs (names_section f.names) f.nodes f.records f.sets out out' r
   as_written {f} x =
@@ -100,5 +101,5 @@ module _ {file out out' : List ℕ} {r : Writing} (ensured : FileRewritten file 
 ---- One outcome ----
 
 -- the contract of `rewrite_file` leaves one answer and one content of the lent bytes
-pub rewrite_once : {file out o1 o2 : List ℕ} {a b : Writing} → FileRewritten file out o1 a → FileRewritten file out o2 b → (a ≡ b) × (o1 ≡ o2)
+pub rewrite_once : {file out o1 o2 : List ℕ} {a b : Result Size Refusal} → FileRewritten file out o1 a → FileRewritten file out o2 b → (a ≡ b) × (o1 ≡ o2)
 rewrite_once x y = (x.answer ∙ sym y.answer, x.out_after ∙ sym y.out_after)

@@ -15,7 +15,8 @@ use Rattle.reader.specs.declared.Counts.{Counts}
 use Rattle.reader.specs.Report.{Report, reported, read_report, counts_of, sets_offset}
 use Rattle.reader.specs.Faults.{Readable}
 use Rattle.reader.specs.Reading.{Outcome, read_outcome, reading, ReadAs}
-use Rattle.writer.specs.declared.Writing.{Writing}
+use Rattle.flow.specs.declared.Refusal.{Refusal}
+use Rattle.writer.specs.declared.Size.{Size}
 use Rattle.writer.specs.Told.{writing_told, writing_written}
 use Rattle.writer.specs.Writes.{file_of_lists, Writable}
 use Rattle.writer.specs.Writing.{writing, bytes_first, WrittenAs}
@@ -72,7 +73,7 @@ sets_handed t {f} r = sets_dropped f r.encoded
 writable_readable : {s ns rs sets t : List ℕ} {room nr rr : ℕ} {f : File} → Writable s ns rs sets room f → t ≡ encode f → 192 ≤ nr → 256 ≤ rr → Readable t nr rr f
 writable_readable w e h l = record { node_room = h; record_room = l; encoded = e; within = w.within; fine = w.fine }
 
-module _ {s ns rs sets file file' : List ℕ} {w : Writing} (bytes : Bytes s) (sets_bytes : Bytes sets) (written : WrittenAs s ns rs sets file file' w)
+module _ {s ns rs sets file file' : List ℕ} {w : Result Size Refusal} (bytes : Bytes s) (sets_bytes : Bytes sets) (written : WrittenAs s ns rs sets file file' w)
     (n : ℕ) (some : 1 ≤ n) (told : writing_told w ≡ writing_written n) where
   -- the file whose length is told stands first
   written_file : (f : File) × Writable s ns rs sets (length file) f × (take n file' ≡ encode f)
@@ -124,7 +125,7 @@ readable_writable r h a b c d =
     }
 
 -- and written as the file
-pub parts_written : {t s ns rs sets file file' : List ℕ} {f : File} {w : Writing} → t ≡ encode f → Writable s ns rs sets (length file) f
+pub parts_written : {t s ns rs sets file file' : List ℕ} {f : File} {w : Result Size Refusal} → t ≡ encode f → Writable s ns rs sets (length file) f
     → WrittenAs s ns rs sets file file' w → (writing_told w ≡ writing_written (length t)) × (file' ≡ at_front t file)
 parts_written {file} e v written = (
   write_tells written v ∙ ap (λ (xs : List ℕ). writing_written (length xs)) (sym e),
@@ -133,7 +134,7 @@ parts_written {file} e v written = (
 
 -- "writing what was read gives the same bytes": from the file's first bytes, up to where a scan ends, the numbers that were read, and the
 -- file's last bytes, from where the reader says that the sets are
-pub read_written : {t nodes records nodes' records' file file' : List ℕ} {a : Result Counts Refusal} {c : Counts} {k at : ℕ} {w : Writing} → Bytes t
+pub read_written : {t nodes records nodes' records' file file' : List ℕ} {a : Result Counts Refusal} {c : Counts} {k at : ℕ} {w : Result Size Refusal} → Bytes t
     → ReadAs t nodes records nodes' records' a → reported a ≡ read_report c → 1 ≤ c.nodes → item_told (scanned t) ≡ item_found k at
     → WrittenAs (take at t) (take (3 * c.nodes) nodes') (take c.records records') (drop c.sets_at t) file file' w → length t ≤ length file
     → (writing_told w ≡ writing_written (length t)) × (file' ≡ at_front t file)

@@ -20,7 +20,8 @@ use Rattle.format.specs.Limits.{node_count, record_count, GoodNames, GoodNumbers
 use Rattle.format.specs.Contents.{content_order, lists_order}
 use Rattle.format.specs.ListLaws.{fine_sets}
 use Rattle.format.specs.Told.{refusal_of, at_front}
-use Rattle.writer.specs.declared.Writing.{Writing}
+use Rattle.flow.specs.declared.Refusal.{Refusal}
+use Rattle.writer.specs.declared.Size.{Size}
 use Rattle.writer.specs.Told.{WritingTold, writing_told, writing_written, writing_refused}
 use Rattle.writer.specs.Writes.{file_of_lists, write_order, WriteRefuses, Writable}
 use Rattle.writer.specs.Writing.{lists_bytes, order_by_bytes, write_check, wrote, put_first, WrittenAs}
@@ -202,7 +203,7 @@ module _ (bytes : List ℕ) where
   told_written (Ok tt) n h e = (refl, sym (ap (λ (t : WritingTold). t.length) e))
   told_written (Err r) n h e = absurd (omega (arith, ap (λ (t : WritingTold). t.length) e))
 
-module _ {s ns rs sets file file' : List ℕ} {r : Writing} (ensured : WrittenAs s ns rs sets file file' r) where
+module _ {s ns rs sets file file' : List ℕ} {r : Result Size Refusal} (ensured : WrittenAs s ns rs sets file file' r) where
   abbrev room : ℕ
   room = length file
 
@@ -252,5 +253,5 @@ module _ {s ns rs sets file file' : List ℕ} {r : Writing} (ensured : WrittenAs
 ---- One outcome ----
 
 -- the contract of `write` leaves one answer and one content of the lent bytes
-pub write_once : {s ns rs sets file f1 f2 : List ℕ} {a b : Writing} → WrittenAs s ns rs sets file f1 a → WrittenAs s ns rs sets file f2 b → (a ≡ b) × (f1 ≡ f2)
+pub write_once : {s ns rs sets file f1 f2 : List ℕ} {a b : Result Size Refusal} → WrittenAs s ns rs sets file f1 a → WrittenAs s ns rs sets file f2 b → (a ≡ b) × (f1 ≡ f2)
 write_once x y = (x.answer ∙ sym y.answer, x.file_after ∙ sym y.file_after)

@@ -1,6 +1,6 @@
 -- Wrong writers that the contract of `write` rules out: lists on which a wrong one answers or writes something else. All from the
 -- definitions by computation; the lists are those of the worked files, whose names sections have 19 bytes. Theorems only. Assumes nothing.
-use Rattle.std.specs.Prelude.{ℕ, List, [], ◌∷◌, ◌++◌, map, ◌≡◌, refl, take, drop, replicate}
+use Rattle.std.specs.Prelude.{ℕ, List, [], ◌∷◌, ◌++◌, map, ◌≡◌, refl, take, drop, replicate, Result}
 use Rattle.std.proofs.Math.Bool.{xor}
 use Rattle.std.proofs.Common.{◌∙◌}
 use Rattle.flow.specs.Kinds.{joint_kind}
@@ -13,7 +13,8 @@ use Rattle.format.specs.Sections.{byte, number, ranged, name, entry, same_bytes,
 use Rattle.format.specs.Contents.{unnamed_leaf, unnamed_event}
 use Rattle.format.specs.ListChecks.{nothing_behind, section_alone, by_entries, named_check}
 use Rattle.format.specs.Told.{at_front}
-use Rattle.writer.specs.declared.Writing.{Writing}
+use Rattle.flow.specs.declared.Refusal.{Refusal}
+use Rattle.writer.specs.declared.Size.{Size}
 use Rattle.writer.specs.Told.{WritingTold, writing_told, writing_written, writing_refused}
 use Rattle.writer.specs.Writing.{lists_bytes, write_check, wrote, put_first, writing, bytes_first, WrittenAs}
 use Rattle.promises.specs.Worked.{worked, meeting}
@@ -94,16 +95,16 @@ meeting_bytes : meeting_to 94 ≡ take 59 (encode meeting) ++ (1 ∷ 0 ∷ (meet
 unfolding meeting_to joint_kind xor encode names_section numbers_section sets_section entries_bytes entry_bytes name_bytes numbers_bytes number_bytes run ◌>>=◌ byte number ranged name entry same_bytes same_step same_entry met new_entry entries names unnamed_leaf unnamed_event is_event_number is_closing_number no_nodes not_whole too_many_nodes unknown_kind no_such_set wrong_field not_lower is_child taken wrong_sort child_taken nobodys_child wrong_sets no_records too_many_records no_record closings_wanted closed wrong_closings closings_place after_closings or_else_check answer first each node_grounds child_grounds value_grounds nothing_behind section_alone by_entries named_check lists_bytes write_check put_first
 meeting_bytes = refl
 
-pub worked_written : (file : List ℕ) (r : Writing) → WrittenAs section worked.nodes worked.records [] (replicate 66 7) file r
+pub worked_written : (file : List ℕ) (r : Result Size Refusal) → WrittenAs section worked.nodes worked.records [] (replicate 66 7) file r
     → file ≡ section ++ (6 ∷ 0 ∷ (drop 21 (encode worked) ++ (7 ∷ [])))
 unfolding written_to
 worked_written file r w = w.file_after ∙ worked_bytes
 
-pub short_kept : (file : List ℕ) (r : Writing) → WrittenAs section worked.nodes worked.records [] (replicate 64 7) file r → file ≡ replicate 64 7
+pub short_kept : (file : List ℕ) (r : Result Size Refusal) → WrittenAs section worked.nodes worked.records [] (replicate 64 7) file r → file ≡ replicate 64 7
 unfolding written_to
 short_kept file r w = w.file_after ∙ short_bytes
 
-pub meeting_written : (file : List ℕ) (r : Writing)
+pub meeting_written : (file : List ℕ) (r : Result Size Refusal)
     → WrittenAs (names_section meeting.names) meeting.nodes meeting.records meeting.sets (replicate 94 7) file r
     → file ≡ take 59 (encode meeting) ++ (1 ∷ 0 ∷ (meeting.sets ++ (7 ∷ [])))
 unfolding meeting_to

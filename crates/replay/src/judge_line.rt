@@ -45,7 +45,7 @@ pub fn judge_lists(lists: Lists, work: &mut [u8], allowance: u32, out: &mut [u8]
     ensures work_after { let l = lists.entry in work.new ≡ lent_work_after (option_copied l.names) l.sets.now l.nodes.now l.records.now (replicate (length work.old) filler) }
     ensures upper_bound { result ≤ 49 }
 {
-    filler::fill(work);
+    work.fill(filler::FILLER);
     let answer = answer(lists, work, allowance);
     write_case(answer, lists, work, out)
 }

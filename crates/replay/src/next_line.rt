@@ -70,7 +70,7 @@ fn zeros_left(answer: Next, lists: Lists) -> usize
 fn clean(answer: Next, lists: Lists, list: &[u16], work: &[u8]) -> bool
     ensures { let l = lists.entry in result ≡ next_clean answer (length l.nodes.now) (length l.records.now) list.now work.now }
 {
-    filler::numbers_kept(length_listed(answer), list)
+    filler::kept(filler::NUMBER_FILLER, length_listed(answer), list)
         && promised::clean(zeros_left(answer, lists), work)
 }
 
@@ -112,8 +112,8 @@ pub fn next_lists(
     ensures next_case_of { let l = lists.entry in NextCaseOf (option_copied l.names) l.sets.now l.nodes.now l.records.now allowance list.old work.old list.new work.new out.old out.new result }
     ensures upper_bound { result ≤ 2884 }
 {
-    filler::fill_numbers(list);
-    filler::fill(work);
+    list.fill(filler::NUMBER_FILLER);
+    work.fill(filler::FILLER);
     let answer = answer(lists, list, work, allowance);
     let clean = clean(answer, lists, list, work);
     write_case(answer, list, clean, out)

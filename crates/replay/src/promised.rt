@@ -11,7 +11,7 @@ use judge::Answer;
 pub fn clean(zeros: usize, work: &[u8]) -> bool
     ensures { result ≡ is_clean zeros work.now }
 {
-    filler::bytes_kept(zeros, work) && filler::all_are(0, &work[..zeros])
+    filler::kept(filler::FILLER, zeros, work) && filler::all_are(0, &work[..zeros])
 }
 
 // How many work bytes a call wants.

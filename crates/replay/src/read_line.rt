@@ -71,11 +71,8 @@ fn records_taken(answer: Result<Counts, Refusal>) -> usize
 fn clean(answer: Result<Counts, Refusal>, nodes: &[u16], records: &[u16]) -> bool
     ensures { result ≡ tables_clean answer nodes.now records.now }
 {
-    if filler::numbers_kept(nodes_taken(answer), nodes) {
-        filler::numbers_kept(records_taken(answer), records)
-    } else {
-        false
-    }
+    filler::kept(filler::NUMBER_FILLER, nodes_taken(answer), nodes)
+        && filler::kept(filler::NUMBER_FILLER, records_taken(answer), records)
 }
 
 fn write_case(answer: Result<Counts, Refusal>, clean: bool, out: &mut [u8]) -> usize
@@ -96,8 +93,8 @@ pub fn read_tables(file: &[u8], nodes: &mut [u16], records: &mut [u16], out: &mu
     ensures records_after { records.new ≡ at_front (reading file.now (length nodes.old) (length records.old)).records (replicate (length records.old) number_filler) }
     ensures prefix_len { IsPrefixLen result out.new }
 {
-    filler::fill_numbers(nodes);
-    filler::fill_numbers(records);
+    nodes.fill(filler::NUMBER_FILLER);
+    records.fill(filler::NUMBER_FILLER);
     let answer = reader::read(file, nodes, records);
     write_case(answer, clean(answer, nodes, records), out)
 }

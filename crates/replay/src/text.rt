@@ -23,10 +23,8 @@ pub fn put_hex(bytes: &[u8], out: &mut [u8], at: usize) -> usize
     ensures upper_bound { result ≤ at + 2 * length bytes.now }
 {
     let mut end = at;
-    let mut i = 0;
-    while i < bytes.len() {
-        end = line::put_byte(bytes[i], out, end);
-        i += 1;
+    for byte in bytes {
+        end = line::put_byte(*byte, out, end);
     }
     end
 }
@@ -38,10 +36,8 @@ pub fn put_numbers(numbers: &[u16], out: &mut [u8], at: usize) -> usize
     ensures upper_bound { result ≤ at + 11 * length numbers.now }
 {
     let mut end = at;
-    let mut i = 0;
-    while i < numbers.len() {
-        end = line::put_number(numbers[i] as u32, out, end);
-        i += 1;
+    for number in numbers {
+        end = line::put_number(u32::from(*number), out, end);
     }
     end
 }

@@ -9,7 +9,8 @@ ghost use Rattle.replay.specs.Filler.{filler};
 ghost use Rattle.replay.specs.WriteLine.{length_written, file_clean, written_text, write_text, write_line, Printable};
 
 use crate::{filler, text};
-use writer::{Size, Writing};
+use flow::Refusal;
+use writer::Size;
 
 fn put_written(size: Size, file: &[u8], out: &mut [u8]) -> usize
     requires length_bound { size.length ≤ 22408 }
@@ -25,35 +26,35 @@ fn put_written(size: Size, file: &[u8], out: &mut [u8]) -> usize
     text::put_hex(&file[..n], out, c)
 }
 
-fn put_writing(answer: Writing, file: &[u8], out: &mut [u8]) -> usize
+fn put_writing(answer: Result<Size, Refusal>, file: &[u8], out: &mut [u8]) -> usize
     requires printable { Printable answer file.now }
     requires in_bounds { 44835 ≤ length out.old }
     ensures put { Put (write_text answer file.now) out.old 0 out.new result }
     ensures upper_bound { result ≤ 44835 }
 {
     match answer {
-        Writing::Written(e) => put_written(e, file, out),
-        Writing::Refused(r) => text::put_refused(r, out),
+        Ok(e) => put_written(e, file, out),
+        Err(r) => text::put_refused(r, out),
     }
 }
 
 // How many bytes were written.
-fn length_written(answer: Writing) -> usize
+fn length_written(answer: Result<Size, Refusal>) -> usize
     ensures { result ≡ length_written answer }
 {
     match answer {
-        Writing::Written(e) => e.length as usize,
-        Writing::Refused(_) => 0,
+        Ok(e) => e.length as usize,
+        Err(_) => 0,
     }
 }
 
-fn clean(answer: Writing, file: &[u8]) -> bool
+fn clean(answer: Result<Size, Refusal>, file: &[u8]) -> bool
     ensures { result ≡ file_clean answer file.now }
 {
-    filler::bytes_kept(length_written(answer), file)
+    filler::kept(filler::FILLER, length_written(answer), file)
 }
 
-fn write_case(answer: Writing, file: &[u8], clean: bool, out: &mut [u8]) -> usize
+fn write_case(answer: Result<Size, Refusal>, file: &[u8], clean: bool, out: &mut [u8]) -> usize
     requires printable { Printable answer file.now }
     requires in_bounds { 44842 ≤ length out.old }
     ensures put { Put (write_line answer file.now clean) out.old 0 out.new result }
@@ -77,7 +78,7 @@ pub fn write_lists(
     ensures file_after { file.new ≡ at_front (bytes_first names.now nodes.now records.now sets.now (length file.old)) (replicate (length file.old) filler) }
     ensures prefix_len { IsPrefixLen result out.new }
 {
-    filler::fill(file);
+    file.fill(filler::FILLER);
     let answer = writer::write(names, nodes, records, sets, file);
     write_case(answer, file, clean(answer, file), out)
 }

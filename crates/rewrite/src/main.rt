@@ -5,18 +5,17 @@
 
 use judge::Answer;
 use std::io;
-use writer::Writing;
 
 fn main(rt: HostRuntime) -> io::Result<()> {
     let mut file = [0u8; 22409];
     let got = intake::read_full(&mut rt.stdin(), &mut file)?;
     let mut copy = [0u8; 22409];
     match program::rewrite_file(&file[..got], &mut copy) {
-        Writing::Written(e) => {
+        Ok(e) => {
             let end = e.length as usize;
             rt.write_all(&copy[..end])
         }
-        Writing::Refused(r) => {
+        Err(r) => {
             let mut line = [0u8; 64];
             let end = line::write_line(program::line_for(Answer::Refused(r)), &mut line);
             rt.stderr().write_all(&line[..end])

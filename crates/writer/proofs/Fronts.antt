@@ -1,5 +1,6 @@
 -- Lists at the front of a room, one put behind another; and how long a file is. Assumes nothing.
-use Rattle.std.specs.Prelude.{ℕ, ◌+◌, ◌*◌, ◌-◌, ◌/◌, ◌%◌, ◌<◌, ◌≤◌, List, [], ◌∷◌, ◌++◌, ◌≡◌, refl, length, get_or, take, drop, set}
+use Rattle.std.specs.Prelude.{ℕ, ◌+◌, ◌*◌, ◌-◌, ◌/◌, ◌%◌, ◌<◌, ◌≤◌, List, [], ◌∷◌, ◌++◌, ◌≡◌, refl, length, get_or, take, drop}
+use Rattle.std.specs.Int.{w16, to_le_bytes}
 use Rattle.std.proofs.Common.{append_assoc, append-nil, sym, ap, ap₂, ◌∙◌, add-one, arith, length-append, length-drop, drop_of_length-le, drop-drop, take_all, take_at, take-suc, drop_at}
 use Rattle.std.proofs.Math.Seq.{take-length}
 use Rattle.format.specs.Format.{number_bytes, numbers_bytes, numbers_section, sets_section}
@@ -38,14 +39,25 @@ front_then xs ys t {room} {part} {n} {k} e en ek ep =
         ap₂ (λ (a b : List ℕ). a ++ b) (ep ∙ ap (at_front ys) behind) (drop_of_length-le (drop n room) whole)
         ∙ append-nil (at_front ys (drop (length xs) t))
 
+-- xs stand in front; ys are copied behind them
+pub front_copied : (xs ys t : List ℕ) {room copy : List ℕ} {n k : ℕ} → room ≡ at_front xs t → n ≡ length xs → k ≡ length ys → copy ≡ ys
+    → take n room ++ (copy ++ drop k (drop n room)) ≡ at_front (xs ++ ys) t
+front_copied xs ys t {room} {copy} {n} {k} e en ek ec =
+    ap₂ (λ (a b : List ℕ). a ++ b) head tail ∙ sym (append_assoc xs ys (drop (length ys) (drop (length xs) t)))
+    ∙ ap (λ (a : List ℕ). (xs ++ ys) ++ a) (drop-drop (length ys) (length xs) t ∙ ap (λ (j : ℕ). drop j t) (sym (length-append xs ys)))
+  where
+    head : take n room ≡ xs
+    head = ap (take n) e ∙ take_at xs (drop (length xs) t) n (sym en)
+
+    tail : copy ++ drop k (drop n room) ≡ ys ++ drop (length ys) (drop (length xs) t)
+    tail = ap₂ (λ (a b : List ℕ). a ++ b) ec (ap₂ (λ (j : ℕ) (b : List ℕ). drop j b) ek (ap (drop n) e ∙ drop_at xs (drop (length xs) t) n (sym en)))
+
 ---- Numbers ----
 
--- the two bytes of a number, stored one after the other
-pub number_front : (n : ℕ) (t : List ℕ) → 2 ≤ length t → set (set t 0 (n % 256)) 1 (n / 256) ≡ at_front (number_bytes n) t
+-- the two bytes of a number, the low one first
+pub number_low_first : (n : ℕ) → n < 65536 → to_le_bytes w16 n ≡ number_bytes n
 unfolding number_bytes
-number_front n [] h = absurd (omega arith)
-number_front n (a ∷ []) h = absurd (omega arith)
-number_front n (a ∷ b ∷ t) h = refl
+number_low_first n h = let e : n / 256 % 256 ≡ n / 256 = omega arith in ap (λ (k : ℕ). n % 256 ∷ k ∷ []) e
 
 numbers_bytes_more : (ns : List ℕ) (n : ℕ) → numbers_bytes (ns ++ (n ∷ [])) ≡ numbers_bytes ns ++ number_bytes n
 unfolding numbers_bytes number_bytes

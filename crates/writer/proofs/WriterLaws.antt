@@ -21,8 +21,6 @@ use Rattle.format.specs.ListChecks.{section_alone, lists_check}
 use Rattle.format.specs.Lengths.{sets_length_most}
 use Rattle.format.specs.ListLaws.{alone_bad, alone_longer, fine_sets, lists_passed, lists_then}
 use Rattle.writer.specs.declared.Size.{Size}
-use Rattle.writer.specs.declared.Writing.{Writing}
-use Rattle.writer.specs.declared.Writing.TheVariants.{Written, Refused}
 use Rattle.writer.specs.Told.{writing_told}
 use Rattle.writer.specs.Writing.{lists_bytes, write_check, wrote, put_first, writing, bytes_first, WrittenAs}
 use Rattle.writer.proofs.Fronts.{lists_length}
@@ -103,23 +101,23 @@ module _ (s ns rs sets file : List ℕ) where
   left : {c : Result ⊤ Refusal} → write_check s ns rs sets (length file) ≡ c → at_front (bytes_first s ns rs sets (length file)) file ≡ at_front (put_first (lists_bytes s ns rs sets) c) file
   left e = ap (λ (x : Result ⊤ Refusal). at_front (put_first (lists_bytes s ns rs sets) x) file) e
 
-  pub refused_as : {r : Refusal} → write_check s ns rs sets (length file) ≡ Err r → WrittenAs s ns rs sets file file (Refused r)
+  pub refused_as : {r : Refusal} → write_check s ns rs sets (length file) ≡ Err r → WrittenAs s ns rs sets file file (Err r)
   unfolding wrote put_first
   refused_as e = record { answer = sym (ap (wrote (lists_bytes s ns rs sets)) e); file_after = sym (left e) }
 
   pub written_as : {file' : List ℕ} {n : ℕ} → write_check s ns rs sets (length file) ≡ Ok tt → n ≡ length (lists_bytes s ns rs sets) → file' ≡ at_front (lists_bytes s ns rs sets) file
-      → WrittenAs s ns rs sets file file' (Written (record { length = n }))
+      → WrittenAs s ns rs sets file file' (Ok (record { length = n }))
   unfolding wrote put_first
-  written_as e en ef = record { answer = ap (λ (k : ℕ). Written (record { length = k })) en ∙ sym (ap (wrote (lists_bytes s ns rs sets)) e); file_after = ef ∙ sym (left e) }
+  written_as e en ef = record { answer = ap (λ (k : ℕ). Ok (record { length = k })) en ∙ sym (ap (wrote (lists_bytes s ns rs sets)) e); file_after = ef ∙ sym (left e) }
 
 ---- What a caller knows ----
 
 -- what is written is not refused
-written_not_refused : {A : Type 0} {e : Size} {r : Refusal} → Written e ≡ Refused r → A
+written_not_refused : {A : Type 0} {e : Size} {r : Refusal} → Ok e ≡ Err r → A
 written_not_refused h = let z : ◌≡◌ {A = ℕ} 0 1 = cc in absurd (omega arith)
 
 module _ (s ns rs sets : List ℕ) (room : ℕ) where
-  pub written_lists : {e : Size} → writing s ns rs sets room ≡ Written e → WrittenLists s ns rs sets room e
+  pub written_lists : {e : Size} → writing s ns rs sets room ≡ Ok e → WrittenLists s ns rs sets room e
   unfolding wrote put_first writing_told
   written_lists {e} h = by (write_check s ns rs sets room) refl
     where
@@ -127,7 +125,7 @@ module _ (s ns rs sets : List ℕ) (room : ℕ) where
       by (Ok tt) q =
           let fine = both_fine _ _ (sym (check_parts s ns rs sets room) ∙ q) in
           let few = fine_lists s ns rs sets fine.0 in
-          let sized : e.length ≡ length (lists_bytes s ns rs sets) = ap (λ (w : Writing). (writing_told w).length) (sym h ∙ ap (wrote (lists_bytes s ns rs sets)) q) in
+          let sized : e.length ≡ length (lists_bytes s ns rs sets) = ap (λ (w : Result Size Refusal). (writing_told w).length) (sym h ∙ ap (wrote (lists_bytes s ns rs sets)) q) in
           record {
             first = ap (put_first (lists_bytes s ns rs sets)) q;
             sized = sized;
@@ -136,7 +134,7 @@ module _ (s ns rs sets : List ℕ) (room : ℕ) where
           }
       by (Err r) q = written_not_refused (sym h ∙ ap (wrote (lists_bytes s ns rs sets)) q)
 
-  pub refused_lists : {r : Refusal} → writing s ns rs sets room ≡ Refused r → bytes_first s ns rs sets room ≡ []
+  pub refused_lists : {r : Refusal} → writing s ns rs sets room ≡ Err r → bytes_first s ns rs sets room ≡ []
   unfolding wrote put_first
   refused_lists {r} h = by (write_check s ns rs sets room) refl
     where

@@ -1,8 +1,8 @@
 -- What an answer of the writer tells: the paper's number, place and length for each case. Every promise is stated of it. Definitions
 -- only. Assumes nothing.
-use Rattle.std.specs.Prelude.{ℕ}
-use Rattle.writer.specs.declared.Writing.{Writing}
-use Rattle.writer.specs.declared.Writing.TheVariants.{Written, Refused}
+use Rattle.std.specs.Prelude.{ℕ, Result, Ok, Err}
+use Rattle.flow.specs.declared.Refusal.{Refusal}
+use Rattle.writer.specs.declared.Size.{Size}
 
 -- the refusal number or 0, and its place; the length of the file
 pub record WritingTold : Type 0 where
@@ -16,6 +16,6 @@ writing_written length = record { number = 0; place = 0; length = length }
 abbrev pub writing_refused : ℕ → ℕ → WritingTold
 writing_refused number place = record { number = number; place = place; length = 0 }
 
-unfoldable pub writing_told : Writing → WritingTold
-writing_told (Written e) = writing_written e.length
-writing_told (Refused r) = writing_refused r.number r.place
+unfoldable pub writing_told : Result Size Refusal → WritingTold
+writing_told (Ok e) = writing_written e.length
+writing_told (Err r) = writing_refused r.number r.place

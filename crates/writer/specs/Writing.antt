@@ -9,8 +9,8 @@ use Rattle.format.specs.Format.{Entry, numbers_section, sets_section}
 use Rattle.format.specs.Contents.{lists_order}
 use Rattle.format.specs.Told.{at_front}
 use Rattle.format.specs.ListChecks.{named_check}
-use Rattle.writer.specs.declared.Writing.{Writing}
-use Rattle.writer.specs.declared.Writing.TheVariants.{Written, Refused}
+use Rattle.flow.specs.declared.Refusal.{Refusal}
+use Rattle.writer.specs.declared.Size.{Size}
 
 -- the names section as it is lent, then the nodes and the records, and the sets where there are any
 unfoldable pub lists_bytes : List ℕ → List ℕ → List ℕ → List ℕ → List ℕ
@@ -27,21 +27,21 @@ module _ (s ns rs sets : List ℕ) (room : ℕ) where
   write_check = named_check s order_by_bytes
 
 -- the answer, and the bytes that stand first then
-unfoldable pub wrote : List ℕ → Result ⊤ Refusal → Writing
-wrote bytes (Ok tt) = Written (record { length = length bytes })
-wrote bytes (Err r) = Refused r
+unfoldable pub wrote : List ℕ → Result ⊤ Refusal → Result Size Refusal
+wrote bytes (Ok tt) = Ok (record { length = length bytes })
+wrote bytes (Err r) = Err r
 
 unfoldable pub put_first : List ℕ → Result ⊤ Refusal → List ℕ
 put_first bytes (Ok tt) = bytes
 put_first bytes (Err r) = []
 
-abbrev pub writing : List ℕ → List ℕ → List ℕ → List ℕ → ℕ → Writing
+abbrev pub writing : List ℕ → List ℕ → List ℕ → List ℕ → ℕ → Result Size Refusal
 writing s ns rs sets room = wrote (lists_bytes s ns rs sets) (write_check s ns rs sets room)
 
 abbrev pub bytes_first : List ℕ → List ℕ → List ℕ → List ℕ → ℕ → List ℕ
 bytes_first s ns rs sets room = put_first (lists_bytes s ns rs sets) (write_check s ns rs sets room)
 
 -- the contract of `write`
-pub record WrittenAs (s ns rs sets file file' : List ℕ) (r : Writing) : Type 0 where
+pub record WrittenAs (s ns rs sets file file' : List ℕ) (r : Result Size Refusal) : Type 0 where
   pub answer : r ≡ writing s ns rs sets (length file)
   pub file_after : file' ≡ at_front (bytes_first s ns rs sets (length file)) file

@@ -16,27 +16,12 @@ pub struct Size {
     pub length: u32,
 }
 
-#[derive(Clone, Copy)]
-pub enum Writing {
-    Written(Size),
-    Refused(Refusal),
-}
-
-// The bytes as they are at the front of the room; the rest of it stays.
-fn put_bytes(bytes: &[u8], room: &mut [u8])
-    requires { length bytes.now ≤ length room.old }
-    ensures { room.new ≡ at_front bytes.now room.old }
-{
-    room[..bytes.len()].copy_from_slice(bytes);
-}
-
 // Two bytes at the front of the room, the low one first; the rest of it stays.
 fn put_number(number: u16, room: &mut [u8])
     requires { 2 ≤ length room.old }
     ensures { room.new ≡ at_front (number_bytes number) room.old }
 {
-    room[0] = (number % 256) as u8;
-    room[1] = (number / 256) as u8;
+    room[..2].copy_from_slice(&number.to_le_bytes());
 }
 
 // The numbers, one after the other, at the front of the room.
@@ -44,11 +29,9 @@ fn put_numbers(numbers: &[u16], room: &mut [u8])
     requires { 2 * length numbers.now ≤ length room.old }
     ensures { room.new ≡ at_front (numbers_bytes numbers.now) room.old }
 {
-    let mut i = 0;
-    while i < numbers.len() {
+    for (i, number) in numbers.iter().enumerate() {
         let at = 2 * i;
-        put_number(numbers[i], &mut room[at..]);
-        i += 1;
+        put_number(*number, &mut room[at..]);
     }
 }
 
@@ -67,7 +50,7 @@ fn sets_room(sets: &[u8]) -> usize
     requires { length sets.now ≤ 512 }
     ensures { result ≡ length (sets_section sets.now) }
 {
-    if sets.len() == 0 {
+    if sets.is_empty() {
         return 0;
     }
     2 + sets.len()
@@ -78,12 +61,13 @@ fn put_sets(sets: &[u8], room: &mut [u8])
     requires { (length sets.now ≤ 512) × (length (sets_section sets.now) ≤ length room.old) }
     ensures { room.new ≡ at_front (sets_section sets.now) room.old }
 {
-    if sets.len() == 0 {
+    if sets.is_empty() {
         return;
     }
     let count = sets.len() / flow::SET_BYTES;
     put_number(count as u16, room);
-    put_bytes(sets, &mut room[2..]);
+    let end = 2 + sets.len();
+    room[2..end].copy_from_slice(sets);
 }
 
 // The sections: the names as they are lent, with their count, then nodes, records and sets.
@@ -92,7 +76,7 @@ fn put_lists(names: &[u8], nodes: &[u16], records: &[u16], sets: &[u8], file: &m
     ensures { file.new ≡ at_front (lists_bytes names.now nodes.now records.now sets.now) file.old }
 {
     let from = names.len();
-    put_bytes(names, file);
+    file[..from].copy_from_slice(names);
     put_section(nodes, 3, &mut file[from..]);
     let mid = from + 2 + 2 * nodes.len();
     put_section(records, 1, &mut file[mid..]);
@@ -101,16 +85,20 @@ fn put_lists(names: &[u8], nodes: &[u16], records: &[u16], sets: &[u8], file: &m
 }
 
 // The flow file of a names section, nodes, records and sets, at the front of the lent bytes, whose rest stays; or a refusal, and all stay.
-pub fn write(names: &[u8], nodes: &[u16], records: &[u16], sets: &[u8], file: &mut [u8]) -> Writing
+pub fn write(
+    names: &[u8],
+    nodes: &[u16],
+    records: &[u16],
+    sets: &[u8],
+    file: &mut [u8],
+) -> Result<Size, Refusal>
     ensures { WrittenAs names.now nodes.now records.now sets.now file.old file.new result }
 {
-    if let Err(refusal) = format::check_lists(names, nodes, records, sets, Extent::Whole) {
-        return Writing::Refused(refusal);
-    }
+    format::check_lists(names, nodes, records, sets, Extent::Whole)?;
     let end = names.len() + 4 + 2 * (nodes.len() + records.len()) + sets_room(sets);
     if file.len() < end {
-        return Writing::Refused(format::refusal(flow::NO_ROOM, 0));
+        return Err(format::refusal(flow::NO_ROOM, 0));
     }
     put_lists(names, nodes, records, sets, file);
-    Writing::Written(Size { length: end as u32 })
+    Ok(Size { length: end as u32 })
 }

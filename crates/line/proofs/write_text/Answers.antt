@@ -7,5 +7,6 @@ use Rattle.line.proofs.write_text.Goals as goal
 pub returns-clause-put : goal.returns-clause-put
 unfolding text_of
 returns-clause-put c =
-    put_then c.put_word-a.ensures.put (omega arith)
-    (put_then c.put_number-b.ensures.put (omega arith) (put_then c.put_number-c.ensures.put (omega arith) c.put_number.ensures.put))
+    let word = rw c.text.ensures.spelled at c.put-a.ensures in
+    let number = rw c.from.ensures at c.put_number-b.ensures.put in
+    put_then word (omega arith) (put_then number (omega arith) (put_then c.put_number-c.ensures.put (omega arith) c.put_number.ensures.put))

@@ -9,8 +9,9 @@ pub returns : goal.returns
 returns c =
     let l = c.args.lists in
     let names = option_copied l.names in
+    let filled = c.fill.ensures.after (λ y e. e) in
     let j = c.answer-answer.ensures in record {
-      put = case_clean (lent_judge_check names l.sets.now l.nodes.now l.records.now) (length c.args.work.now) {flow = lent_flow names l.sets.now l.nodes.now} c.fill.ensures j c.write_case.ensures.put;
-      work_after = rw c.fill.ensures at j.leaves;
+      put = case_clean (lent_judge_check names l.sets.now l.nodes.now l.records.now) (length c.args.work.now) {flow = lent_flow names l.sets.now l.nodes.now} filled j c.write_case.ensures.put;
+      work_after = rw filled at j.leaves;
       upper_bound = c.write_case.ensures.upper_bound;
     }

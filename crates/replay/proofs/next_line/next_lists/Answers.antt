@@ -16,8 +16,8 @@ pub returns : goal.returns
 returns c =
     let l = c.args.lists in
     let names = option_copied l.names in
-    let filled = c.fill_numbers.ensures in
-    let cleaned = c.fill.ensures in
+    let filled = c.fill.ensures.after (λ y e. e) in
+    let cleaned = c.fill-2.ensures.after (λ y e. e) in
     let h = c.answer-answer.ensures in record {
       next_case_of = next_case (lent_next_check names l.sets.now l.nodes.now l.records.now) (length c.args.list.now) (length c.args.work.now) {flow = lent_flow names l.sets.now l.nodes.now} filled cleaned h c.clean-clean.ensures c.write_case.ensures.put;
       upper_bound = c.write_case.ensures.upper_bound;

@@ -19,8 +19,8 @@ pub returns : goal.returns
 returns c =
     let nr = length c.args.nodes.now in
     let rr = length c.args.records.now in
-    let fn = c.fill_numbers.ensures in
-    let fr = c.fill_numbers-2.ensures in
+    let fn = c.fill.ensures.after (λ y e. e) in
+    let fr = c.fill-2.ensures.after (λ y e. e) in
     let r = c.read-answer.ensures in
     let p = c.requires in
     let l = put_length c.write_case.ensures.put (omega arith) in record {

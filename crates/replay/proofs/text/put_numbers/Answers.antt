@@ -1,38 +1,22 @@
 -- `replay::text::put_numbers` meets its contract: so many numbers stand there, and the rest of the room is as it was. Assumes nothing.
 use native.Mathlib.Omega.{arith}
-use Rattle.line.specs.TextLaws.{put_none, put_as_long, put_room, put_more, put_all}
+use Rattle.line.specs.TextLaws.{put_none, put_room, put_more, put_all}
 use Rattle.replay.proofs.text.put_numbers.Goals as goal
 
-pub loop-i-init : goal.loop-i-init
-loop-i-init c = put_none
-
-pub offset_bounds-numbers-i : goal.offset_bounds-numbers-i
-offset_bounds-numbers-i c = omega arith
-
-pub bounds-numbers-i : goal.bounds-numbers-i
-bounds-numbers-i c = omega arith
-
-pub overflow_cast-numbers : goal.overflow_cast-numbers
-overflow_cast-numbers c = omega (arith, c.shared_slice_known-in-loop-i-1.given c.loop-i.i)
+pub loop-number-init : goal.loop-number-init
+loop-number-init c = put_none
 
 pub put_number-end-requires : goal.put_number-end-requires
-put_number-end-requires c = put_room c.requires c.loop-i.invariant (omega arith)
+put_number-end-requires c = put_room c.requires c.loop-number.invariant (omega arith)
 
-pub overflow_add-i : goal.overflow_add-i
-overflow_add-i c = omega arith
-
-pub loop-i-smaller : goal.loop-i-smaller
-loop-i-smaller c = omega arith
-
-pub loop-i-preserved : goal.loop-i-preserved
-loop-i-preserved c = put_more c.requires c.loop-i.invariant (omega arith) c.put_number-end.ensures.put c.put_number-end.ensures.upper_bound
-
-pub shape_of-out : goal.shape_of-out
-shape_of-out c = put_as_long c.requires c.loop-i.invariant
+pub loop-number-preserved : goal.loop-number-preserved
+loop-number-preserved c =
+    let one = rw c.from.ensures at c.put_number-end.ensures.put in
+    put_more c.requires c.loop-number.invariant (omega arith) one c.put_number-end.ensures.upper_bound
 
 pub returns : goal.returns
 returns c =
-    let whole = put_all c.requires c.loop-i.invariant (omega arith) in record {
+    let whole = put_all c.requires c.loop-number.invariant (omega arith) in record {
       put = whole.0;
       upper_bound = whole.1;
     }

@@ -3,10 +3,10 @@ use mathlib.Core.Path.{sym, ap}
 use Rattle.replay.specs.WriteLine.{length_written}
 use Rattle.replay.proofs.write_line.length_written.Goals as goal
 
-pub returns-in-Written : goal.returns-in-Written
+pub returns-in-Ok : goal.returns-in-Ok
 unfolding length_written
-returns-in-Written c = sym (ap length_written c.in-Written.is)
+returns-in-Ok c = sym (ap length_written c.in-Ok.is)
 
-pub returns-in-Refused : goal.returns-in-Refused
+pub returns-in-Err : goal.returns-in-Err
 unfolding length_written
-returns-in-Refused c = sym (ap length_written c.in-Refused.is)
+returns-in-Err c = sym (ap length_written c.in-Err.is)

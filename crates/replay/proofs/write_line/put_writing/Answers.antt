@@ -6,24 +6,24 @@ use Rattle.replay.proofs.write_line.put_writing.Goals as goal
 pub put_written-requires : goal.put_written-requires
 unfolding length_written
 put_written-requires c =
-    let e = c.in-Written.is in record {
+    let e = c.in-Ok.is in record {
       length_bound = rw e at c.requires.printable.short;
       length_in_bounds = rw e at c.requires.printable.there;
       in_bounds = c.requires.in_bounds;
     }
 
-pub returns-in-Written : goal.returns-in-Written
+pub returns-in-Ok : goal.returns-in-Ok
 unfolding write_text
-returns-in-Written c =
+returns-in-Ok c =
     record {
-      put = rw c.in-Written.is c.put_written.ensures.put;
+      put = rw c.in-Ok.is c.put_written.ensures.put;
       upper_bound = c.put_written.ensures.upper_bound;
     }
 
-pub returns-in-Refused : goal.returns-in-Refused
+pub returns-in-Err : goal.returns-in-Err
 unfolding write_text
-returns-in-Refused c =
+returns-in-Err c =
     record {
-      put = rw c.in-Refused.is c.put_refused.ensures.put;
+      put = rw c.in-Err.is c.put_refused.ensures.put;
       upper_bound = omega arith;
     }

@@ -18,7 +18,7 @@ write_case-requires c =
 pub returns : goal.returns
 returns c =
     let room = length c.args.file.now in
-    let f = c.fill.ensures in
+    let f = c.fill.ensures.after (λ y e. e) in
     let h = c.write-answer.ensures in
     let p = c.requires in
     let l = put_length c.write_case.ensures.put (omega arith) in record {
