@@ -70,14 +70,12 @@ fn write_listed(asks: &[u64], list: &mut [u16]) -> u32
     ensures value { result ≡ length (picked all_numbers asks.now) }
     ensures written { list.new ≡ at_front (picked all_numbers asks.now) list.old }
 {
-    let mut j = 0;
     let mut n: usize = 0;
-    while j < matching::NUMBERS {
-        if asks[j] == search::FOLLOWS {
-            list[n] = matching::nth_number(j);
+    for (place, ask) in asks.iter().enumerate() {
+        if *ask == search::FOLLOWS {
+            list[n] = matching::nth_number(place);
             n += 1;
         }
-        j += 1;
     }
     n as u32
 }

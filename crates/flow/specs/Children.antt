@@ -97,17 +97,17 @@ module _ (ns : List ℕ) (i : ℕ) (m : List Bool) (sorts : Sorts ns i m) where
 
 -- 9, read off the marks of all nodes
 module _ (ns : List ℕ) (m : List Bool) (marks : Marks ns (count ns) m) (i : ℕ) (small : i < 64) where
-  nobody_is : (b : Bool) → b ≡ get_or m i false → nobodys_child ns i ≡ not b
+  nobody_is : nobodys_child ns i ≡ not (get_or m i false)
   unfolding nobodys_child
-  nobody_is b e = ap not (sym (e ∙ marks.each i small))
+  nobody_is = ap not (sym (marks.each i small))
 
-  pub nobody_held : (b : Bool) → b ≡ get_or m i false → not b ≡ true → first (child_grounds ns i) ≡ refused 9 i
+  pub nobody_held : get_or m i false ≡ false → first (child_grounds ns i) ≡ refused 9 i
   unfolding child_grounds
-  nobody_held b e t = single_held 9 i (nobodys_child ns i) (nobody_is b e ∙ t)
+  nobody_held e = single_held 9 i (nobodys_child ns i) (nobody_is ∙ ap not e)
 
-  pub nobody_passed : (b : Bool) → b ≡ get_or m i false → not b ≡ false → first (child_grounds ns i) ≡ Ok tt
+  pub nobody_passed : get_or m i false ≡ true → first (child_grounds ns i) ≡ Ok tt
   unfolding child_grounds
-  nobody_passed b e t = single_passed 9 i (nobodys_child ns i) (nobody_is b e ∙ t)
+  nobody_passed e = single_passed 9 i (nobodys_child ns i) (nobody_is ∙ ap not e)
 
 pub marks_none : (ns : List ℕ) → Marks ns 0 (replicate 64 false)
 unfolding taken

@@ -134,6 +134,20 @@ module _ (f : ℕ → List Ground) (i n : ℕ) where
 pub each_start : (f : ℕ → List Ground) (n : ℕ) → first (each f 0 (n - 0)) ≡ first (each f 0 n)
 each_start f n = let e : n - 0 ≡ n = omega arith in rw e
 
+-- the check of all n places: by the first that is not passed
+module _ (f : ℕ → List Ground) (n : ℕ) where
+  passed_up_to : (i : ℕ) → i ≤ n → ((j : ℕ) → j < i → first (f j) ≡ Ok tt) → first (each f i (n - i)) ≡ first (each f 0 n)
+  passed_up_to zero h p = each_start f n
+  passed_up_to (suc i) h p =
+      ap (λ (k : ℕ). first (each f k (n - k))) (sym (add-one i)) ∙ sym (each_passed f i n (omega arith) (p i (omega arith)))
+      ∙ passed_up_to i (omega arith) (λ j l. p j (omega arith))
+
+  pub earliest_held : (i : ℕ) → i < n → ((j : ℕ) → j < i → first (f j) ≡ Ok tt) → (r : Refusal) → first (f i) ≡ Err r → first (each f 0 n) ≡ Err r
+  earliest_held i h p r e = sym (passed_up_to i (omega arith) p) ∙ each_held f i n h r e
+
+  pub all_passed : ((j : ℕ) → j < n → first (f j) ≡ Ok tt) → first (each f 0 n) ≡ Ok tt
+  all_passed p = sym (passed_up_to n (omega arith) p) ∙ each_over f n n (omega arith)
+
 -- a check of one ground
 module _ (number place : ℕ) (b : Bool) where
   pub single_held : b ≡ true → first (ground_of number place b ∷ []) ≡ refused number place

@@ -1,13 +1,13 @@
 -- What the small functions of the checks go by: what is asked of a node without children and of one with them, a node's fields and what
 -- is refused of them, what the marks of taken children and the sorts of the nodes passed say, and what is known of the closings while the
 -- records are gone through. Definitions only. Assumes nothing.
-use Rattle.std.specs.Prelude.{ℕ, ◌+◌, ◌<◌, ◌≤◌, ◌≡◌, Bool, true, false, not, ◌&&◌, ◌||◌, cond, List, T, eqb, leb, length, get_or, set, drop}
+use Rattle.std.specs.Prelude.{ℕ, ◌+◌, ◌<◌, ◌≤◌, ◌≡◌, Bool, true, false, not, ◌&&◌, ◌||◌, cond, List, T, eqb, leb, length, get_or, set, drop, Option, Some, None}
 use Rattle.std.specs.Bool.{xor}
 use Rattle.flow.specs.declared.Form.{Form}
 use Rattle.flow.specs.declared.Fields.{Fields}
 use Rattle.flow.specs.Kinds.{node, is_standard, one_of, two_of}
 use Rattle.flow.specs.Records.{is_event_number}
-use Rattle.flow.specs.Refusals.{has_one, has_two, taken, closed, after_closings, too_many_closings, extra_closing}
+use Rattle.flow.specs.Refusals.{has_one, has_two, taken, too_many_closings, extra_closing}
 
 -- of the kinds without children, and of those with them
 abbrev pub leaf_form : Bool → Bool → Form
@@ -63,15 +63,12 @@ pub record Sorts (ns : List ℕ) (i : ℕ) (sorts : List Bool) : Type 0 where
   pub size : length sorts ≡ 64
   pub each : (c : ℕ) → c < i → get_or sorts c false ≡ is_standard (node ns c)
 
--- i records are passed, and `left` closings of the wanted ones are to come
-pub record Passed (rs : List ℕ) (wanted i left : ℕ) : Type 0 where
-  pub within : i ≤ length rs
-  pub some : 1 ≤ left
-  pub closes : closed (drop i rs) left ≡ closed rs wanted
-  pub place : i + after_closings (drop i rs) left ≡ after_closings rs wanted
+-- where the closing behind n others is, if there is one
+abbrev pub nth_closing : List ℕ → ℕ → Option ℕ
+nth_closing rs n = cond (too_many_closings rs n) (Some (extra_closing rs n)) None
 
--- i records of a beginning are passed, and `left` closings of the allowed ones may come
-pub record PassedOpen (rs : List ℕ) (allowed i left : ℕ) : Type 0 where
+-- i records are passed, and the one looked for is behind `left` of the other closings
+pub record Passed (rs : List ℕ) (n i left : ℕ) : Type 0 where
   pub within : i ≤ length rs
-  pub many : too_many_closings (drop i rs) left ≡ too_many_closings rs allowed
-  pub place : i + extra_closing (drop i rs) left ≡ extra_closing rs allowed
+  pub many : too_many_closings (drop i rs) left ≡ too_many_closings rs n
+  pub place : i + extra_closing (drop i rs) left ≡ extra_closing rs n

@@ -4,11 +4,11 @@
 // the contracts cite are in specs/. Nothing is written here but marks of the function's own, and no lent slice is changed.
 #![tactic(auto)]
 
-ghost use Rattle.std.specs.Prelude.{◌≡◌, Ok, true, false, cond, ◌&&◌, ◌+◌, ◌*◌, ◌-◌, ◌<◌, ◌≤◌, T, ltb, leb, length, get_or, set};
+ghost use Rattle.std.specs.Prelude.{◌≡◌, Ok, IfSome, true, false, cond, ◌&&◌, ◌+◌, ◌*◌, ◌-◌, ◌<◌, ◌≤◌, T, ltb, leb, length, get_or, set};
 ghost use Rattle.std.specs.Bool.{xor};
 ghost use Rattle.flow.specs.declared.Extent.TheVariants.{Whole, Beginning};
 ghost use Rattle.flow.specs.Kinds.{node_of, node, one_of, two_of, form, most_sets, operator_set, set_number};
-ghost use Rattle.flow.specs.Forms.{leaf_form, branch_form, fields, field_fault, low_fault, sort_fault, taken_fault, with_child, with_children, Within, Marks, Sorts};
+ghost use Rattle.flow.specs.Forms.{nth_closing, leaf_form, branch_form, fields, field_fault, low_fault, sort_fault, taken_fault, with_child, with_children, Within, Marks, Sorts};
 ghost use Rattle.flow.specs.Records.{is_event_number, is_closing_number};
 ghost use Rattle.flow.specs.Refusals.{no_record, closings_wanted, node_grounds, child_grounds, count};
 ghost use Rattle.flow.specs.Checks.{refused, first, each, table_length_check, sets_check, table_check, nodes_check, values_check, closings_check, records_length_check, records_check};
@@ -96,7 +96,7 @@ pub const DONE_CUE: u64 = 281470681804801;
 
 pub const WITHDRAWN_CUE: u64 = 281470681804802;
 
-const MOST_EVENTS: u16 = 256;
+pub const MOST_EVENTS: u16 = 256;
 
 // How many sets of joint events there may be, and how many bytes each has. No set has the number behind the last one's.
 pub const MOST_SETS: usize = 16;
@@ -109,16 +109,36 @@ pub const MOST_NODES: usize = 64;
 
 pub const MOST_RECORDS: usize = 256;
 
-// The refusals, by document 01's numbers, that others give too: of a count in a flow file, and of room that is too short.
+// The refusals, by document 01's numbers. The public ones others give too: of a count in a flow file, and of room that is too short.
 pub const NO_NODES: u16 = 1;
 
+const PART_OF_NODE: u16 = 2;
+
 pub const TOO_MANY_NODES: u16 = 3;
+
+const UNKNOWN_KIND: u16 = 4;
+
+const WRONG_FIELD: u16 = 5;
+
+const NOT_LOWER: u16 = 6;
+
+const WRONG_SORT: u16 = 7;
+
+const CHILD_TAKEN: u16 = 8;
+
+const NOBODYS_CHILD: u16 = 9;
 
 pub const NO_RECORDS: u16 = 10;
 
 pub const TOO_MANY_RECORDS: u16 = 11;
 
+const NO_RECORD: u16 = 12;
+
+const WRONG_CLOSINGS: u16 = 13;
+
 pub const NO_ROOM: u16 = 14;
+
+const NO_SUCH_SET: u16 = 22;
 
 pub const WRONG_SETS: u16 = 23;
 
@@ -427,23 +447,23 @@ fn check_node(
     let decoded = node_at(nodes, i);
     let asked = form_of(decoded);
     if !asked.known {
-        return refuse(4, i);
+        return refuse(UNKNOWN_KIND, i);
     }
     if no_such_set(set_number(decoded), many) {
-        return refuse(22, i);
+        return refuse(NO_SUCH_SET, i);
     }
     let f = fields_at(nodes, i, asked);
     if wrong_field(asked.event, f) {
-        return refuse(5, i);
+        return refuse(WRONG_FIELD, i);
     }
     if not_lower(i, f) {
-        return refuse(6, i);
+        return refuse(NOT_LOWER, i);
     }
     if wrong_sort(sorts, f, asked.inner) {
-        return refuse(7, i);
+        return refuse(WRONG_SORT, i);
     }
     if child_taken(marks, f) {
-        return refuse(8, i);
+        return refuse(CHILD_TAKEN, i);
     }
     mark_children(marks, f);
     sorts[i] = asked.standard;
@@ -456,15 +476,11 @@ fn check_children(nodes: &[u16], marks: &[bool; 64]) -> Result<(), Refusal>
     requires marks { Marks nodes.now (count nodes.now) marks.now }
     ensures { result ≡ first (each (child_grounds nodes.now) 0 (count nodes.now - 1)) }
 {
-    let n = nodes.len() / 3;
-    let mut i = 0;
-    while i + 1 < n {
-        if !marked(marks, i, true) {
-            return refuse(9, i);
-        }
-        i += 1;
+    let others = (nodes.len() / 3).saturating_sub(1);
+    match marks[..others].iter().position(|taken| !*taken) {
+        Some(i) => refuse(NOBODYS_CHILD, i),
+        None => Ok(()),
     }
-    Ok(())
 }
 
 // 4 to 9, with 22, of at most 64 whole nodes, where so many sets are present.
@@ -472,13 +488,10 @@ pub fn check_nodes(nodes: &[u16], many: usize) -> Result<(), Refusal>
     requires { length nodes.now ≤ 192 }
     ensures { result ≡ nodes_check many nodes.now }
 {
-    let n = nodes.len() / 3;
     let mut marks = [false; 64];
     let mut sorts = [false; 64];
-    let mut i = 0;
-    while i < n {
+    for i in 0..nodes.len() / 3 {
         check_node(nodes, i, many, &mut marks, &mut sorts)?;
-        i += 1;
     }
     check_children(nodes, &marks)
 }
@@ -491,7 +504,7 @@ pub fn check_table_length(nodes: &[u16]) -> Result<(), Refusal>
         return refuse(NO_NODES, 0);
     }
     if nodes.len() % 3 != 0 {
-        return refuse(2, 0);
+        return refuse(PART_OF_NODE, 0);
     }
     if nodes.len() / 3 > MOST_NODES {
         return refuse(TOO_MANY_NODES, 0);
@@ -523,14 +536,10 @@ pub fn check_values(records: &[u16]) -> Result<(), Refusal>
     requires { length records.now ≤ 256 }
     ensures { result ≡ values_check records.now }
 {
-    let mut i = 0;
-    while i < records.len() {
-        if no_record(records[i]) {
-            return refuse(12, i);
-        }
-        i += 1;
+    match records.iter().position(|number| no_record(*number)) {
+        Some(i) => refuse(NO_RECORD, i),
+        None => Ok(()),
     }
-    Ok(())
 }
 
 // How many closings the root takes.
@@ -542,27 +551,38 @@ fn closings_wanted(nodes: &[u16]) -> u16
     if form.standard { 1 } else { 2 }
 }
 
+// Where the closing behind n others is, if there is one.
+fn nth_closing(records: &[u16], n: u16) -> Option<usize>
+    ensures value { result ≡ nth_closing records.now n }
+    ensures within { IfSome result (λ i. i < length records.now) }
+{
+    let mut left = n;
+    for (i, number) in records.iter().enumerate() {
+        if is_closing(*number) {
+            if left == 0 {
+                return Some(i);
+            }
+            left -= 1;
+        }
+    }
+    None
+}
+
 // 13 of a whole list, of at most 256 records.
 fn check_whole_closings(nodes: &[u16], records: &[u16]) -> Result<(), Refusal>
     requires in_bounds { 3 ≤ length nodes.now }
     requires records_len_bound { length records.now ≤ 256 }
     ensures { result ≡ closings_check Whole nodes.now records.now }
 {
-    let mut left = closings_wanted(nodes);
-    let mut i = 0;
-    while i < records.len() {
-        if is_closing(records[i]) {
-            if left == 1 {
-                if i + 1 == records.len() {
-                    return Ok(());
-                }
-                return refuse(13, i + 1);
+    match nth_closing(records, closings_wanted(nodes) - 1) {
+        Some(i) => {
+            if i + 1 == records.len() {
+                return Ok(());
             }
-            left -= 1;
+            refuse(WRONG_CLOSINGS, i + 1)
         }
-        i += 1;
+        None => refuse(WRONG_CLOSINGS, records.len()),
     }
-    refuse(13, i)
 }
 
 // 13 of a beginning, of at most 256 records: the last closing that the root wants is one too many.
@@ -571,18 +591,11 @@ fn check_open(nodes: &[u16], records: &[u16]) -> Result<(), Refusal>
     requires records_len_bound { length records.now ≤ 256 }
     ensures { result ≡ closings_check Beginning nodes.now records.now }
 {
-    let mut left = closings_wanted(nodes) - 1;
-    let mut i = 0;
-    while i < records.len() {
-        if is_closing(records[i]) {
-            if left == 0 {
-                return refuse(13, i);
-            }
-            left -= 1;
-        }
-        i += 1;
+    let allowed = closings_wanted(nodes) - 1;
+    match nth_closing(records, allowed) {
+        Some(i) => refuse(WRONG_CLOSINGS, i),
+        None => Ok(()),
     }
-    Ok(())
 }
 
 // 13, of at most 256 records.

@@ -351,7 +351,7 @@ fn unnamed_leaf(nodes: &[u16], i: usize, names: u16) -> bool
 fn unnamed_event(number: u16, names: u16) -> bool
     ensures { result ≡ unnamed_event names number }
 {
-    (number <= 256) & (names < number)
+    (number <= flow::MOST_EVENTS) & (names < number)
 }
 
 // 19: the lowest event leaf above the number of names, of at most 64 whole nodes.
@@ -359,15 +359,10 @@ fn check_leaves(nodes: &[u16], names: u16) -> Result<(), Refusal>
     requires { length nodes.now ≤ 192 }
     ensures { result ≡ first (leaves_grounds names nodes.now) }
 {
-    let n = nodes.len() / 3;
-    let mut i: usize = 0;
-    while i < n {
-        if unnamed_leaf(nodes, i, names) {
-            return Err(refusal(NO_NAME_FOR_NODE, i));
-        }
-        i += 1;
+    match (0..nodes.len() / 3).find(|i| unnamed_leaf(nodes, *i, names)) {
+        Some(i) => Err(refusal(NO_NAME_FOR_NODE, i)),
+        None => Ok(()),
     }
-    Ok(())
 }
 
 // 20: the lowest event record above the number of names, of at most 256 records.
@@ -375,14 +370,13 @@ fn check_events(records: &[u16], names: u16) -> Result<(), Refusal>
     requires { length records.now ≤ 256 }
     ensures { result ≡ first (events_grounds names records.now) }
 {
-    let mut i: usize = 0;
-    while i < records.len() {
-        if unnamed_event(records[i], names) {
-            return Err(refusal(NO_NAME_FOR_RECORD, i));
-        }
-        i += 1;
+    match records
+        .iter()
+        .position(|number| unnamed_event(*number, names))
+    {
+        Some(i) => Err(refusal(NO_NAME_FOR_RECORD, i)),
+        None => Ok(()),
     }
-    Ok(())
 }
 
 // 4 to 9, with 22, 12, 13, 19 and 20, of the nodes, records, number of names and number of sets that stand in a file.

@@ -1,18 +1,12 @@
--- `ahead::write_listed` meets its contract: the loop's invariant: the numbers among the first j whose asks are answered stand in front, and
+-- `ahead::write_listed` meets its contract: the loop's invariant: the numbers among the first places whose asks are answered stand in front, and
 -- are n. Assumes nothing.
 use native.Mathlib.Omega.{arith}
 use Rattle.ahead.proofs.PickedLaws.{listed_none, listed_yes, listed_no, listed_many, listed_all}
 use Rattle.ahead.proofs.write_listed.Goals as goal
-use Rattle.ahead.proofs.write_listed.Goals.{then-asks-j-eq-FOLLOWS, else-asks-j-eq-FOLLOWS}
+use Rattle.ahead.proofs.write_listed.Goals.{then-ask-eq-FOLLOWS, else-ask-eq-FOLLOWS}
 
-pub loop-j-init : goal.loop-j-init
-loop-j-init c = listed_none _ _
-
-pub offset_bounds-asks-j : goal.offset_bounds-asks-j
-offset_bounds-asks-j c = omega arith
-
-pub bounds-asks-j : goal.bounds-asks-j
-bounds-asks-j c = omega arith
+pub loop-place-init : goal.loop-place-init
+loop-place-init c = listed_none _ _
 
 pub nth_number-requires : goal.nth_number-requires
 nth_number-requires c = omega arith
@@ -21,36 +15,30 @@ pub offset_bounds-list-n : goal.offset_bounds-list-n
 offset_bounds-list-n c = omega arith
 
 pub bounds-list-n : goal.bounds-list-n
-bounds-list-n c = omega (arith, c.loop-j.invariant.size)
+bounds-list-n c = omega (arith, c.loop-place.invariant.size)
 
 pub overflow_add-n : goal.overflow_add-n
 overflow_add-n c = omega arith
 
-pub overflow_add-j : goal.overflow_add-j
-overflow_add-j c = omega arith
-
-pub loop-j-smaller : goal.loop-j-smaller
-loop-j-smaller c = omega arith
-
-pub loop-j-preserved : goal.loop-j-preserved
-loop-j-preserved c =
+pub loop-place-preserved : goal.loop-place-preserved
+loop-place-preserved c =
     let qs = c.args.asks.now in
     let list = c.args.list.now in
-    elim c.if-asks-j-eq-FOLLOWS.branch [
-      | then-asks-j-eq-FOLLOWS w ↦ rw (w.list-is, w.n-is) (listed_yes qs list c.requires.0 c.loop-j.invariant c.requires.1 (omega arith) w.if-asks-j-eq-FOLLOWS.true w.nth_number.ensures)
-      | else-asks-j-eq-FOLLOWS w ↦ rw (w.list-is, w.n-is) (listed_no qs list c.requires.0 c.loop-j.invariant (omega arith) w.if-asks-j-eq-FOLLOWS.false)
+    elim c.if-ask-eq-FOLLOWS.branch [
+      | then-ask-eq-FOLLOWS w ↦ rw (w.list-is, w.n-is) (listed_yes qs list c.requires.0 c.loop-place.invariant c.requires.1 (omega arith) w.if-ask-eq-FOLLOWS.true w.nth_number.ensures)
+      | else-ask-eq-FOLLOWS w ↦ rw (w.list-is, w.n-is) (listed_no qs list c.requires.0 c.loop-place.invariant (omega arith) w.if-ask-eq-FOLLOWS.false)
     ]
 
 pub overflow_cast-result : goal.overflow_cast-result
 overflow_cast-result c = omega arith
 
 pub shape_of-list : goal.shape_of-list
-shape_of-list c = c.loop-j.invariant.size
+shape_of-list c = c.loop-place.invariant.size
 
 pub returns : goal.returns
 returns c =
     let a = c.args in
     let all = c.requires.0 in record {
-      value = listed_many a.asks.now a.list.now all c.loop-j.invariant (omega arith);
-      written = listed_all a.asks.now a.list.now all c.loop-j.invariant (omega arith);
+      value = listed_many a.asks.now a.list.now all c.loop-place.invariant (omega arith);
+      written = listed_all a.asks.now a.list.now all c.loop-place.invariant (omega arith);
     }

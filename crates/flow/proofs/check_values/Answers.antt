@@ -1,37 +1,26 @@
--- `flow::check_values` meets its contract: what is left to check is the grounds from `i` on. Assumes nothing.
-use Prim.Native.Nat.{◌<◌}
-use mathlib.Core.Path.{sym, ◌∙◌}
+-- `flow::check_values` meets its contract: the record that is found is the first of which 12 holds. Assumes nothing.
+use mathlib.Core.Path.{◌≡◌, sym, ◌∙◌}
+use mathlib.Core.Bool.{true, false}
 use native.Mathlib.Omega.{arith}
-use lib.ListN.{length, get_or}
-use Rattle.flow.specs.Refusals.{value_grounds, no_record}
+use lib.ListN.{length}
+use Rattle.std.proofs.Common.{rules, tests}
+use Rattle.std.proofs.lemmas.Iterator.{IsFirst-from_position, YieldsList-from_slice}
+use Rattle.std.proofs.option.Match.{if_some, if_none}
+use Rattle.flow.specs.FirstRefusal.{earliest_held, all_passed, single_held, single_passed}
+use Rattle.flow.specs.Refusals.{no_record, value_grounds}
 use Rattle.flow.specs.Checks.{values_check}
-use Rattle.flow.specs.FirstRefusal.{each_start, each_held, each_passed, each_over, single_held, single_passed}
 use Rattle.flow.proofs.check_values.Goals as goal
 
-pub loop-i-init : goal.loop-i-init
-unfolding values_check
-loop-i-init c = (omega arith, each_start (value_grounds c.args.records.now) (length c.args.records.now))
-
-pub returns-then-no_record : goal.returns-then-no_record
-unfolding value_grounds
-returns-then-no_record c =
+pub returns-in-Some : goal.returns-in-Some
+unfolding values_check value_grounds
+returns-in-Some c =
     let rs = c.args.records.now in
-    let l = c.loop-i in
-    let h : l.i < length rs = c.loop-i-test.true in
-    let e = single_held 12 l.i (no_record (get_or rs l.i 0)) (sym c.no_record.ensures ∙ c.if-no_record.true) in
-    c.refuse.ensures ∙ sym (each_held (value_grounds rs) l.i (length rs) h _ e) ∙ l.invariant.1
+    let first = if_some _ _ _ c.in-Some.is (IsFirst-from_position _ _ _ (λ x. no_record x ≡ true) (λ x. no_record x ≡ false) c.position.ensures.ran (YieldsList-from_slice _ c.iter.ensures.rest) (λ x q k. search (rules, tests)) (λ x q k. search (rules, tests))) in
+    c.refuse.ensures ∙ sym (earliest_held (value_grounds rs) (length rs) c.in-Some.i first.0 (λ j l. single_passed 12 j _ (first.2 j 0 (omega arith) l)) _ (single_held 12 c.in-Some.i _ (first.1 0)))
 
-pub loop-i-preserved : goal.loop-i-preserved
-unfolding value_grounds
-loop-i-preserved c =
+pub returns-in-None : goal.returns-in-None
+unfolding values_check value_grounds
+returns-in-None c =
     let rs = c.args.records.now in
-    let l = c.loop-i in
-    let h : l.i < length rs = c.loop-i-test.true in
-    let e = single_passed 12 l.i (no_record (get_or rs l.i 0)) (sym c.no_record.ensures ∙ c.if-no_record.false) in
-    (omega arith, sym (each_passed (value_grounds rs) l.i (length rs) h e) ∙ l.invariant.1)
-
-pub returns : goal.returns
-returns c =
-    let rs = c.args.records.now in
-    let l = c.loop-i in
-    sym (each_over (value_grounds rs) l.i (length rs) c.loop-i-test.false) ∙ l.invariant.1
+    let none = if_none _ _ c.in-None.is (IsFirst-from_position _ _ _ (λ x. no_record x ≡ true) (λ x. no_record x ≡ false) c.position.ensures.ran (YieldsList-from_slice _ c.iter.ensures.rest) (λ x q k. search (rules, tests)) (λ x q k. search (rules, tests))) in
+    sym (all_passed (value_grounds rs) (length rs) (λ j l. single_passed 12 j _ (none j 0 (omega arith) l)))

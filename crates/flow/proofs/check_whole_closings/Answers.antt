@@ -1,50 +1,41 @@
--- `flow::check_whole_closings` meets its contract: how many closings are still to come is kept with what was passed (Closings). Assumes nothing.
-use Prim.Native.Nat.{◌+◌, ◌≤◌, ◌<◌}
-use mathlib.Core.Bool.{true}
-use mathlib.Core.Path.{◌≡◌, sym, ◌∙◌}
-use lib.ListN.{get_or, length}
-use Rattle.flow.specs.Closings.{wanted_some, passed_none, passed_event, passed_closing, closed_last, closed_early, place_early, closed_late, place_late, closings_fine, closings_refused}
-use Rattle.flow.specs.Records.{is_closing_number}
-use Rattle.flow.specs.Refusals.{closings_wanted}
+-- `flow::check_whole_closings` meets its contract: the closing behind those that are allowed must be the last record. Assumes nothing.
+use mathlib.Core.Path.{sym, ap, ◌∙◌}
+use native.Mathlib.Omega.{arith}
+use Prim.Native.Nat.{ℕ, ◌-◌}
+use Rattle.flow.specs.Forms.{nth_closing}
+use Rattle.flow.specs.Closings.{wanted_some, closed_fine, closed_early, closed_late}
+use Rattle.flow.specs.Refusals.{closings_allowed}
 use Rattle.flow.proofs.check_whole_closings.Goals as goal
-use Rattle.flow.proofs.check_whole_closings.Goals.{then-is_closing+else-left-eq1, else-is_closing}
 
-pub loop-i-init : goal.loop-i-init
-loop-i-init c = rw c.closings_wanted-left.ensures (passed_none _ _ (wanted_some _))
+pub overflow_sub-closings_wanted : goal.overflow_sub-closings_wanted
+overflow_sub-closings_wanted c = omega (arith, c.closings_wanted.ensures, wanted_some c.args.nodes.now)
+
+pub overflow_add-i : goal.overflow_add-i
+overflow_add-i c = omega (arith, c.in-Some.ensures.within, c.requires.records_len_bound)
+
+pub overflow_add-i-in-Some : goal.overflow_add-i-in-Some
+overflow_add-i-in-Some c = omega (arith, c.in-Some.ensures.within, c.requires.records_len_bound)
+
+pub refuse-requires : goal.refuse-requires
+refuse-requires c = omega (arith, c.in-Some.ensures.within, c.requires.records_len_bound)
 
 pub returns-then-i-records : goal.returns-then-i-records
+unfolding closings_allowed
 returns-then-i-records c =
-    let l = c.loop-i in
-    let ns = c.args.nodes.now in
     let rs = c.args.records.now in
-    let h : l.i < length rs = c.loop-i-test.true in
-    let e : is_closing_number (get_or rs l.i 0) ≡ true = sym c.is_closing.ensures ∙ c.if-is_closing.true in
-    sym (closings_fine ns rs (closed_last rs (closings_wanted ns) l.i l.left h l.invariant e c.if-left-eq1.true c.if-i-records.true))
+    let found = ap (λ (k : ℕ). nth_closing rs (k - 1)) (sym c.closings_wanted.ensures) ∙ sym c.nth_closing.ensures.value ∙ c.in-Some.is in
+    sym (closed_fine c.args.nodes.now rs c.in-Some.i found c.if-i-records.true)
 
-pub returns-then-left-eq1 : goal.returns-then-left-eq1
-returns-then-left-eq1 c =
-    let l = c.loop-i in
-    let ns = c.args.nodes.now in
+pub returns-else-i-records : goal.returns-else-i-records
+unfolding closings_allowed
+returns-else-i-records c =
     let rs = c.args.records.now in
-    let h : l.i < length rs = c.loop-i-test.true in
-    let e : is_closing_number (get_or rs l.i 0) ≡ true = sym c.is_closing.ensures ∙ c.if-is_closing.true in
-    let one = c.if-left-eq1.true in
-    c.refuse.ensures ∙ sym (closings_refused ns rs (l.i + 1) (closed_early rs (closings_wanted ns) l.i l.left h l.invariant e one c.if-i-records.false) (place_early rs (closings_wanted ns) l.i l.left h l.invariant e one))
+    let found = ap (λ (k : ℕ). nth_closing rs (k - 1)) (sym c.closings_wanted.ensures) ∙ sym c.nth_closing.ensures.value ∙ c.in-Some.is in
+    c.refuse.ensures ∙ sym (closed_early c.args.nodes.now rs c.in-Some.i found c.if-i-records.false)
 
-pub loop-i-preserved : goal.loop-i-preserved
-loop-i-preserved c =
-    let l = c.loop-i in
-    let ns = c.args.nodes.now in
+pub returns-in-None : goal.returns-in-None
+unfolding closings_allowed
+returns-in-None c =
     let rs = c.args.records.now in
-    let h : l.i < length rs = c.loop-i-test.true in
-    let e = sym c.is_closing.ensures in
-    elim c.if-is_closing.branch [ then-is_closing+else-left-eq1 w ↦ rw w.left-is (passed_closing rs (closings_wanted ns) l.i l.left h l.invariant (e ∙ w.if-is_closing.true) w.if-left-eq1.false) | else-is_closing w ↦ rw w.left-is (passed_event rs (closings_wanted ns) l.i l.left h l.invariant (e ∙ w.if-is_closing.false)) ]
-
-pub returns : goal.returns
-returns c =
-    let l = c.loop-i in
-    let ns = c.args.nodes.now in
-    let rs = c.args.records.now in
-    let h : length rs ≤ l.i = c.loop-i-test.false in
-    c.refuse-2.ensures
-    ∙ sym (closings_refused ns rs l.i (closed_late rs (closings_wanted ns) l.i l.left h l.invariant) (place_late rs (closings_wanted ns) l.i l.left h l.invariant))
+    let none = ap (λ (k : ℕ). nth_closing rs (k - 1)) (sym c.closings_wanted.ensures) ∙ sym c.nth_closing.ensures.value ∙ c.in-None.is in
+    c.refuse-in-None.ensures ∙ sym (closed_late c.args.nodes.now rs none)

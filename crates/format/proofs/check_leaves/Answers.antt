@@ -1,40 +1,36 @@
--- `format::check_leaves` meets its contract: the loop's invariant: the grounds from node i on give what all of them give.
--- Assumes nothing.
-use Prim.Native.Nat.{◌<◌}
-use mathlib.Core.Path.{refl, ap, sym, ◌∙◌}
+-- `format::check_leaves` meets its contract: the node that is found is the first of which 19 holds. Assumes nothing.
+use mathlib.Core.Path.{◌≡◌, ap, sym, ◌∙◌}
+use mathlib.Core.Bool.{true, false}
 use native.Mathlib.Omega.{arith}
 use Rattle.std.specs.Prelude.{Err}
-use Rattle.flow.specs.FirstRefusal.{each_start, each_held, each_passed, each_over, single_held, single_passed}
+use Rattle.std.proofs.Common.{rules, tests}
+use Rattle.std.proofs.lemmas.Iterator.{first_from_Range}
+use Rattle.std.proofs.option.Match.{if_some, if_none}
+use Rattle.flow.specs.FirstRefusal.{earliest_held, all_passed, single_held, single_passed}
 use Rattle.flow.specs.Refusals.{count}
 use Rattle.format.specs.Contents.{leaf_grounds, unnamed_leaf}
 use Rattle.format.specs.ContentChecks.{leaves_grounds}
 use Rattle.format.proofs.check_leaves.Goals as goal
 
-pub loop-i-init : goal.loop-i-init
+pub refusal-requires : goal.refusal-requires
+refusal-requires c =
+    let ns = c.args.nodes.now in
+    let k = c.args.names in
+    let first = if_some _ _ _ c.in-Some.is (first_from_Range _ _ _ _ (λ i. unnamed_leaf k ns i ≡ true) (λ i. unnamed_leaf k ns i ≡ false) c.find.ensures.ran (λ x q k. search (rules, tests)) (λ x q k. search (rules, tests))) in
+    omega (arith, first.1, c.requires)
+
+pub returns-in-Some : goal.returns-in-Some
 unfolding leaves_grounds
-loop-i-init c = (refl, omega arith, each_start (leaf_grounds c.args.names c.args.nodes.now) (count c.args.nodes.now))
-
-pub returns-then-unnamed_leaf : goal.returns-then-unnamed_leaf
-returns-then-unnamed_leaf c =
-    let xs = c.args.nodes.now in
+returns-in-Some c =
+    let ns = c.args.nodes.now in
     let k = c.args.names in
-    let l = c.loop-i in
-    let h : l.i < count xs = omega arith in
-    let e = single_held 19 l.i (unnamed_leaf k xs l.i) (sym c.unnamed_leaf.ensures ∙ c.if-unnamed_leaf.true) in
-    ap Err c.refusal.ensures ∙ sym (each_held (leaf_grounds k xs) l.i (count xs) h _ e) ∙ l.invariant.2
+    let first = if_some _ _ _ c.in-Some.is (first_from_Range _ _ _ _ (λ i. unnamed_leaf k ns i ≡ true) (λ i. unnamed_leaf k ns i ≡ false) c.find.ensures.ran (λ x q k. search (rules, tests)) (λ x q k. search (rules, tests))) in
+    ap Err c.refusal.ensures ∙ sym (earliest_held (leaf_grounds k ns) (count ns) c.in-Some.i first.1 (λ j l. single_passed 19 j _ (first.3 j (omega arith) l)) _ (single_held 19 c.in-Some.i _ first.2))
 
-pub loop-i-preserved : goal.loop-i-preserved
-loop-i-preserved c =
-    let xs = c.args.nodes.now in
+pub returns-in-None : goal.returns-in-None
+unfolding leaves_grounds
+returns-in-None c =
+    let ns = c.args.nodes.now in
     let k = c.args.names in
-    let l = c.loop-i in
-    let h : l.i < count xs = omega arith in
-    let e = single_passed 19 l.i (unnamed_leaf k xs l.i) (sym c.unnamed_leaf.ensures ∙ c.if-unnamed_leaf.false) in
-    (refl, omega arith, sym (each_passed (leaf_grounds k xs) l.i (count xs) h e) ∙ l.invariant.2)
-
-pub returns : goal.returns
-returns c =
-    let xs = c.args.nodes.now in
-    let k = c.args.names in
-    let l = c.loop-i in
-    sym (each_over (leaf_grounds k xs) l.i (count xs) (omega arith)) ∙ l.invariant.2
+    let none = if_none _ _ c.in-None.is (first_from_Range _ _ _ _ (λ i. unnamed_leaf k ns i ≡ true) (λ i. unnamed_leaf k ns i ≡ false) c.find.ensures.ran (λ x q k. search (rules, tests)) (λ x q k. search (rules, tests))) in
+    sym (all_passed (leaf_grounds k ns) (count ns) (λ j l. single_passed 19 j _ (none j (omega arith) l)))
