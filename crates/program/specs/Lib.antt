@@ -3,6 +3,7 @@ pub mod Program
 pub mod Listing
 -- Definitions that need not be believed.
 pub mod FileParts
+pub mod FileTables
 pub mod Answering
 pub mod Rewriting
 pub mod NextFile

@@ -1,13 +1,13 @@
 -- What may follow can be shown by the names that are lent (`listed_showable`). Then what is known where a list is answered (`listed_so`), the
 -- text by the answer (`listed_printed`, `undecided_printed`, `refused_printed`), and that of a file by what the reader answered
 -- (`refused_file`, `held_file`). Assumes nothing.
-use Prim.Native.Nat.{ℕ, zero, suc, ◌-◌, ◌≤◌, ◌<◌}
-use Rattle.std.proofs.Common.{arith, inl, inr, ◌∙◌, subst, ne_eqb, ltb-true, length-append, take_at, take-take, length-take-le}
+use Prim.Native.Nat.{ℕ, zero, suc, ◌*◌, ◌-◌, ◌≤◌, ◌<◌}
+use Rattle.std.proofs.Common.{arith, inl, inr, ◌∙◌, subst, ne_eqb, ltb-true, length-append, take_at, length-take-le}
 use Rattle.std.proofs.Math.Bool.{Bool, true, false, cond}
 use Rattle.std.specs.Prelude.{◌⊎◌, ◌≡◌, eqb, ltb, get_or, drop, Result, Ok, Err, ⊤}
 use Rattle.std.proofs.lemmas.Bool.{false≢true}
 use mathlib.Core.List.{List, [], ◌∷◌}
-use Rattle.std.proofs.Math.Path.{refl, sym, ap, ap₂}
+use Rattle.std.proofs.Math.Path.{refl, sym, ap}
 use Rattle.std.proofs.Math.ListN.{length, take}
 use Rattle.calculus.specs.Records.{State, event}
 use Rattle.calculus.specs.Ahead.{may_follow, entered}
@@ -40,10 +40,12 @@ use Rattle.line.specs.Line.{line_of}
 use Rattle.reader.specs.declared.Counts.{Counts}
 use Rattle.reader.specs.Reading.{Outcome, reading}
 use Rattle.program.specs.Program.{states_allowed, work_lent, line_for}
+use Rattle.program.specs.declared.tables.Tables.{Tables}
 use Rattle.program.specs.FileParts.{names_of, sets_of}
 use Rattle.program.specs.Listing.{all_but_last, so_many, beginning, list_text, answer_text}
 use Rattle.program.specs.NextFile.{tables_text, text_by, file_text, Showable, ListShowable}
-use Rattle.program.specs.ProgramLaws.{Held, sets_all}
+use Rattle.program.specs.FileTables.{Held}
+use Rattle.program.specs.ProgramLaws.{sets_all}
 
 -- the record of an event's number
 event_number : (r : ℕ) → r ≤ most_events → record_of r ≡ event r
@@ -198,19 +200,20 @@ module _ (file : List ℕ) (first : ℕ) where
   unfolding file_text text_by
   refused_file e = sym (ap (λ (a : Result Counts Refusal). text_by file first a (reading file 192 256).nodes (reading file 192 256).records) e)
 
-  module _ {nodes' records' : List ℕ} {c : Counts} {n k : ℕ} (h : Held file nodes' records' c n k) where
-    pub beginning_inside : so_many first k ≤ length records'
-    beginning_inside = omega (arith, so_many_within first k, h.records_inside)
+  module _ {t : Tables} (h : Held file t) {rs : List ℕ} (r : rs ≡ take t.counts.records t.records) where
+    records_length : length rs ≡ t.counts.records
+    records_length = ap length r ∙ length-take-le t.counts.records t.records h.records_inside
 
-    beginning_is : take (so_many first k) records' ≡ beginning first (take k records')
+    pub beginning_inside : so_many first t.counts.records ≤ length rs
+    beginning_inside = omega (arith, so_many_within first t.counts.records, records_length)
+
+    beginning_is : take (so_many first t.counts.records) rs ≡ beginning first (take t.counts.records t.records)
     unfolding beginning
-    beginning_is =
-        sym (take-take (so_many first k) k records' (so_many_within first k))
-        ∙ ap (λ (m : ℕ). take (so_many first m) (take k records')) (sym (length-take-le k records' h.records_inside))
+    beginning_is = ap (λ (m : ℕ). take (so_many first m) rs) (sym records_length) ∙ ap (beginning first) r
 
-    pub held_file : {s : List ℕ} → s ≡ names_of file → tables_text s (take (length file - c.sets_at) (sets_of c file)) (take n nodes') (take (so_many first k) records') ≡ file_text file first
+    pub held_file : {s ns : List ℕ} → s ≡ names_of file → ns ≡ take (3 * t.counts.nodes) t.nodes
+        → tables_text s (take (length file - t.counts.sets_at) (sets_of t.counts file)) ns (take (so_many first t.counts.records) rs) ≡ file_text file first
     unfolding file_text text_by
-    held_file e =
-        ap₂ (λ (s sets : List ℕ). tables_text s sets (take n nodes') (take (so_many first k) records')) e (sets_all c file)
-        ∙ ap (λ (rs : List ℕ). tables_text (names_of file) (sets_of c file) (take n nodes') rs) beginning_is
+    held_file e n =
+        (λ i. tables_text (e i) (sets_all t.counts file i) (n i) (beginning_is i))
         ∙ sym (ap (λ (p : Outcome). text_by file first p.answer p.nodes p.records) h.outcome)

@@ -14,7 +14,9 @@ use Rattle.reader.specs.declared.Counts.{Counts}
 use Rattle.reader.specs.Reading.{Outcome, reading, ReadAs}
 use Rattle.reader.specs.ReaderLaws.{read_file}
 use Rattle.program.specs.Program.{states_allowed, work_lent}
+use Rattle.program.specs.declared.tables.Tables.{Tables}
 use Rattle.program.specs.FileParts.{scanned, names_of, sets_of}
+use Rattle.program.specs.FileTables.{Held}
 use Rattle.program.specs.Answering.{answered, answer_of_file}
 
 ---- The two tables and the sets ----
@@ -24,12 +26,12 @@ front_of : (ns table table' : List ℕ) (n : ℕ) → table' ≡ at_front ns tab
 front_of ns table table' n e l =
     (omega (arith, ap length e, length-append ns (drop (length ns) table)), ap (take n) e ∙ take_at ns (drop (length ns) table) n l)
 
--- by what the reader answered, the first n and k numbers of the two tables are what it read
-pub record Held (s nodes' records' : List ℕ) (c : Counts) (n k : ℕ) : Type 0 where
-  pub nodes_inside : n ≤ length nodes'
-  pub records_inside : k ≤ length records'
+-- by what the reader answered, the first numbers of the two tables are what it read
+pub record Fronts (s nodes' records' : List ℕ) (c : Counts) : Type 0 where
+  pub nodes_inside : 3 * c.nodes ≤ length nodes'
+  pub records_inside : c.records ≤ length records'
   pub sets_inside : c.sets_at ≤ length s
-  pub outcome : reading s 192 256 ≡ record { answer = Ok c; nodes = take n nodes'; records = take k records' }
+  pub outcome : reading s 192 256 ≡ record { answer = Ok c; nodes = take (3 * c.nodes) nodes'; records = take c.records records' }
 
 module _ {s nodes records nodes' records' : List ℕ} {r : Result Counts Refusal}
     (node_room : length nodes ≡ 192) (record_room : length records ≡ 256) (h : ReadAs s nodes records nodes' records' r) where
@@ -39,14 +41,14 @@ module _ {s nodes records nodes' records' : List ℕ} {r : Result Counts Refusal
   pub file_refused : {q : Refusal} → r ≡ Err q → (reading s 192 256).answer ≡ Err q
   file_refused e = ap (λ (p : Outcome). p.answer) (sym told_so) ∙ sym h.answer ∙ e
 
-  pub file_read : {c : Counts} {n k : ℕ} → r ≡ Ok c → n ≡ 3 * c.nodes → k ≡ c.records → Held s nodes' records' c n k
-  file_read {c} {n} {k} e n_is k_is =
+  pub file_read : {c : Counts} → r ≡ Ok c → Fronts s nodes' records' c
+  file_read {c} e =
       let w = read_file s (length nodes) (length records) (sym h.answer ∙ e) in
       let f = w.file in
       let o = w.is in
-      let ns = front_of f.nodes nodes nodes' n (h.nodes_after ∙ ap (λ (p : Outcome). at_front p.nodes nodes) o) (w.whole_nodes ∙ sym n_is) in
-      let rs = front_of f.records records records' k (h.records_after ∙ ap (λ (p : Outcome). at_front p.records records) o)
-      (sym (k_is ∙ ap (λ (d : Counts). d.records) w.counted)) in
+      let ns = front_of f.nodes nodes nodes' (3 * c.nodes) (h.nodes_after ∙ ap (λ (p : Outcome). at_front p.nodes nodes) o) w.whole_nodes in
+      let rs = front_of f.records records records' c.records (h.records_after ∙ ap (λ (p : Outcome). at_front p.records records) o)
+      (sym (ap (λ (d : Counts). d.records) w.counted)) in
       record {
         nodes_inside = ns.0;
         records_inside = rs.0;
@@ -78,9 +80,10 @@ module _ (s : List ℕ) where
   unfolding answer_of_file answered
   refused_answered e = sym (ap (λ (a : Result Counts Refusal). answered s a (reading s 192 256).nodes (reading s 192 256).records) e)
 
-  pub held_answered : {nodes' records' : List ℕ} {c : Counts} {n k : ℕ} → Held s nodes' records' c n k
-      → {part : List ℕ} → part ≡ names_of s → judged_named part (take (length s - c.sets_at) (sets_of c s)) (take n nodes') (take k records') work_lent states_allowed ≡ answer_of_file s
+  pub held_answered : {t : Tables} → Held s t
+      → {part ns rs : List ℕ} → part ≡ names_of s → ns ≡ take (3 * t.counts.nodes) t.nodes → rs ≡ take t.counts.records t.records
+      → judged_named part (take (length s - t.counts.sets_at) (sets_of t.counts s)) ns rs work_lent states_allowed ≡ answer_of_file s
   unfolding answer_of_file answered
-  held_answered {nodes'} {records'} {c} {n} {k} h e =
-      ap₂ (λ (part sets : List ℕ). judged_named part sets (take n nodes') (take k records') work_lent states_allowed) e (sets_all c s)
+  held_answered {t} h e n k =
+      (λ i. judged_named (e i) (sets_all t.counts s i) (n i) (k i) work_lent states_allowed)
       ∙ sym (ap (λ (p : Outcome). answered s p.answer p.nodes p.records) h.outcome)

@@ -1,9 +1,9 @@
 -- From what the reader answered to what comes of a file that is written again. Assumes nothing.
-use Rattle.std.specs.Prelude.{ℕ, ◌-◌, ◌≡◌, take, drop, Result, Ok, Err, ◌≤◌}
+use Rattle.std.specs.Prelude.{ℕ, ◌-◌, ◌≡◌, take, drop, Result, Ok, Err, ◌≤◌, ◌*◌}
 use Rattle.std.specs.Result.{ForOk}
-use Rattle.std.proofs.Common.{arith, ◌∙◌, length-append}
+use Rattle.std.proofs.Common.{arith, ◌∙◌, length-append, subst₂}
 use mathlib.Core.List.{List}
-use Rattle.std.proofs.Math.Path.{sym, ap, subst}
+use Rattle.std.proofs.Math.Path.{sym, ap}
 use Rattle.std.proofs.Math.ListN.{length}
 use Rattle.flow.specs.declared.Refusal.{Refusal}
 use Rattle.format.specs.Told.{at_front}
@@ -12,9 +12,11 @@ use Rattle.reader.specs.Reading.{Outcome, reading}
 use Rattle.writer.specs.declared.Size.{Size}
 use Rattle.writer.specs.Writing.{WrittenAs}
 use Rattle.writer.proofs.WriterLaws.{written_lists}
+use Rattle.program.specs.declared.tables.Tables.{Tables}
 use Rattle.program.specs.FileParts.{names_of, sets_of}
 use Rattle.program.specs.Rewriting.{Copy, refused_copy, copied, rewriting, FileRewritten}
-use Rattle.program.specs.ProgramLaws.{Held, sets_all}
+use Rattle.program.specs.ProgramLaws.{sets_all}
+use Rattle.program.specs.FileTables.{Held}
 
 ---- The file, by what the reader answered ----
 
@@ -26,12 +28,14 @@ module _ {file out : List ℕ} where
       let k = ap (λ (a : Result Counts Refusal). copied file (length out) a o.nodes o.records) e in
       record { answer = sym (ap (λ (c : Copy). c.answer) k); out_after = sym (ap (λ (c : Copy). at_front c.bytes out) k) }
 
-  pub held_rewritten : {nodes' records' out' : List ℕ} {c : Counts} {n k : ℕ} {r : Result Size Refusal} → Held file nodes' records' c n k
-      → {s : List ℕ} → s ≡ names_of file → WrittenAs s (take n nodes') (take k records') (take (length file - c.sets_at) (sets_of c file)) out out' r → FileRewritten file out out' r
+  pub held_rewritten : {t : Tables} {out' : List ℕ} {r : Result Size Refusal} → Held file t
+      → {s ns rs : List ℕ} → s ≡ names_of file → ns ≡ take (3 * t.counts.nodes) t.nodes → rs ≡ take t.counts.records t.records
+      → WrittenAs s ns rs (take (length file - t.counts.sets_at) (sets_of t.counts file)) out out' r → FileRewritten file out out' r
   unfolding rewriting copied
-  held_rewritten {nodes'} {records'} {out'} {c} {n} {k} {r} h e v =
-      let names = subst (λ (s : List ℕ). WrittenAs s (take n nodes') (take k records') (take (length file - c.sets_at) (sets_of c file)) out out' r) e v in
-      let w = subst (λ (sets : List ℕ). WrittenAs (names_of file) (take n nodes') (take k records') sets out out' r) (sets_all c file) names in
+  held_rewritten {t} {out'} {r} h {rs = rs} e n k v =
+      let sets = take (length file - t.counts.sets_at) (sets_of t.counts file) in
+      let a = subst₂ (λ (s ns : List ℕ). WrittenAs s ns rs sets out out' r) e n v in
+      let w = subst₂ (λ (rs sets : List ℕ). WrittenAs (names_of file) (take (3 * t.counts.nodes) t.nodes) rs sets out out' r) k (sets_all t.counts file) a in
       let o = ap (λ (p : Outcome). copied file (length out) p.answer p.nodes p.records) h.outcome in
       record { answer = w.answer ∙ sym (ap (λ (c : Copy). c.answer) o); out_after = w.file_after ∙ sym (ap (λ (c : Copy). at_front c.bytes out) o) }
 

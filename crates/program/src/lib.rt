@@ -4,6 +4,7 @@
 #![tactic(auto)]
 
 mod listing;
+mod tables;
 
 ghost use Rattle.std.specs.Prelude.{◌≡◌, ◌≤◌, length};
 ghost use Rattle.std.specs.Result.{ForOk};
@@ -22,6 +23,7 @@ use flow::Refusal;
 use judge::{Answer, Reach};
 use line::{Line, VerdictWord};
 use writer::Size;
+use tables::Tables;
 
 // "allows 1,000,000 states"
 const ALLOWANCE: u32 = 1000000;
@@ -57,14 +59,10 @@ fn judge_tables(names: &[u8], nodes: &[u16], records: &[u16], sets: &[u8]) -> An
 pub fn judge_file(file: &[u8]) -> Answer
     ensures { FileAnswered file.now result }
 {
-    let mut nodes = [0u16; 192];
-    let mut records = [0u16; 256];
-    match reader::read(file, &mut nodes, &mut records) {
-        Ok(counts) => {
-            let n = 3 * usize::from(counts.nodes);
-            let k = usize::from(counts.records);
-            let at = counts.sets_at;
-            judge_tables(names_of(file), &nodes[..n], &records[..k], &file[at..])
+    match Tables::read(file) {
+        Ok(held) => {
+            let at = held.counts.sets_at;
+            judge_tables(names_of(file), held.nodes(), held.records(), &file[at..])
         }
         Err(r) => Answer::Refused(r),
     }
@@ -115,14 +113,16 @@ pub fn rewrite_file(file: &[u8], out: &mut [u8]) -> Result<Size, Refusal>
     ensures file_rewritten { FileRewritten file.now out.old out.new result }
     ensures within_room { ForOk result (λ size. size.length ≤ length out.new) }
 {
-    let mut nodes = [0u16; 192];
-    let mut records = [0u16; 256];
-    match reader::read(file, &mut nodes, &mut records) {
-        Ok(counts) => {
-            let n = 3 * usize::from(counts.nodes);
-            let k = usize::from(counts.records);
-            let at = counts.sets_at;
-            writer::write(names_of(file), &nodes[..n], &records[..k], &file[at..], out)
+    match Tables::read(file) {
+        Ok(held) => {
+            let at = held.counts.sets_at;
+            writer::write(
+                names_of(file),
+                held.nodes(),
+                held.records(),
+                &file[at..],
+                out,
+            )
         }
         Err(r) => Err(r),
     }
@@ -182,14 +182,17 @@ pub fn next_file(file: &[u8], first: u16, out: &mut [u8; 90000]) -> usize
     ensures next_printed { NextPrinted file.now first out.old out.new result }
     ensures prefix_len { IsPrefixLen result out.new }
 {
-    let mut nodes = [0u16; 192];
-    let mut records = [0u16; 256];
-    match reader::read(file, &mut nodes, &mut records) {
-        Ok(counts) => {
-            let n = 3 * usize::from(counts.nodes);
-            let k = so_many(first, counts.records);
-            let at = counts.sets_at;
-            next_tables(names_of(file), &nodes[..n], &records[..k], &file[at..], out)
+    match Tables::read(file) {
+        Ok(held) => {
+            let k = so_many(first, held.counts.records);
+            let at = held.counts.sets_at;
+            next_tables(
+                names_of(file),
+                held.nodes(),
+                &held.records()[..k],
+                &file[at..],
+                out,
+            )
         }
         Err(r) => listing::put_answer(Answer::Refused(r), out),
     }
