@@ -19,9 +19,9 @@ ghost use Rattle.matching.specs.Entries.{entry_place};
 ghost use Rattle.matching.specs.SectionTest.{is_whole};
 ghost use Rattle.matching.specs.Asks.{asks, takes_event, HeardMarks, AlsoMarked, has_step, ask_by};
 
-// The highest event, and the number beside a closing, which is no event's.
 const MOST_EVENTS: u16 = 256;
 
+// Beside a closing, in place of another event: a number and no case, since a cue is one number by its definition (flow, Cues).
 const NO_EVENT: u16 = 65535;
 
 // How many numbers may follow a beginning: the events and the closings.
