@@ -13,7 +13,7 @@ ghost use Rattle.flow.specs.Cues.{cue, cue_of, itself, masked};
 ghost use Rattle.format.specs.Matching.{no_machine};
 ghost use Rattle.format.specs.ListChecks.{entries_in};
 ghost use Rattle.format.specs.Told.{at_front};
-ghost use Rattle.format.specs.Items.{number_at, name_at, entry_at, entry_end, entries_at, entries_end};
+ghost use Rattle.format.specs.Items.{name_at, entry_at, entry_end, entries_end};
 ghost use Rattle.matching.specs.Others.{takes_step, first_taking, other};
 ghost use Rattle.matching.specs.Entries.{entry_place};
 ghost use Rattle.matching.specs.SectionTest.{is_whole};
