@@ -42,6 +42,18 @@ module _ (s : List ℕ) where
   pub passed_more : (i : ℕ) {at next : ℕ} → at ≡ entries_end s i 2 → next ≡ entry_end s at → next ≡ entries_end s (i + 1) 2
   passed_more i here e = e ∙ ap (entry_end s) here ∙ sym (entries_end_more s i 2) ∙ ap (λ (n : ℕ). entries_end s n 2) (sym (add-one i))
 
+---- Entries that are left ----
+
+module _ (s : List ℕ) where
+  -- the ends of those behind the first of them
+  pub left_ends : (left at : ℕ) → 0 < left → entries_end s left at ≡ entries_end s (left - 1) (entry_end s at)
+  unfolding entries_end
+  left_ends zero at h = absurd (omega arith)
+  left_ends (suc k) at h = let d : k ≡ suc k - 1 = omega arith in ap (λ (n : ℕ). entries_end s n (entry_end s at)) d
+
+  pub left_inside : (left at : ℕ) → 0 < left → entries_end s left at ≤ length s → entry_end s at ≤ length s
+  left_inside left at h l = omega (arith, entries_end_le s (left - 1) (entry_end s at), left_ends left at h)
+
 ---- The first that takes a step name ----
 
 -- of k entries, entry i + 1 stands at an offset, and `k - i` are left

@@ -5,3 +5,4 @@ pub mod AskLaws
 pub mod CueLaws
 pub mod TakenLaws
 pub mod MarkLaws
+pub mod WalkLaws

@@ -1,6 +1,7 @@
 -- Definitions that need not be believed.
 pub mod Others
 pub mod Entries
+pub mod Walk
 pub mod Asks
 -- Theorems.
 pub mod SectionTest

@@ -13,15 +13,15 @@ ghost use Rattle.flow.specs.Cues.{cue, cue_of, itself, masked};
 ghost use Rattle.format.specs.Matching.{no_machine};
 ghost use Rattle.format.specs.ListChecks.{entries_in};
 ghost use Rattle.format.specs.Told.{at_front};
-ghost use Rattle.format.specs.Items.{number_at, name_at, entry_at, entry_end, entries_at, entries_end};
+ghost use Rattle.format.specs.Items.{name_at, entry_at, entry_end, entries_end};
 ghost use Rattle.matching.specs.Others.{takes_step, first_taking, other};
 ghost use Rattle.matching.specs.Entries.{entry_place};
 ghost use Rattle.matching.specs.SectionTest.{is_whole};
 ghost use Rattle.matching.specs.Asks.{asks, takes_event, HeardMarks, AlsoMarked, has_step, ask_by};
 
-// The highest event, and the number beside a closing, which is no event's.
 const MOST_EVENTS: u16 = 256;
 
+// Beside a closing, in place of another event: a number and no case, since a cue is one number by its definition (flow, Cues).
 const NO_EVENT: u16 = 65535;
 
 // How many numbers may follow a beginning: the events and the closings.
@@ -48,6 +48,47 @@ pub fn behind_entries(names: &[u8], k: u16) -> usize
         at = end_of_entry(names, at);
     }
     at
+}
+
+// Where the entry of an event stands.
+#[derive(Clone, Copy)]
+struct Place {
+    event: u16,
+    at: usize,
+}
+
+// The entries of a names section that are left, one after the other.
+#[derive(Clone, Copy)]
+struct Entries<'a> {
+    section: &'a [u8],
+    next: Place,
+    left: u16,
+    ghost inside: { entries_end section.now left next.at ≤ length section.now },
+    ghost few: { next.event + left ≤ 257 },
+}
+
+impl Iterator for Entries<'_> {
+    ghost use Rattle.std.specs.Iterator.{at_most};
+    ghost use Rattle.matching.specs.Walk.{GivesPlace};
+
+    type Item = Place;
+
+    ghost next_gives = { GivesPlace };
+
+    ghost remaining = { λ entries. at_most entries.left };
+
+    fn next(&mut self) -> Option<Place> {
+        if self.left == 0 {
+            return None;
+        }
+        let entry = self.next;
+        self.next = Place {
+            event: entry.event + 1,
+            at: end_of_entry(self.section, entry.at),
+        };
+        self.left -= 1;
+        Some(entry)
+    }
 }
 
 // Whether the entry at an offset has no machine.
@@ -160,11 +201,24 @@ pub struct Named<'a> {
 }
 
 impl Named<'_> {
+    ghost use Rattle.matching.specs.Walk.{Walked};
+
     // How many names there are.
     fn count(&self) -> u16
         ensures { result ≡ length (entries_in self.now.section.now) }
     {
         format::number_from(self.section[0], self.section[1])
+    }
+
+    // Its entries, from the first on.
+    fn entries(&self) -> Entries<'_>
+        ensures { Walked self.now.section.now 0 result }
+    {
+        Entries {
+            section: self.section,
+            next: Place { event: 1, at: 2 },
+            left: self.count(),
+        }
     }
 
     // The offset of an event's entry, if it has one.
@@ -182,12 +236,10 @@ impl Named<'_> {
         requires { entry_end self.now.section.now at ≤ length self.now.section.now }
         ensures { let s = self.now.section.now in result ≡ first_taking (name_at s at) own (entries_in s) 1 }
     {
-        let mut entry = 2;
-        for i in 0..self.count() {
-            if takes_step(self.section, entry, at) {
-                return i + 1;
+        for entry in self.entries() {
+            if takes_step(self.section, entry.at, at) {
+                return entry.event;
             }
-            entry = end_of_entry(self.section, entry);
         }
         own
     }
@@ -197,10 +249,8 @@ impl Named<'_> {
         requires { entry_end self.now.section.now at ≤ length self.now.section.now }
         ensures { let s = self.now.section.now in AlsoMarked (has_step (name_at s at) (entries_in s)) marks.old marks.new }
     {
-        let mut entry = 2;
-        for i in 0..usize::from(self.count()) {
-            marks[i + 1] |= format::same_step(self.section, at, entry);
-            entry = end_of_entry(self.section, entry);
+        for entry in self.entries() {
+            marks[usize::from(entry.event)] |= format::same_step(self.section, at, entry.at);
         }
     }
 }

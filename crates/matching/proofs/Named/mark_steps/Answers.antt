@@ -1,45 +1,56 @@
--- `matching::Named::mark_steps` meets its contract: the loop's invariant: the events among the first i entries that have the step name are
+-- `matching::Named::mark_steps` meets its contract: the loop's invariant: the events of the entries passed that have the step name are
 -- marked too. Assumes nothing.
-use mathlib.Core.Path.{refl}
+use Prim.Native.Nat.{ℕ, ◌+◌, ◌<◌}
+use mathlib.Core.Bool.{Bool, false, ◌||◌}
+use mathlib.Core.Path.{◌≡◌, refl, sym, ◌∙◌}
 use native.Mathlib.Omega.{arith}
+use lib.ListN.{length, get_or, set}
+use Rattle.std.proofs.Common.{subst}
+use Rattle.std.proofs.lemmas.List.{length_push}
 use Rattle.format.specs.EntryLaws.{whole_there}
-use Rattle.format.specs.Items.{name_at, entries_end}
+use Rattle.format.specs.Items.{name_at, entries_at}
+use Rattle.matching.specs.declared.Entries.{Entries}
+use Rattle.matching.specs.Asks.{AlsoMarked, has_step}
 use Rattle.matching.specs.SectionTest.{whole_by}
-use Rattle.matching.proofs.CueLaws.{each_inside, passed_more}
+use Rattle.matching.specs.Walk.{Walked}
+use Rattle.matching.proofs.CueLaws.{each_inside}
 use Rattle.matching.proofs.MarkLaws.{steps_none, steps_more, steps_all}
+use Rattle.matching.proofs.WalkLaws.{walked_on, walk_event, walk_here, walk_among, walk_end}
 use Rattle.matching.proofs.Named.mark_steps.Goals as goal
 
-pub loop-i-init : goal.loop-i-init
-unfolding entries_end
-loop-i-init c = (refl, steps_none _ _ _)
+pub loop-entry-init : goal.loop-entry-init
+loop-entry-init c =
+    let s = c.args.self.now.section.now in
+    (tt, tt, subst (λ (walk : Entries). Walked s 0 walk) (sym c.into_iter-entry-iterator.ensures.into_iter_gives) c.entries-entry-items.ensures, steps_none _ _ _)
 
 pub same_step-requires : goal.same_step-requires
 same_step-requires c =
     let names = c.args.self.now in
-    let inside = each_inside names.section.now (whole_by _ names.whole) c.loop-i.i (omega arith) c.loop-i.invariant.0 in
+    let passed = c.in-Some.ensures.steps in
+    let w = c.loop-entry.invariant.2 in
+    let inside = each_inside names.section.now (whole_by _ names.whole) (length c.loop-entry.yielded) (walk_among passed w) (walk_here passed w) in
     (omega (arith, c.requires), omega (arith, inside))
 
-pub end_of_entry-entry-requires : goal.end_of_entry-entry-requires
-end_of_entry-entry-requires c = let names = c.args.self.now in each_inside names.section.now (whole_by _ names.whole) c.loop-i.i (omega arith) c.loop-i.invariant.0
-
-pub bounds-marks-i : goal.bounds-marks-i
-bounds-marks-i c = let names = c.args.self.now in omega (arith, (whole_there names.section.now (whole_by _ names.whole)).few)
-
-pub bounds-marks-i-in-loop-i : goal.bounds-marks-i-in-loop-i
-bounds-marks-i-in-loop-i c = let names = c.args.self.now in omega (arith, (whole_there names.section.now (whole_by _ names.whole)).few)
-
-pub loop-i-preserved : goal.loop-i-preserved
-loop-i-preserved c =
-    let names = c.args.self.now in
+pub loop-entry-preserved : goal.loop-entry-preserved
+loop-entry-preserved c =
+    let a = c.args in
+    let names = a.self.now in
     let s = names.section.now in
-    let l = c.loop-i in
-    let few = (whole_there s (whole_by s names.whole)).few in (
-      passed_more s l.i l.invariant.0 c.end_of_entry-entry.ensures,
-      steps_more s (name_at s c.args.at) l.i (omega (arith, few, l.invariant.1.size)) l.invariant.0 c.same_step.ensures refl l.invariant.1,
-    )
+    let step = name_at s a.at in
+    let l = c.loop-entry in
+    let k = length l.yielded in
+    let passed = c.in-Some.ensures.steps in
+    let w = l.invariant.2 in
+    let v : ℕ → Bool = λ i. get_or l.marks i false || c.same_step.result in
+    let index : k + 1 ≡ c.from.result = sym (c.from.ensures ∙ walk_event passed w) in
+    let fits : k + 1 < length l.marks = omega (arith, l.invariant.3.size, walk_among passed w, (whole_there s (whole_by s names.whole)).few) in
+    let on = steps_more s step k fits (walk_here passed w) c.same_step.ensures refl l.invariant.3 in
+    let here = subst (λ (i : ℕ). AlsoMarked (has_step step (entries_at s (k + 1) 2)) a.marks.now (set l.marks i (v i))) index on in
+    let both = subst (λ (j : ℕ). Walked s j c.next.new.self × AlsoMarked (has_step step (entries_at s j 2)) a.marks.now (set l.marks c.from.result (v c.from.result))) (sym (length_push l.yielded c.in-Some.entry)) (walked_on passed w, here) in
+    (tt, tt, both.0, both.1)
 
 pub returns : goal.returns
 returns c =
     let names = c.args.self.now in
-    let s = names.section.now in
-    steps_all s (name_at s c.args.at) (whole_by s names.whole) c.loop-i.i (omega arith) c.loop-i.invariant.1
+    let l = c.loop-entry in
+    steps_all names.section.now (name_at names.section.now c.args.at) (whole_by _ names.whole) (length l.yielded) (walk_end l.invariant.2 c.in-None.ensures.steps) l.invariant.3
