@@ -1,6 +1,6 @@
 // What may follow, as text: a line for each number of a list, and the count; or the program's line. What stands in a line is defined in
 // specs/Listing.antt. A line has at most 333 bytes, so that every list has room.
-ghost use Rattle.std.specs.Prelude.{◌+◌, ◌*◌, ◌≤◌, length};
+ghost use Rattle.std.specs.Prelude.{◌≡◌, ◌+◌, ◌*◌, ◌≤◌, length};
 ghost use Rattle.io.specs.Counts.{IsPrefixLen};
 ghost use Rattle.format.specs.Limits.{GoodEntry};
 ghost use Rattle.format.specs.Items.{entry_at, entry_end};
@@ -25,18 +25,15 @@ pub fn put_answer(answer: Answer, out: &mut [u8; 90000]) -> usize
 }
 
 // The word of a closing.
-fn put_closing(number: u16, out: &mut [u8], at: usize) -> usize
-    requires { at + 9 ≤ length out.old }
-    ensures put { Put (closing_word number) out.old at out.new result }
-    ensures upper_bound { result ≤ at + 9 }
+fn closing_word(number: u16) -> &'static [u8]
+    ensures word { result.now ≡ closing_word number }
+    ensures short { length result.now ≤ 9 }
 {
-    if number == flow::DONE {
-        return line::put(b"done", out, at);
+    match number {
+        flow::DONE => b"done",
+        flow::WITHDRAWN => b"withdrawn",
+        _ => b"failed",
     }
-    if number == flow::WITHDRAWN {
-        return line::put(b"withdrawn", out, at);
-    }
-    line::put(b"failed", out, at)
 }
 
 // The names of the entry that stands at an offset of the names section.
@@ -67,7 +64,7 @@ fn put_meaning(names: &[u8], number: u16, out: &mut [u8], at: usize) -> usize
     if number <= MOST_EVENTS {
         return put_entry(names, matching::behind_entries(names, number - 1), out, at);
     }
-    put_closing(number, out, at)
+    line::put(closing_word(number), out, at)
 }
 
 // The line of a number.
@@ -78,7 +75,7 @@ fn put_number_line(names: &[u8], number: u16, out: &mut [u8], at: usize) -> usiz
     ensures put { Put (number_line (entries_in names.now) number) out.old at out.new result }
     ensures upper_bound { result ≤ at + 333 }
 {
-    let a = line::put_decimal(number as u32, out, at);
+    let a = line::put_decimal(u32::from(number), out, at);
     let b = line::put(b"\t", out, a);
     let c = put_meaning(names, number, out, b);
     line::put(b"\n", out, c)

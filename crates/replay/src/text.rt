@@ -12,7 +12,7 @@ pub fn put_refused(refusal: Refusal, out: &mut [u8]) -> usize
     ensures upper_bound { result ≤ 29 }
 {
     let a = line::put(b"refused", out, 0);
-    let b = line::put_number(refusal.number as u32, out, a);
+    let b = line::put_number(u32::from(refusal.number), out, a);
     line::put_number(refusal.place, out, b)
 }
 
@@ -47,9 +47,5 @@ pub fn put_note(clean: bool, out: &mut [u8], at: usize) -> usize
     requires { at + 7 ≤ length out.old }
     ensures { Put (noted clean) out.old at out.new result }
 {
-    if clean {
-        line::put(b" clean\n", out, at)
-    } else {
-        line::put(b" dirty\n", out, at)
-    }
+    line::put(if clean { b" clean\n" } else { b" dirty\n" }, out, at)
 }

@@ -32,6 +32,6 @@ pub returns : goal.returns
 unfolding meaning
 returns c =
     record {
-      put = rw (lt-leb c.args.number most_events c.if-number-le-MOST_EVENTS.false) c.put_closing.ensures.put;
-      upper_bound = omega arith;
+      put = rw (lt-leb c.args.number most_events c.if-number-le-MOST_EVENTS.false) (rw c.closing_word.ensures.word at c.put.ensures);
+      upper_bound = omega (arith, c.put.ensures.end, c.closing_word.ensures.short);
     }

@@ -20,6 +20,6 @@ returns c =
     let n3 = c.put.ensures in
     let e = n1.end in
     let f = n3.end in record {
-      put = put_then c.put_decimal-a.ensures.put (omega arith) (put_then n1 (omega arith) (put_then c.put_meaning-c.ensures.put (omega arith) n3));
+      put = put_then (rw c.from.ensures at c.put_decimal-a.ensures.put) (omega arith) (put_then n1 (omega arith) (put_then c.put_meaning-c.ensures.put (omega arith) n3));
       upper_bound = omega arith;
     }

@@ -1,11 +1,12 @@
 -- `replay::text::put_note` meets its contract: one of the two words. Assumes nothing.
 use Rattle.replay.specs.Text.{noted}
 use Rattle.replay.proofs.text.put_note.Goals as goal
+use Rattle.replay.proofs.text.put_note.Goals.{then-clean, else-clean}
 
-pub returns-then-clean : goal.returns-then-clean
+pub returns : goal.returns
 unfolding noted
-returns-then-clean c = rw c.if-clean.true c.put.ensures
-
-pub returns-else-clean : goal.returns-else-clean
-unfolding noted
-returns-else-clean c = rw c.if-clean.false c.put-else-clean.ensures
+returns c =
+    elim c.if-clean.branch [
+      | then-clean w ↦ rw w.if-clean.true (rw w.put-is at c.put.ensures)
+      | else-clean w ↦ rw w.if-clean.false (rw w.put-is at c.put.ensures)
+    ]

@@ -9,6 +9,6 @@ pub returns : goal.returns
 unfolding refused_text spelled
 returns c =
     record {
-      put = put_then c.put-a.ensures (omega (arith, c.put-a.ensures.end)) (put_then c.put_number-b.ensures.put (omega arith) c.put_number.ensures.put);
+      put = put_then c.put-a.ensures (omega (arith, c.put-a.ensures.end)) (put_then (rw c.from.ensures at c.put_number-b.ensures.put) (omega arith) c.put_number.ensures.put);
       upper_bound = omega (arith, c.put-a.ensures.end);
     }
