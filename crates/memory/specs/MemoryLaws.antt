@@ -1,8 +1,11 @@
 -- Laws of a memory of searches. In order: the words of a state, their size, and that they tell its modes; the choice of a pair stays within
 -- 64 bits; what is recalled is held; what is held after one more is put in was held before, or is that one; what an empty memory holds;
 -- and that the contracts leave one outcome. Assumes nothing.
-use Prim.Native.Nat.{ℕ, zero, suc, ◌+◌, ◌-◌, ◌*◌, ◌%◌, ◌<◌, ◌≤◌}
-use Rattle.std.specs.Prelude.{◌≡◌, Bool, ◌&&◌, ◌⊎◌, List, [], set, Result, Ok, Err}
+use Prim.Native.Nat.{ℕ, zero, suc, ◌+◌, ◌-◌, ◌*◌, ◌<◌, ◌≤◌}
+use Rattle.std.specs.Prelude.{◌≡◌, Bool, ◌&&◌, ◌⊎◌, List, [], ◌∷◌, set, Result, Ok, Err}
+use Rattle.std.specs.List.{fold}
+use Rattle.std.proofs.Math.Seq.{take-suc, take-length}
+use Rattle.std.proofs.lemmas.List.Sums.{fold-append}
 use Rattle.std.proofs.Math.Path.{refl, ap, subst}
 use Rattle.std.proofs.Common.{sym, ◌∙◌, inr, ⊎_elim, mul-le-mul, eq-or-lt_of_le, add-one, length-set, get_or-set_same, get_or-set_other}
 use Rattle.std.proofs.Math.Bool.{true, false, cond}
@@ -10,10 +13,11 @@ use Rattle.std.proofs.lemmas.Bool.{false≢true}
 use Rattle.std.proofs.Math.Logic.{inl}
 use native.Mathlib.Omega.{arith}
 use Rattle.std.proofs.Math.Dec.{eqb, ltb}
-use Rattle.std.proofs.Math.ListN.{length, get_or}
+use Rattle.std.proofs.Math.ListN.{length, get_or, take}
 use borrow.Author.Tests.{eqb-true, eqb-false, ltb-true, ltb-false, eq-eqb, ne_eqb, lt-ltb, le-ltb}
 use Rattle.memory.specs.declared.Sight.{Sight}
-use Rattle.memory.specs.Memory.{two_bits, padded, bytes, most_bytes, packed, low_of, high_of, slots, pairs, pair_of, mark_of, has, sight_at, recalled_at, recalled_in, recalled, lesser, takes, words_put, remembered_marks, remembered_modes, Fitting, Remembered, Holds, Held, Same}
+use Rattle.memory.specs.declared.Slot.{Slot}
+use Rattle.memory.specs.Memory.{two_bits, padded, bytes, most_bytes, packed, low_of, high_of, slots, pairs, pair_of, slot_at, has, sight_of, recalled_at, recalled_in, recalled, lesser, takes, slot_of, remembered, Holds, Held, Same}
 
 both_true : (a b : Bool) → (a && b) ≡ true → (a ≡ true) × (b ≡ true)
 both_true true b e = (refl, e)
@@ -21,9 +25,16 @@ both_true false b e = absurd (false≢true e)
 
 -- The modes of a state ----------------------------------------------------------------------------------------------------
 
-pub two_bits_more : (t : List ℕ) (j : ℕ) → two_bits t (j + 1) ≡ (two_bits t j && ltb (get_or t j 0) 4)
+-- the test of one mode after the other
+two_bits_fold : (t : List ℕ) (n : ℕ) → n ≤ length t → fold (λ (b : Bool) (m : ℕ). b && ltb m 4) true (take n t) ≡ two_bits t n
 unfolding two_bits
-two_bits_more t j = rw (add-one j)
+two_bits_fold t zero h = refl
+two_bits_fold t (suc n) h =
+    let f : Bool → ℕ → Bool = λ b m. b && ltb m 4 in
+    ap (fold f true) (take-suc t n 0 h) ∙ fold-append f true (take n t) (get_or t n 0 ∷ []) ∙ ap (λ b. f b (get_or t n 0)) (two_bits_fold t n (omega arith))
+
+pub two_bits_all : (t : List ℕ) → fold (λ (b : Bool) (m : ℕ). b && ltb m 4) true t ≡ two_bits t (length t)
+two_bits_all t = ap (fold (λ (b : Bool) (m : ℕ). b && ltb m 4) true) (sym (take-length t)) ∙ two_bits_fold t (length t) (omega arith)
 
 two_bits_each : (t : List ℕ) (n : ℕ) → two_bits t n ≡ true → (j : ℕ) → j < n → get_or t j 0 < 4
 unfolding two_bits
@@ -205,57 +216,43 @@ module _ (t t' : List ℕ) (n : ℕ) (few : n ≤ 64) (fits : two_bits t n ≡ t
 pub square_small : (x : ℕ) → x < 4294967296 → x * x < 18446744073709551616
 square_small x h = let p = mul-le-mul {n₁ = x} {m₁ = x} {n₂ = 4294967295} {m₂ = 4294967295} (omega arith) (omega arith) in omega arith
 
--- A mark tells key and sight ----------------------------------------------------------------------------------------------
-
-pub mark_parts : (key key' : ℕ) (x x' : Sight) → key < 65536 → key' < 65536 → x.reached < 65536 → x'.reached < 65536 → mark_of key x ≡ mark_of key' x'
-    → (key ≡ key') × (x ≡ x')
-unfolding mark_of
-mark_parts key key' x x' k k' r r' e =
-    let p : x.entered ≡ x'.entered = omega arith in
-    let q : x.reached ≡ x'.reached = omega arith in
-    (omega arith, λ i. record { entered = p i; reached = q i })
-
-sight_mark : (ks : List ℕ) (s key : ℕ) → get_or ks s 0 % 65536 ≡ key → get_or ks s 0 ≡ mark_of key (sight_at ks s)
-unfolding mark_of sight_at
-sight_mark ks s key e = omega arith
-
 -- What is recalled --------------------------------------------------------------------------------------------------------
 
-module _ (ms ks t : List ℕ) (n key : ℕ) where
-  pub recalled_none : pairs ks ≡ 0 → Err 0 ≡ recalled ms ks t n key
+module _ (m : List Slot) (t : List ℕ) (n key : ℕ) where
+  pub recalled_none : pairs m ≡ 0 → Err 0 ≡ recalled m t n key
   unfolding recalled
-  recalled_none h = rw (eq-eqb (pairs ks) 0 h)
+  recalled_none h = rw (eq-eqb (pairs m) 0 h)
 
-  module _ (some : pairs ks ≡ 0 → ⊥) where
-    pub recalled_unfit : two_bits t n ≡ false → Err (pairs ks) ≡ recalled ms ks t n key
+  module _ (some : pairs m ≡ 0 → ⊥) where
+    pub recalled_unfit : two_bits t n ≡ false → Err (pairs m) ≡ recalled m t n key
     unfolding recalled
-    recalled_unfit h = rw (ne_eqb (pairs ks) 0 some, h)
+    recalled_unfit h = rw (ne_eqb (pairs m) 0 some, h)
 
-    pub recalled_fit : two_bits t n ≡ true → {low high : ℕ} → low ≡ low_of t n → high ≡ high_of t n → {r : Result Sight ℕ} → r ≡ recalled_in ms ks low high key (pair_of low high key)
-        → r ≡ recalled ms ks t n key
+    pub recalled_fit : two_bits t n ≡ true → {low high : ℕ} → low ≡ low_of t n → high ≡ high_of t n → {r : Result Sight ℕ} → r ≡ recalled_in m low high key (pair_of low high key)
+        → r ≡ recalled m t n key
     unfolding recalled
-    recalled_fit h l g e = e ∙ (λ i. recalled_in ms ks (l i) (g i) key (pair_of (l i) (g i) key)) ∙ rw (ne_eqb (pairs ks) 0 some, h)
+    recalled_fit h l g e = e ∙ (λ i. recalled_in m (l i) (g i) key (pair_of (l i) (g i) key)) ∙ rw (ne_eqb (pairs m) 0 some, h)
 
-module _ (ms ks : List ℕ) (low high key p : ℕ) where
-  pub recalled_away : pairs ks ≤ p → Err p ≡ recalled_in ms ks low high key p
+module _ (m : List Slot) (low high key p : ℕ) where
+  pub recalled_away : pairs m ≤ p → Err p ≡ recalled_in m low high key p
   unfolding recalled_in
-  recalled_away h = rw (le-ltb p (pairs ks) h)
+  recalled_away h = rw (le-ltb p (pairs m) h)
 
-  module _ (h : p < pairs ks) where
-    pub recalled_first : has ms ks (2 * p) low high key ≡ true → Ok (sight_at ks (2 * p)) ≡ recalled_in ms ks low high key p
+  module _ (h : p < pairs m) where
+    pub recalled_first : has (slot_at m (2 * p)) low high key ≡ true → Ok (sight_of (slot_at m (2 * p))) ≡ recalled_in m low high key p
     unfolding recalled_in recalled_at
-    recalled_first e = rw (lt-ltb p (pairs ks) h, e)
+    recalled_first e = rw (lt-ltb p (pairs m) h, e)
 
-    module _ (not : has ms ks (2 * p) low high key ≡ false) where
-      pub recalled_second : has ms ks (2 * p + 1) low high key ≡ true → Ok (sight_at ks (2 * p + 1)) ≡ recalled_in ms ks low high key p
+    module _ (not : has (slot_at m (2 * p)) low high key ≡ false) where
+      pub recalled_second : has (slot_at m (2 * p + 1)) low high key ≡ true → Ok (sight_of (slot_at m (2 * p + 1))) ≡ recalled_in m low high key p
       unfolding recalled_in recalled_at
-      recalled_second e = rw (lt-ltb p (pairs ks) h, not, e)
+      recalled_second e = rw (lt-ltb p (pairs m) h, not, e)
 
-      pub recalled_neither : has ms ks (2 * p + 1) low high key ≡ false → Err p ≡ recalled_in ms ks low high key p
+      pub recalled_neither : has (slot_at m (2 * p + 1)) low high key ≡ false → Err p ≡ recalled_in m low high key p
       unfolding recalled_in recalled_at
-      recalled_neither e = rw (lt-ltb p (pairs ks) h, not, e)
+      recalled_neither e = rw (lt-ltb p (pairs m) h, not, e)
 
-module _ (ms ks t : List ℕ) (n key : ℕ) (x : Sight) where
+module _ (m : List Slot) (t : List ℕ) (n key : ℕ) (x : Sight) where
   unknown_not : {p : ℕ} → Err p ≡ Ok x → ⊥
   unknown_not k = let z : ◌≡◌ {A = ℕ} 0 1 = cc in absurd (omega arith)
 
@@ -264,192 +261,119 @@ module _ (ms ks t : List ℕ) (n key : ℕ) (x : Sight) where
 
   module _ (fit : two_bits t n ≡ true) where
     -- by whether a slot has the state
-    at_held : (s : ℕ) → s < slots ks → (r : Result Sight ℕ) → (r ≡ Ok x → Held ms ks n key t x) → recalled_at ms ks (low_of t n) (high_of t n) key s r ≡ Ok x → Held ms ks n key t x
-    unfolding recalled_at has sight_at
-    at_held s h r f = by (has ms ks s (low_of t n) (high_of t n) key) refl where
-      by : (b : Bool) → has ms ks s (low_of t n) (high_of t n) key ≡ b → cond b (Ok (sight_at ks s)) r ≡ Ok x → Held ms ks n key t x
+    at_held : (s : ℕ) → s < slots m → (r : Result Sight ℕ) → (r ≡ Ok x → Held m n key t x) → recalled_at (slot_at m s) (low_of t n) (high_of t n) key r ≡ Ok x → Held m n key t x
+    unfolding recalled_at has
+    at_held s h r f = by (has (slot_at m s) (low_of t n) (high_of t n) key) refl where
+      by : (b : Bool) → has (slot_at m s) (low_of t n) (high_of t n) key ≡ b → cond b (Ok (sight_of (slot_at m s))) r ≡ Ok x → Held m n key t x
       by true e k =
-          let p = both_true (eqb (get_or ks s 0 % 65536) key) (eqb (get_or ms (2 * s) 0) (low_of t n) && eqb (get_or ms (2 * s + 1) 0) (high_of t n)) e in
-          let w = both_true (eqb (get_or ms (2 * s) 0) (low_of t n)) (eqb (get_or ms (2 * s + 1) 0) (high_of t n)) p.1 in
-          let a : get_or ks s 0 % 65536 ≡ key = eqb-true _ _ p.0 in
-          let q : sight_at ks s ≡ x = known_same k in
+          let a : Slot = slot_at m s in
+          let p = both_true (eqb a.key key) (eqb a.low (low_of t n) && eqb a.high (high_of t n)) e in
+          let w = both_true (eqb a.low (low_of t n)) (eqb a.high (high_of t n)) p.1 in
           record {
             slot = s;
             there = h;
-            holds = record {
-              fits = fit;
-              low = eqb-true _ _ w.0;
-              high = eqb-true _ _ w.1;
-              mark = sight_mark ks s key a ∙ ap (mark_of key) q;
-              keyed = omega arith;
-              near = subst (λ (y : Sight). y.reached < 65536) q (omega arith);
-            };
+            holds = record { fits = fit; low = eqb-true _ _ w.0; high = eqb-true _ _ w.1; keyed = eqb-true _ _ p.0; seen = known_same k };
           }
       by false e k = f k
 
-    in_held : (p : ℕ) → recalled_in ms ks (low_of t n) (high_of t n) key p ≡ Ok x → Held ms ks n key t x
+    in_held : (p : ℕ) → recalled_in m (low_of t n) (high_of t n) key p ≡ Ok x → Held m n key t x
     unfolding recalled_in
-    in_held p = by (ltb p (pairs ks)) refl where
-      by : (b : Bool) → ltb p (pairs ks) ≡ b
-          → cond b (recalled_at ms ks (low_of t n) (high_of t n) key (2 * p) (recalled_at ms ks (low_of t n) (high_of t n) key (2 * p + 1) (Err p))) (Err p) ≡ Ok x
-          → Held ms ks n key t x
-      by true e k = let l = ltb-true p (pairs ks) e in at_held (2 * p) (omega arith) _ (at_held (2 * p + 1) (omega arith) _ (λ z. absurd (unknown_not z))) k
+    in_held p = by (ltb p (pairs m)) refl where
+      by : (b : Bool) → ltb p (pairs m) ≡ b
+          → cond b (recalled_at (slot_at m (2 * p)) (low_of t n) (high_of t n) key (recalled_at (slot_at m (2 * p + 1)) (low_of t n) (high_of t n) key (Err p))) (Err p) ≡ Ok x
+          → Held m n key t x
+      by true e k = let l = ltb-true p (pairs m) e in at_held (2 * p) (omega arith) _ (at_held (2 * p + 1) (omega arith) _ (λ z. absurd (unknown_not z))) k
       by false e k = absurd (unknown_not k)
 
-  pub recalled_held : recalled ms ks t n key ≡ Ok x → Held ms ks n key t x
+  pub recalled_held : recalled m t n key ≡ Ok x → Held m n key t x
   unfolding recalled
-  recalled_held = some (eqb (pairs ks) 0) where
+  recalled_held = some (eqb (pairs m) 0) where
     fit : (b : Bool) → two_bits t n ≡ b
-        → cond b (recalled_in ms ks (low_of t n) (high_of t n) key (pair_of (low_of t n) (high_of t n) key)) (Err (pairs ks)) ≡ Ok x → Held ms ks n key t x
+        → cond b (recalled_in m (low_of t n) (high_of t n) key (pair_of (low_of t n) (high_of t n) key)) (Err (pairs m)) ≡ Ok x → Held m n key t x
     fit true e k = in_held e (pair_of (low_of t n) (high_of t n) key) k
     fit false e k = absurd (unknown_not k)
 
-    some : (b : Bool) → cond b (Err 0) (cond (two_bits t n) (recalled_in ms ks (low_of t n) (high_of t n) key (pair_of (low_of t n) (high_of t n) key)) (Err (pairs ks))) ≡ Ok x
-        → Held ms ks n key t x
+    some : (b : Bool) → cond b (Err 0) (cond (two_bits t n) (recalled_in m (low_of t n) (high_of t n) key (pair_of (low_of t n) (high_of t n) key)) (Err (pairs m))) ≡ Ok x
+        → Held m n key t x
     some true k = absurd (unknown_not k)
     some false k = fit (two_bits t n) refl k
 
 -- What is remembered ------------------------------------------------------------------------------------------------------
 
-pub lesser_there : (ks : List ℕ) (p : ℕ) → p < pairs ks → lesser ks p < slots ks
+pub lesser_there : (m : List Slot) (p : ℕ) → p < pairs m → lesser m p < slots m
 unfolding lesser
-lesser_there ks p h = by (ltb (get_or ks (2 * p + 1) 0) (get_or ks (2 * p) 0)) where
-  by : (b : Bool) → cond b (2 * p + 1) (2 * p) < length ks
+lesser_there m p h = by (ltb (slot_at m (2 * p + 1)).entered (slot_at m (2 * p)).entered) where
+  by : (b : Bool) → cond b (2 * p + 1) (2 * p) < length m
   by true = omega arith
   by false = omega arith
 
-pub near_taken : (b : Bool) (r : ℕ) → (b && ltb r 65536) ≡ true → (b ≡ true) × (r < 65536)
-near_taken b r e = let p = both_true b (ltb r 65536) e in (p.0, ltb-true _ _ p.1)
+module _ (m : List Slot) (p : ℕ) (t : List ℕ) (n key : ℕ) (x : Sight) {b : Bool} (f : b ≡ two_bits t n) where
+  pub remembered_put : (ltb p (pairs m) && b) ≡ true → x.reached < 65536 → {s : ℕ} {a : Slot} → s ≡ lesser m p → a ≡ slot_of t n key x → set m s a ≡ remembered m p t n key x
+  unfolding remembered takes
+  remembered_put g r es ea = rw (← f, g, lt-ltb x.reached 65536 r, ← es, ← ea)
 
-module _ (ms ks : List ℕ) (p : ℕ) (t : List ℕ) (n key : ℕ) (x : Sight) where
-  module _ (h : p < pairs ks) {b : Bool} (fits : b ≡ two_bits t n) where
-    pub remembered_put : (b && ltb x.reached 65536) ≡ true → {s low high mark : ℕ} → s ≡ lesser ks p → low ≡ low_of t n → high ≡ high_of t n → mark ≡ mark_of key x
-        → {ms' : List ℕ} → ms' ≡ set (set ms (2 * s) low) (2 * s + 1) high → Remembered ms ks p t n key x ms' (set ks s mark)
-    unfolding remembered_modes remembered_marks takes
-    remembered_put g es el eh em e = record {
-      modes = rw (lt-ltb p (pairs ks) h, ← fits, g, ← es, ← el, ← eh) e;
-      marks = rw (lt-ltb p (pairs ks) h, ← fits, g, ← es, ← em);
-    }
+  pub remembered_far : (ltb p (pairs m) && b) ≡ true → (x.reached < 65536 → ⊥) → m ≡ remembered m p t n key x
+  unfolding remembered takes
+  remembered_far g r = rw (← f, g, le-ltb x.reached 65536 (omega (arith, r)))
 
-    pub remembered_unfit : (b && ltb x.reached 65536) ≡ false → Remembered ms ks p t n key x ms ks
-    unfolding remembered_modes remembered_marks takes
-    remembered_unfit g = record { modes = rw (lt-ltb p (pairs ks) h, ← fits, g); marks = rw (lt-ltb p (pairs ks) h, ← fits, g) }
-
-  pub remembered_not : pairs ks ≤ p → Remembered ms ks p t n key x ms ks
-  unfolding remembered_modes remembered_marks takes
-  remembered_not h = record { modes = rw (le-ltb p (pairs ks) h); marks = rw (le-ltb p (pairs ks) h) }
+  pub remembered_not : (ltb p (pairs m) && b) ≡ false → m ≡ remembered m p t n key x
+  unfolding remembered takes
+  remembered_not g = rw (← f, g)
 
 -- a state put into a slot
-module _ (ms ks : List ℕ) (slot : ℕ) (t₀ : List ℕ) (n key₀ : ℕ) (x₀ : Sight) (f : Fitting ms ks t₀ n key₀) (h : slot < slots ks)
-    (fit : two_bits t₀ n ≡ true) (near : x₀.reached < 65536) where
-  abbrev put_marks : List ℕ
-  put_marks = set ks slot (mark_of key₀ x₀)
-
-  abbrev put_one : List ℕ
-  put_one = set ms (2 * slot) (low_of t₀ n)
-
-  abbrev put_modes : List ℕ
-  put_modes = words_put ms slot t₀ n
-
-  one_length : length put_one ≡ length ms
-  one_length = length-set ms (2 * slot) (low_of t₀ n)
-
-  put_lengths : (length put_modes ≡ length ms) × (length put_marks ≡ length ks)
-  put_lengths = (length-set put_one (2 * slot + 1) (high_of t₀ n) ∙ one_length, length-set ks slot (mark_of key₀ x₀))
-
-  low_here : get_or put_modes (2 * slot) 0 ≡ low_of t₀ n
-  low_here =
-      get_or-set_other put_one (2 * slot + 1) (2 * slot) (high_of t₀ n) 0 (λ e. omega arith)
-      ∙ get_or-set_same ms (2 * slot) (low_of t₀ n) 0 (let r = f.room in omega arith)
-
-  high_here : get_or put_modes (2 * slot + 1) 0 ≡ high_of t₀ n
-  high_here = get_or-set_same put_one (2 * slot + 1) (high_of t₀ n) 0 (let r = f.room in omega (arith, one_length))
+module _ (m : List Slot) (slot : ℕ) (t₀ : List ℕ) (n key₀ : ℕ) (x₀ : Sight) (few : n ≤ 64) (h : slot < slots m) (fit : two_bits t₀ n ≡ true) where
+  abbrev put : List Slot
+  put = set m slot (slot_of t₀ n key₀ x₀)
 
   module _ (key : ℕ) (t : List ℕ) (x : Sight) where
     -- its own slot holds it, and nothing else
-    put_here : Holds put_modes put_marks n slot key t x → Same n key t key₀ t₀ × (x ≡ x₀)
-    put_here g =
-        let small = f.small in
-        let p = mark_parts key key₀ x x₀ g.keyed (omega arith) g.near near (sym g.mark ∙ get_or-set_same ks slot (mark_of key₀ x₀) 0 h) in
-        (record { keys = p.0; modes = words_modes t t₀ n f.few g.fits fit (sym g.low ∙ low_here) (sym g.high ∙ high_here) }, p.1)
+    put_here : Holds (slot_of t₀ n key₀ x₀) n key t x → Same n key t key₀ t₀ × (x ≡ x₀)
+    unfolding sight_of
+    put_here g = (record { keys = sym g.keyed; modes = words_modes t t₀ n few g.fits fit (sym g.low) (sym g.high) }, sym g.seen)
 
     -- the other slots are as they were
-    modes_there : (i : ℕ) → (i ≡ 2 * slot → ⊥) → (i ≡ 2 * slot + 1 → ⊥) → get_or put_modes i 0 ≡ get_or ms i 0
-    modes_there i d e = get_or-set_other put_one (2 * slot + 1) i (high_of t₀ n) 0 e ∙ get_or-set_other ms (2 * slot) i (low_of t₀ n) 0 d
-
-    put_there : (s : ℕ) → (s ≡ slot → ⊥) → Holds put_modes put_marks n s key t x → Holds ms ks n s key t x
-    put_there s d g = record {
-      fits = g.fits;
-      low = sym (modes_there (2 * s) (λ e. d (omega arith)) (λ e. omega arith)) ∙ g.low;
-      high = sym (modes_there (2 * s + 1) (λ e. omega arith) (λ e. d (omega arith))) ∙ g.high;
-      mark = sym (get_or-set_other ks slot s (mark_of key₀ x₀) 0 d) ∙ g.mark;
-      keyed = g.keyed;
-      near = g.near;
-    }
-
-    put_held : Held put_modes put_marks n key t x → Held ms ks n key t x ⊎ (Same n key t key₀ t₀ × (x ≡ x₀))
+    put_held : Held put n key t x → Held m n key t x ⊎ (Same n key t key₀ t₀ × (x ≡ x₀))
     put_held g = by (eqb g.slot slot) refl where
-      by : (b : Bool) → eqb g.slot slot ≡ b → Held ms ks n key t x ⊎ (Same n key t key₀ t₀ × (x ≡ x₀))
-      by true e = inr (put_here (subst (λ s. Holds put_modes put_marks n s key t x) (eqb-true _ _ e) g.holds))
-      by false e = inl (record { slot = g.slot; there = subst (λ k. g.slot < k) put_lengths.1 g.there; holds = put_there g.slot (eqb-false _ _ e) g.holds })
+      by : (b : Bool) → eqb g.slot slot ≡ b → Held m n key t x ⊎ (Same n key t key₀ t₀ × (x ≡ x₀))
+      by true e = inr (put_here (subst (λ (a : Slot). Holds a n key t x)
+          (ap (slot_at put) (eqb-true _ _ e) ∙ get_or-set_same m slot (slot_of t₀ n key₀ x₀) _ h) g.holds))
+      by false e = inl (record {
+        slot = g.slot;
+        there = subst (λ k. g.slot < k) (length-set m slot (slot_of t₀ n key₀ x₀)) g.there;
+        holds = subst (λ (a : Slot). Holds a n key t x) (get_or-set_other m slot g.slot (slot_of t₀ n key₀ x₀) _ (eqb-false _ _ e)) g.holds;
+      })
 
 -- by whether the pair takes it
-module _ (ms ks : List ℕ) (p : ℕ) (t₀ : List ℕ) (n key₀ : ℕ) (x₀ : Sight) (f : Fitting ms ks t₀ n key₀) where
-  taken : takes ks p t₀ n x₀ ≡ true → (lesser ks p < slots ks) × ((two_bits t₀ n ≡ true) × (x₀.reached < 65536))
+module _ (m : List Slot) (p : ℕ) (t₀ : List ℕ) (n key₀ : ℕ) (x₀ : Sight) where
+  taken : takes m p t₀ n x₀ ≡ true → (lesser m p < slots m) × (two_bits t₀ n ≡ true)
   unfolding takes
   taken e =
-      let a = both_true (ltb p (pairs ks)) (two_bits t₀ n && ltb x₀.reached 65536) e in
-      let b = both_true (two_bits t₀ n) (ltb x₀.reached 65536) a.1 in
-      (lesser_there ks p (ltb-true _ _ a.0), (b.0, ltb-true _ _ b.1))
+      let a = both_true (ltb p (pairs m) && two_bits t₀ n) (ltb x₀.reached 65536) e in
+      let b = both_true (ltb p (pairs m)) (two_bits t₀ n) a.0 in
+      (lesser_there m p (ltb-true _ _ b.0), b.1)
 
-  held_after : (key : ℕ) (t : List ℕ) (x : Sight) → Held (remembered_modes ms ks p t₀ n x₀) (remembered_marks ks p t₀ n key₀ x₀) n key t x
-      → Held ms ks n key t x ⊎ (Same n key t key₀ t₀ × (x ≡ x₀))
-  unfolding remembered_modes remembered_marks
-  held_after key t x = by (takes ks p t₀ n x₀) refl where
-    by : (b : Bool) → takes ks p t₀ n x₀ ≡ b
-        → Held (cond b (words_put ms (lesser ks p) t₀ n) ms) (cond b (set ks (lesser ks p) (mark_of key₀ x₀)) ks) n key t x
-        → Held ms ks n key t x ⊎ (Same n key t key₀ t₀ × (x ≡ x₀))
-    by true e g = let h = taken e in put_held ms ks (lesser ks p) t₀ n key₀ x₀ f h.0 h.1.0 h.1.1 key t x g
+  -- what the memory holds then, it held before, or is what was put
+  pub remembered_held : n ≤ 64 → {m' : List Slot} → m' ≡ remembered m p t₀ n key₀ x₀ → {key : ℕ} {t : List ℕ} {x : Sight}
+      → Held m' n key t x → Held m n key t x ⊎ (Same n key t key₀ t₀ × (x ≡ x₀))
+  unfolding remembered
+  remembered_held few {m'} r {key} {t} {x} h = by (takes m p t₀ n x₀) refl (subst (λ l. Held l n key t x) r h) where
+    by : (b : Bool) → takes m p t₀ n x₀ ≡ b → Held (cond b (set m (lesser m p) (slot_of t₀ n key₀ x₀)) m) n key t x
+        → Held m n key t x ⊎ (Same n key t key₀ t₀ × (x ≡ x₀))
+    by true e g = let h = taken e in put_held m (lesser m p) t₀ n key₀ x₀ few h.0 h.1 key t x g
     by false e g = inl g
-
-  lengths_after : (length (remembered_modes ms ks p t₀ n x₀) ≡ length ms) × (length (remembered_marks ks p t₀ n key₀ x₀) ≡ length ks)
-  unfolding remembered_modes remembered_marks
-  lengths_after = by (takes ks p t₀ n x₀) refl where
-    by : (b : Bool) → takes ks p t₀ n x₀ ≡ b
-        → (length (cond b (words_put ms (lesser ks p) t₀ n) ms) ≡ length ms)
-        × (length (cond b (set ks (lesser ks p) (mark_of key₀ x₀)) ks) ≡ length ks)
-    by true e = let h = taken e in put_lengths ms ks (lesser ks p) t₀ n key₀ x₀ f h.0 h.1.0 h.1.1
-    by false e = (refl, refl)
-
--- what the memory holds then, it held before, or is what was put
-pub remembered_held : {ms ks ms' ks' : List ℕ} {slot n key₀ : ℕ} {t₀ : List ℕ} {x₀ : Sight} {key : ℕ} {t : List ℕ} {x : Sight}
-    → Fitting ms ks t₀ n key₀ → Remembered ms ks slot t₀ n key₀ x₀ ms' ks'
-    → Held ms' ks' n key t x → Held ms ks n key t x ⊎ (Same n key t key₀ t₀ × (x ≡ x₀))
-remembered_held {ms} {ks} {ms'} {ks'} {slot} {n} {key₀} {t₀} {x₀} {key} {t} {x} f r h =
-    held_after ms ks slot t₀ n key₀ x₀ f key t x
-    (subst (λ l. Held (remembered_modes ms ks slot t₀ n x₀) l n key t x) r.marks (subst (λ l. Held l ks' n key t x) r.modes h))
-
--- both slices keep their lengths, so what fitted still fits
-pub remembered_lengths : {ms ks ms' ks' : List ℕ} {slot n key : ℕ} {t : List ℕ} {x : Sight}
-    → Fitting ms ks t n key → Remembered ms ks slot t n key x ms' ks' → (length ms' ≡ length ms) × (length ks' ≡ length ks)
-remembered_lengths {ms} {ks} {ms'} {ks'} {slot} {n} {key} {t} {x} f r =
-    let l = lengths_after ms ks slot t n key x f in
-    (ap length r.modes ∙ l.0, ap length r.marks ∙ l.1)
 
 -- An empty memory ---------------------------------------------------------------------------------------------------------
 
-pub zeros_held : {ms ks : List ℕ} {n key : ℕ} {t : List ℕ} {x : Sight} → ((j : ℕ) → get_or ks j 0 ≡ 0) → Held ms ks n key t x → key ≡ 0
-unfolding mark_of
-zeros_held z h = let e = h.holds.mark in let o = z h.slot in omega arith
+pub zeros_held : {m : List Slot} {n key : ℕ} {t : List ℕ} {x : Sight} → ((j : ℕ) → (slot_at m j).key ≡ 0) → Held m n key t x → key ≡ 0
+zeros_held z h = let e = h.holds.keyed in let o = z h.slot in omega arith
 
-pub empty_held : {ms : List ℕ} {n key : ℕ} {t : List ℕ} {x : Sight} → Held ms [] n key t x → ⊥
+pub empty_held : {n key : ℕ} {t : List ℕ} {x : Sight} → Held [] n key t x → ⊥
 empty_held h = let l = h.there in omega arith
 
 -- One outcome -------------------------------------------------------------------------------------------------------------
 
-pub recall_once : (ms ks t : List ℕ) (n key : ℕ) {r r' : Result Sight ℕ} → r ≡ recalled ms ks t n key → r' ≡ recalled ms ks t n key → r ≡ r'
-recall_once ms ks t n key p q = p ∙ sym q
+pub recall_once : (m : List Slot) (t : List ℕ) (n key : ℕ) {r r' : Result Sight ℕ} → r ≡ recalled m t n key → r' ≡ recalled m t n key → r ≡ r'
+recall_once m t n key p q = p ∙ sym q
 
-pub remember_once : {ms ks : List ℕ} {slot : ℕ} {t : List ℕ} {n key : ℕ} {x : Sight} {ms' ks' ms'' ks'' : List ℕ}
-    → Remembered ms ks slot t n key x ms' ks' → Remembered ms ks slot t n key x ms'' ks'' → (ms' ≡ ms'') × (ks' ≡ ks'')
-remember_once p q = (p.modes ∙ sym q.modes, p.marks ∙ sym q.marks)
+pub remember_once : (m : List Slot) (p : ℕ) (t : List ℕ) (n key : ℕ) (x : Sight) {m' m'' : List Slot} → m' ≡ remembered m p t n key x → m'' ≡ remembered m p t n key x → m' ≡ m''
+remember_once m p t n key x e f = e ∙ sym f

@@ -8,7 +8,7 @@ use mathlib.Core.List.{List, [], ◌∷◌, ◌++◌, map, Memᴰ}
 use native.Mathlib.Omega.{arith}
 use native.Mathlib.Decide.{dec_le}
 use lib.ListN.{length, take, drop, get_or, length-append, length-drop}
-use lib.Seq.{paste, get_or-drop, drop_at, take_all}
+use lib.Seq.{paste, get_or-take, get_or-drop, length-take-le, drop_at, take_all}
 use borrow.Rule.Slice.PartMut.{put_mid, mid_of, same_len_mid}
 use Rattle.calculus.specs.Records.{Record, State}
 use Rattle.calculus.specs.Within.{Within}
@@ -25,11 +25,12 @@ use Rattle.states.specs.Clauses.{Spot}
 use Rattle.states.specs.declared.Role.{Role}
 use Rattle.states.specs.declared.Role.TheVariants.{Plain, Running}
 use Rattle.memory.specs.declared.Sight.{Sight}
-use Rattle.memory.specs.Memory.{Fitting, recalled}
+use Rattle.memory.specs.declared.Slot.{Slot}
+use Rattle.memory.specs.Memory.{Held, recalled}
 use Rattle.memory.specs.MemoryLaws.{recalled_held}
 use Rattle.std.specs.Prelude.{Option, Some, None, Ok}
 use Rattle.search.specs.declared.Trip.{Trip}
-use Rattle.search.specs.Visits.{state, role_next, out_of, onward, stretches, Known, VisitReady, Used, Strikes, Settled, Memory, key_of, saw_none, Has, Truthful, Learned, KeptOut, quest, AsksAfter, Began, Visited, Tried, Followed, Inner, ends, RightCounts, successor_count, Applied}
+use Rattle.search.specs.Visits.{state, role_next, out_of, onward, stretches, Known, VisitReady, Used, Strikes, Settled, key_of, saw_none, Has, Truthful, Learned, KeptOut, quest, AsksAfter, Began, Visited, Tried, Followed, Inner, ends, RightCounts, successor_count, Applied}
 use Rattle.search.specs.Searches.{answered}
 use Rattle.search.proofs.Numbers.{first_inner, ends_alone, ends_settled}
 use Rattle.search.proofs.Asks.{strikes_same, strikes_trans, strikes_into, settled_still, settled_all, gathered_strikes, gathered_settles}
@@ -85,7 +86,7 @@ no_trip e = let z : ◌≡◌ {A = ℕ} 0 1 = cc e in omega arith
 pub asks_spent : (s : State) (rs : List Record) (qs : List ℕ) → AsksAfter s rs spent qs qs
 asks_spent s rs qs = record { strikes = strikes_same qs; settles = λ far left e. absurd (no_trip e) }
 
-module _ (ns xs t : List ℕ) (role : Role) (qs : List ℕ) (left : ℕ) (m : Memory) where
+module _ (ns xs t : List ℕ) (role : Role) (qs : List ℕ) (left : ℕ) (m : List Slot) where
   pub visited_spent : left ≡ 0 → Visited (quest ns xs t role qs left m) t qs m None
   unfolding out_of
   visited_spent z = record {
@@ -130,47 +131,68 @@ module _ (ns xs t : List ℕ) (role : Role) (qs : List ℕ) (left : ℕ) (m : Me
             learned = learned_same ns xs qs m;
           }
 
-      pub visited_tried : (o : Option Trip) (t' qs' : List ℕ) (m' : Memory) → Tried (quest ns xs t role qs (left - 1) m) t' qs' m' o → Visited (quest ns xs t role qs left m) t' qs' m' o
+      pub visited_tried : (o : Option Trip) (t' qs' : List ℕ) (m' : List Slot) → Tried (quest ns xs t role qs (left - 1) m) t' qs' m' o → Visited (quest ns xs t role qs left m) t' qs' m' o
       visited_tried o t' qs' m' e = record { out = e.out ∙ visit_on (get_or xs 0 0) (drop 1 xs) (first_rest xs one); used = e.used; asked = e.asked; learned = e.learned }
 
 -- What is remembered of the state ---------------------------------------------------------------------------------------------
 
-module _ {ns xs t : List ℕ} {role : Role} (ready : VisitReady ns xs t role) (m : Memory) {key : ℕ} (e : key ≡ key_of role (length xs)) where
-  pub memory_fits : (t' : List ℕ) → length t' ≡ length t → {qs : List ℕ} → Truthful ns xs qs m → Fitting m.modes m.marks t' (count ns) key
-  memory_fits t' l f =
+-- the stretch's modes, as they are lent
+module _ (ns t : List ℕ) (room : count ns ≤ length t) where
+  abbrev own : List ℕ
+  own = take (count ns) t
+
+  pub own_length : length own ≡ count ns
+  own_length = length-take-le (count ns) t room
+
+  own_same : (j : ℕ) → j < count ns → get_or t j 0 ≡ get_or own j 0
+  own_same j h = sym (get_or-take (count ns) t j 0 h)
+
+module _ {ns xs t : List ℕ} {role : Role} (ready : VisitReady ns xs t role) {key : ℕ} (e : key ≡ key_of role (length xs)) (t' : List ℕ) (l : length t' ≡ length t) where
+  pub modes_room : count ns ≤ length t'
+  modes_room =
       let o = stretches_some (count ns) (suc (length xs)) (omega arith) in
-      let r = ready.room in
-      let n = ready.sound.few in
-      record {
-        few = omega arith;
-        there = omega arith;
-        small = subst (λ k. k ≤ 4000) (sym e) (key_small role (length xs) ready.known.few);
-        room = f.room;
-      }
+      let r = ready.room in omega arith
+
+  pub modes_few : length (own ns t' modes_room) ≤ 64
+  modes_few =
+      let n = ready.sound.few in omega (arith, own_length ns t' modes_room)
 
   -- it is recalled
-  pub visited_known : {qs : List ℕ} → Truthful ns xs qs m → (left : ℕ) {x : Sight} (o : Option Trip) → recalled m.modes m.marks t (count ns) key ≡ Ok x → out_of o ≡ left_of (saw_none x) left
-      → Visited (quest ns xs t role qs left m) t qs m o
-  visited_known {qs} f left {x} o h k =
-      let has = subst (λ z. Has ns xs m z t x) e (recalled_held m.modes m.marks t (count ns) key x h) in
-      record {
-        out = recalled_out f role t left x has o k;
-        used = used_same (count ns) (suc (length xs)) t;
-        asked = record { strikes = strikes_same qs; settles = λ far rest g. recalled_settled f role t left x has };
-        learned = learned_same ns xs qs m;
-      }
+  module _ (same : (j : ℕ) → j < count ns → get_or t j 0 ≡ get_or t' j 0) where
+    same_own : (j : ℕ) → j < count ns → get_or t j 0 ≡ get_or (own ns t' modes_room) j 0
+    same_own j h = same j h ∙ own_same ns t' modes_room j h
+
+    pub visited_known : {qs : List ℕ} {m : List Slot} → Truthful ns xs qs m → (left : ℕ) {x : Sight} (o : Option Trip)
+        → recalled m (own ns t' modes_room) (length (own ns t' modes_room)) key ≡ Ok x → out_of o ≡ left_of (saw_none x) left → Visited (quest ns xs t role qs left m) t qs m o
+    visited_known {qs} {m} f left {x} o h k =
+        let u : List ℕ = own ns t' modes_room in
+        let s : state ns role t ≡ state ns role u = state_same ns ready.sound ready.some t u same_own role in
+        let has = subst (λ n. Held m n (key_of role (length xs)) u x) (own_length ns t' modes_room) (subst (λ z. Held m (length u) z u x) e (recalled_held m u (length u) key x h)) in
+        record {
+          out = recalled_out f role u left x has o k ∙ ap (λ z. visit_b (cue_records xs) z left) (sym s);
+          used = used_same (count ns) (suc (length xs)) t;
+          asked = record { strikes = strikes_same qs; settles = λ far rest g. subst (λ z. Settled z (cue_records xs) qs) (sym s) (recalled_settled f role u left x has) };
+          learned = learned_same ns xs qs m;
+        }
 
   -- it is kept
-  pub visited_kept : (qs : List ℕ) (left : ℕ) (t' qs' : List ℕ) (m' m'' : Memory) (o : Option Trip) → Visited (quest ns xs t role qs left m) t' qs' m' o → KeptOut (count ns) key t' left (out_of o) m' m''
-      → Visited (quest ns xs t role qs left m) t' qs' m'' o
-  visited_kept qs left t' qs' m' m'' o v k = record {
-    out = v.out;
-    used = v.used;
-    asked = v.asked;
-    learned = learned_trans ns xs (strikes_same {s = state ns role t} {rs = []} qs') v.learned
-        (kept_learned ns xs ready.sound ready.some role t t' left (used_modes ns ready.sound ready.some (suc (length xs)) t t' v.used) v.out v.asked.settles
-        (subst (λ z. KeptOut (count ns) z t' left (out_of o) m' m'') e k));
-  }
+  pub visited_kept : {qs : List ℕ} {left : ℕ} {qs' : List ℕ} {m m' m'' : List Slot} {o : Option Trip} → Visited (quest ns xs t role qs left m) t' qs' m' o
+      → KeptOut (length (own ns t' modes_room)) key (own ns t' modes_room) left (out_of o) m' m'' → Visited (quest ns xs t role qs left m) t' qs' m'' o
+  visited_kept {qs} {left} {qs'} {m} {m'} {m''} {o} v k =
+      let u : List ℕ = own ns t' modes_room in
+      record {
+        out = v.out;
+        used = v.used;
+        asked = v.asked;
+        learned = learned_trans ns xs (strikes_same {s = state ns role t} {rs = []} qs') v.learned
+            (kept_learned ns xs ready.sound ready.some role t u left (same_own (used_modes ns ready.sound ready.some (suc (length xs)) t t' v.used)) v.out v.asked.settles
+            (subst (λ n. KeptOut n (key_of role (length xs)) u left (out_of o) m' m'') (own_length ns t' modes_room) (subst (λ z. KeptOut (length u) z u left (out_of o) m' m'') e k)));
+      }
+
+-- whatever is remembered
+pub visited_began : {ns xs t : List ℕ} {role : Role} {qs : List ℕ} {left : ℕ} {m : List Slot} {t' qs' : List ℕ} {m' : List Slot} {o : Option Trip}
+    → Visited (quest ns xs t role qs left m) t' qs' m' o → Began ns xs t role qs left t' qs' o
+visited_began v = record { out = v.out; used = v.used; asked = v.asked }
 
 -- Between two successors ----------------------------------------------------------------------------------------------------
 
@@ -218,12 +240,10 @@ began_more ns xs t role qs few left {t'} {qs'} {o} {trip} b e h k = record {
     less : (far rest : ℕ) → back trip.found trip.far (left - (few - trip.left)) ≡ back false far rest → back trip.found trip.far trip.left ≡ back false far trip.left
     less far rest g = ap (with_left trip.left) g
 
--- between two successors: the bytes and numbers lent are as many as before, the state's own stretch is kept, what was learned is right, what
+-- between two successors: the bytes lent are as many as before, the state's own stretch is kept, what was learned is right, what
 -- comes of all successors is what comes of those still to be tried, and those that were tried have answered what they can
-pub record Going (ns xs t : List ℕ) (role : Role) (qs : List ℕ) (left : ℕ) (m : Memory) (t' qs' : List ℕ) (m' : Memory) (k far rest : ℕ) : Type 0 where
+pub record Going (ns xs t : List ℕ) (role : Role) (qs : List ℕ) (left : ℕ) (m : List Slot) (t' qs' : List ℕ) (m' : List Slot) (k far rest : ℕ) : Type 0 where
   pub long : length t' ≡ length t
-  pub wide : length m'.modes ≡ length m.modes
-  pub deep : length m'.marks ≡ length m.marks
   pub used : Used (count ns) (suc (length xs)) t t'
   pub learned : Learned ns xs qs' m m'
   pub turn : Turn (state ns role t) (get_or xs 0 0) (drop 1 xs) left k far rest
@@ -402,7 +422,7 @@ module _ {ns xs d : List ℕ} {role : Role} (ready : VisitReady ns xs d role) (o
       pub visit_asked : VisitReady ns xs' part' role'
       visit_asked = subst (λ l. VisitReady ns l part' role') (sym er) (subst (λ l. VisitReady ns (drop 1 xs) l role') (sym part'_is) (subst (λ o. VisitReady ns (drop 1 xs) p o) (sym eo) deeper))
 
-      pub followed : (qs : List ℕ) (left : ℕ) (o : Option Trip) (q qs' : List ℕ) (m m' : Memory) → Visited (quest ns xs' part' role' qs left m) q qs' m' o
+      pub followed : (qs : List ℕ) (left : ℕ) (o : Option Trip) (q qs' : List ℕ) (m m' : List Slot) → Visited (quest ns xs' part' role' qs left m) q qs' m' o
           → Followed (quest ns xs d role qs left m) (put_mid (2 * count ns) (length y - 2 * count ns) y q) qs' m' o k
       followed qs left o q qs' m m' v =
           let v' : Visited (quest ns (drop 1 xs) p (role_next role (get_or xs 0 0)) qs left m) q qs' m' o

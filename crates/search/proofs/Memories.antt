@@ -4,7 +4,7 @@ use Prim.Native.Nat.{ℕ, zero, suc, ◌+◌, ◌-◌, ◌*◌, ◌≤◌, ◌<�
 use mathlib.Core.Path.{◌≡◌, refl, sym, ap, ◌∙◌, subst}
 use mathlib.Core.Bool.{false, cond}
 use mathlib.Core.Logic.{◌⊎◌, inl, inr}
-use mathlib.Core.List.{List}
+use mathlib.Core.List.{List, []}
 use native.Mathlib.Omega.{arith}
 use lib.ListN.{length, drop, get_or, replicate, length-drop, length-replicate}
 use lib.Seq.{drop-drop}
@@ -20,11 +20,12 @@ use Rattle.states.specs.declared.Role.{Role}
 use Rattle.states.specs.declared.Role.TheVariants.{Plain, Running}
 use Rattle.states.specs.Clauses.{Sound}
 use Rattle.memory.specs.declared.Sight.{Sight}
-use Rattle.memory.specs.Memory.{slots, Fitting, Remembered, Held, Same}
-use Rattle.memory.specs.MemoryLaws.{remembered_held, zeros_held}
+use Rattle.memory.specs.declared.Slot.{Slot}
+use Rattle.memory.specs.Memory.{empty, slot_at, remembered, Held, Same}
+use Rattle.memory.specs.MemoryLaws.{remembered_held, zeros_held, empty_held}
 use Rattle.search.specs.declared.Trip.{Trip}
 use Rattle.std.specs.Prelude.{Option, Some, None}
-use Rattle.search.specs.Visits.{state, out_of, Memory, memory, role_number, key_of, saw_none, last, Has, Strikes, Settled, Asking, Knows, Truthful, SearchedState, Learned, Added, KeptOut}
+use Rattle.search.specs.Visits.{state, out_of, role_number, key_of, saw_none, last, Has, Strikes, Settled, Asking, Knows, Truthful, SearchedState, Learned, Added, KeptOut}
 use Rattle.search.proofs.Asks.{asking_still, settled_still}
 use Rattle.search.proofs.Stretches.{state_same}
 
@@ -83,14 +84,14 @@ module _ {ns : List ℕ} {qs : List ℕ} {role : Role} {t : List ℕ} {x : Sight
   knows_still f k = record { saw = k.saw; settled = settled_still k.settled f }
 
 module _ (ns xs : List ℕ) where
-  pub learned_same : (qs : List ℕ) (m : Memory) → Learned ns xs qs m m
+  pub learned_same : (qs : List ℕ) (m : List Slot) → Learned ns xs qs m m
   learned_same qs m key t x h = inl h
 
   searched_still : {s : State} {rs : List Record} {qs qs' : List ℕ} {key : ℕ} {t : List ℕ} {x : Sight} → Strikes s rs qs qs' → SearchedState ns xs qs key t x → SearchedState ns xs qs' key t x
   searched_still f s = record { role = s.role; depth = s.depth; is = s.is; within = s.within; knows = knows_still f s.knows }
 
   -- what was learned stays learned when more asks are answered
-  pub learned_trans : {s : State} {rs : List Record} {qs qs' : List ℕ} {m m' m'' : Memory} → Strikes s rs qs qs' → Learned ns xs qs m m' → Learned ns xs qs' m' m'' → Learned ns xs qs' m m''
+  pub learned_trans : {s : State} {rs : List Record} {qs qs' : List ℕ} {m m' m'' : List Slot} → Strikes s rs qs qs' → Learned ns xs qs m m' → Learned ns xs qs' m' m'' → Learned ns xs qs' m m''
   learned_trans {qs = qs} {qs'} {m} {m'} {m''} e f g key t x h = by (g key t x h)
     where
       first : Has ns xs m key t x ⊎ SearchedState ns xs qs key t x → Has ns xs m key t x ⊎ SearchedState ns xs qs' key t x
@@ -102,15 +103,8 @@ module _ (ns xs : List ℕ) where
       by (inr s) = inr s
 
   -- what was right stays right
-  pub truthful_still : {s : State} {rs : List Record} {qs qs' : List ℕ} {m m' : Memory} → Truthful ns xs qs m → Strikes s rs qs qs' → Learned ns xs qs' m m'
-      → length m'.modes ≡ length m.modes → length m'.marks ≡ length m.marks → Truthful ns xs qs' m'
-  truthful_still {qs = qs} {qs'} {m} {m'} f e g em ek =
-      let r = f.room in
-      record {
-        room = subst (λ n. 2 * n ≤ length m'.modes) (sym ek) (omega arith);
-        asking = asking_still e f.asking;
-        right = λ role d few t x h. by role d few t x (g (key_of role d) t x h);
-      }
+  pub truthful_still : {s : State} {rs : List Record} {qs qs' : List ℕ} {m m' : List Slot} → Truthful ns xs qs m → Strikes s rs qs qs' → Learned ns xs qs' m m' → Truthful ns xs qs' m'
+  truthful_still {qs = qs} {qs'} {m} {m'} f e g = record { asking = asking_still e f.asking; right = λ role d few t x h. by role d few t x (g (key_of role d) t x h) }
     where
       by : (role : Role) (d : ℕ) → d ≤ length xs → (t : List ℕ) (x : Sight) → Has ns xs m (key_of role d) t x ⊎ SearchedState ns xs qs' (key_of role d) t x → Knows ns xs qs' role d t x
       by role d few t x (inl k) = knows_still e (f.right role d few t x k)
@@ -120,14 +114,13 @@ module _ (ns xs : List ℕ) where
 
   -- the records after the first
   module _ (some : 1 ≤ length xs) where
-    pub truthful_rest : {qs : List ℕ} {m : Memory} → Truthful ns xs qs m → Truthful ns (drop 1 xs) qs m
+    pub truthful_rest : {qs : List ℕ} {m : List Slot} → Truthful ns xs qs m → Truthful ns (drop 1 xs) qs m
     truthful_rest {qs} {m} f = record {
-      room = f.room;
       asking = f.asking;
       right = λ role d few t x h. knows_by (sym (last_rest d xs some few)) (f.right role d (let l = length-drop 1 xs in omega arith) t x h);
     }
 
-    pub learned_rest : {qs : List ℕ} {m m' : Memory} → Learned ns (drop 1 xs) qs m m' → Learned ns xs qs m m'
+    pub learned_rest : {qs : List ℕ} {m m' : List Slot} → Learned ns (drop 1 xs) qs m m' → Learned ns xs qs m m'
     learned_rest {qs} {m} {m'} f key t x h = by (f key t x h)
       where
         by : Has ns (drop 1 xs) m key t x ⊎ SearchedState ns (drop 1 xs) qs key t x → Has ns xs m key t x ⊎ SearchedState ns xs qs key t x
@@ -145,33 +138,24 @@ module _ (ns xs : List ℕ) where
 
 module _ (ns xs qs : List ℕ) (asks : Asking qs) where
   -- nothing is remembered
-  pub truthful_none : (m : Memory) → slots m.marks ≡ 0 → Truthful ns xs qs m
-  truthful_none m e = record {
-    room = omega arith;
-    asking = asks;
-    right = λ role d few t x h. let q = h.there in absurd (omega arith);
-  }
+  pub truthful_none : Truthful ns xs qs []
+  truthful_none = record { asking = asks; right = λ role d few t x h. absurd (empty_held h) }
 
-  pub truthful_zeros : (m : Memory) → 2 * slots m.marks ≤ length m.modes → ((j : ℕ) → get_or m.marks j 0 ≡ 0) → Truthful ns xs qs m
-  truthful_zeros m room z = record {
-    room = room;
+  -- so many empty slots
+  pub truthful_fresh : (n : ℕ) → Truthful ns xs qs (replicate n empty)
+  truthful_fresh n = record {
     asking = asks;
-    right = λ role d few t x h. let q = zeros_held z h in absurd (omega (arith, small role));
+    right = λ role d few t x h. let q = zeros_held (keyless n) h in absurd (omega (arith, small role));
   }
-
-  -- zeros, as many modes and marks as these
-  pub truthful_fresh : (a b : ℕ) → 2 * b ≤ a → Truthful ns xs qs (memory (replicate a 0) (replicate b 0))
-  truthful_fresh a b h = truthful_zeros (memory (replicate a 0) (replicate b 0))
-      (rw (length-replicate, length-replicate) h) (zero_at b)
     where
-      zero_at : (n j : ℕ) → ◌≡◌ {A = ℕ} (get_or (replicate n 0) j 0) 0
-      zero_at zero j = refl
-      zero_at (suc n) zero = refl
-      zero_at (suc n) (suc j) = zero_at n j
+      keyless : (n j : ℕ) → (slot_at (replicate n empty) j).key ≡ 0
+      keyless zero j = refl
+      keyless (suc n) zero = refl
+      keyless (suc n) (suc j) = keyless n j
 
 -- A state that is recalled, and one that is kept ----------------------------------------------------------------------------
 
-module _ {ns xs qs : List ℕ} {m : Memory} (f : Truthful ns xs qs m) (role : Role) (t : List ℕ) (left : ℕ) (x : Sight) (h : Has ns xs m (key_of role (length xs)) t x) where
+module _ {ns xs qs : List ℕ} {m : List Slot} (f : Truthful ns xs qs m) (role : Role) (t : List ℕ) (left : ℕ) (x : Sight) (h : Has ns xs m (key_of role (length xs)) t x) where
   found : Finds ns xs qs role t x
   found = let k = f.right role (length xs) (omega arith) t x h in subst (λ l. Finds ns l qs role t x) (last_all xs) (k.saw, k.settled)
 
@@ -191,13 +175,12 @@ module _ (x : Sight) (left : ℕ) where
   unfolding out_of left_of
   known_back h = sym (ap (λ c. cond c (back false x.reached (left - x.entered)) spent) (le-leb x.entered left h))
 
-pub added : {ms ks : List ℕ} {t : List ℕ} {n key slot left : ℕ} {trip : Trip} {x₀ : Sight} {ms' ks' : List ℕ}
-    → Fitting ms ks t n key → trip.left ≤ left → trip.found ≡ false → x₀.entered ≡ left - trip.left → x₀.reached ≡ trip.far
-    → Remembered ms ks slot t n key x₀ ms' ks' → KeptOut n key t left (out_of (Some trip)) (memory ms ks) (memory ms' ks')
+pub added : {m m' : List Slot} {t : List ℕ} {n key : ℕ} (p : ℕ) {left : ℕ} {trip : Trip} {x₀ : Sight} → n ≤ 64 → trip.left ≤ left → trip.found ≡ false
+    → x₀.entered ≡ left - trip.left → x₀.reached ≡ trip.far → m' ≡ remembered m p t n key x₀ → KeptOut n key t left (out_of (Some trip)) m m'
 unfolding out_of
-added {ms} {ks} {t} {n} {key} {slot} {left} {trip} {x₀} {ms'} {ks'} fit less none ee er r = record { adds = λ key' t' x h. by key' t' x (remembered_held fit r h) }
+added {m} {m'} {t} {n} {key} p {left} {trip} {x₀} few less none ee er r = record { adds = λ key' t' x h. by key' t' x (remembered_held m p t n key x₀ few r h) }
   where
-    by : (key' : ℕ) (t' : List ℕ) (x : Sight) → Held ms ks n key' t' x ⊎ (Same n key' t' key t × (x ≡ x₀)) → Held ms ks n key' t' x ⊎ Added n key t left (back trip.found trip.far trip.left) x key' t'
+    by : (key' : ℕ) (t' : List ℕ) (x : Sight) → Held m n key' t' x ⊎ (Same n key' t' key t × (x ≡ x₀)) → Held m n key' t' x ⊎ Added n key t left (back trip.found trip.far trip.left) x key' t'
     by key' t' x (inl k) = inl k
     by key' t' x (inr p) = inr (record {
       same = p.0;
@@ -207,13 +190,13 @@ added {ms} {ks} {t} {n} {key} {slot} {left} {trip} {x₀} {ms'} {ks'} fit less n
       entered = ap (λ (y : Sight). y.entered) p.1 ∙ ee;
     })
 
-pub not_added : (n key : ℕ) (t : List ℕ) (left : ℕ) (o : Found) (m : Memory) → KeptOut n key t left o m m
+pub not_added : (n key : ℕ) (t : List ℕ) (left : ℕ) (o : Found) (m : List Slot) → KeptOut n key t left o m m
 not_added n key t left o m = record { adds = λ key' t' x h. inl h }
 
 module _ (ns xs : List ℕ) (sound : Sound ns) (enough : 3 ≤ length ns) (role : Role) (t t' : List ℕ) (left : ℕ)
     (same : (j : ℕ) → j < count ns → get_or t j 0 ≡ get_or t' j 0) where
   -- what came of the state that t held, put in by the modes of t'
-  pub kept_learned : {o : Found} {qs : List ℕ} {m m' : Memory} → o ≡ visit_b (cue_records xs) (state ns role t) left
+  pub kept_learned : {o : Found} {qs : List ℕ} {m m' : List Slot} → o ≡ visit_b (cue_records xs) (state ns role t) left
       → ((far rest : ℕ) → o ≡ back false far rest → Settled (state ns role t) (cue_records xs) qs)
       → KeptOut (count ns) (key_of role (length xs)) t' left o m m' → Learned ns xs qs m m'
   kept_learned {o} {qs} {m} {m'} e settles f key u x h = by (f.adds key u x h)

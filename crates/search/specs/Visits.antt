@@ -21,7 +21,8 @@ use Rattle.states.specs.Roles.{ok}
 use Rattle.states.specs.Rows.{notes}
 use Rattle.states.specs.Clauses.{Sound, Kept, scene, noted_at}
 use Rattle.memory.specs.declared.Sight.{Sight}
-use Rattle.memory.specs.Memory.{slots, Held, Same}
+use Rattle.memory.specs.declared.Slot.{Slot}
+use Rattle.memory.specs.Memory.{Held, Same}
 use Rattle.search.specs.declared.Trip.{Trip}
 
 -- States ----------------------------------------------------------------------------------------------------------------
@@ -106,14 +107,6 @@ Asking qs = (j : ℕ) → get_or qs j 0 ≤ failed_cue
 
 -- What is remembered ------------------------------------------------------------------------------------------------------
 
--- the slices of a memory
-pub record Memory : Type 0 where
-  pub modes : List ℕ
-  pub marks : List ℕ
-
-abbrev pub memory : List ℕ → List ℕ → Memory
-memory modes marks = record { modes = modes; marks = marks }
-
 unfoldable pub role_number : Role → ℕ
 role_number (Plain Drawn) = 0
 role_number (Plain Undoing) = 1
@@ -132,8 +125,8 @@ abbrev pub last : ℕ → List ℕ → List ℕ
 last d xs = drop (length xs - d) xs
 
 module _ (ns xs : List ℕ) where
-  abbrev pub Has : Memory → ℕ → List ℕ → Sight → Type 0
-  Has m key t x = Held m.modes m.marks (count ns) key t x
+  abbrev pub Has : List Slot → ℕ → List ℕ → Sight → Type 0
+  Has m key t x = Held m (count ns) key t x
 
   -- what a search sees from the state that t holds, through the last of the records
   abbrev pub Saw : Role → ℕ → List ℕ → Sight → Type 0
@@ -145,8 +138,7 @@ module _ (ns xs : List ℕ) where
     pub settled : Settled (state ns role t) (cue_records (last d xs)) qs
 
   -- a lookup is right: what the memory has of a state is what its search finds out
-  pub record Truthful (qs : List ℕ) (m : Memory) : Type 0 where
-    pub room : 2 * slots m.marks ≤ length m.modes
+  pub record Truthful (qs : List ℕ) (m : List Slot) : Type 0 where
     pub asking : Asking qs
     pub right : (role : Role) (d : ℕ) → d ≤ length xs → (t : List ℕ) (x : Sight) → Has m (key_of role d) t x → Knows qs role d t x
 
@@ -159,7 +151,7 @@ module _ (ns xs : List ℕ) where
     pub knows : Knows qs role depth t x
 
   -- what the memory has after a search it had before, or it was searched
-  abbrev pub Learned : List ℕ → Memory → Memory → Type 0
+  abbrev pub Learned : List ℕ → List Slot → List Slot → Type 0
   Learned qs m m' = (key : ℕ) (t : List ℕ) (x : Sight) → Has m' key t x → Has m key t x ⊎ SearchedState qs key t x
 
 -- of `keep`: it adds nothing but the state of n modes, with what came of it, and that only if no end was found
@@ -170,9 +162,9 @@ pub record Added (n key : ℕ) (t : List ℕ) (left : ℕ) (o : Found) (x : Sigh
   pub none : o ≡ back false x.reached rest
   pub entered : x.entered ≡ left - rest
 
-pub record KeptOut (n key : ℕ) (t : List ℕ) (left : ℕ) (o : Found) (m m' : Memory) : Type 0 where
-  pub adds : (key' : ℕ) (t' : List ℕ) (x : Sight) → Held m'.modes m'.marks n key' t' x
-      → Held m.modes m.marks n key' t' x ⊎ Added n key t left o x key' t'
+pub record KeptOut (n key : ℕ) (t : List ℕ) (left : ℕ) (o : Found) (m m' : List Slot) : Type 0 where
+  pub adds : (key' : ℕ) (t' : List ℕ) (x : Sight) → Held m' n key' t' x
+      → Held m n key' t' x ⊎ Added n key t left o x key' t'
 
 -- where a search stands: the table, the cues of the records to come, the stretch of the state and what lies behind it, the root's role, what is
 -- asked, what is left of the allowance, and what is remembered
@@ -183,9 +175,9 @@ pub record Quest : Type 0 where
   pub role : Role
   pub asks : List ℕ
   pub left : ℕ
-  pub m : Memory
+  pub m : List Slot
 
-abbrev pub quest : List ℕ → List ℕ → List ℕ → Role → List ℕ → ℕ → Memory → Quest
+abbrev pub quest : List ℕ → List ℕ → List ℕ → Role → List ℕ → ℕ → List Slot → Quest
 quest ns xs t role qs left m = record { ns = ns; cues = xs; t = t; role = role; asks = qs; left = left; m = m }
 
 abbrev pub state_at : Quest → State
@@ -203,7 +195,7 @@ pub record Began (ns xs t : List ℕ) (role : Role) (qs : List ℕ) (left : ℕ)
   pub asked : AsksAfter (state ns role t) (cue_records xs) (out_of o) qs qs'
 
 -- what comes of it: the work bytes t', the asks qs', the memory m', and the answer o
-module _ (q : Quest) (t' qs' : List ℕ) (m' : Memory) (o : Option Trip) where
+module _ (q : Quest) (t' qs' : List ℕ) (m' : List Slot) (o : Option Trip) where
   abbrev pub QuestUsed : Type 0
   QuestUsed = Used (count q.ns) (suc (length q.cues)) q.t t'
 

@@ -15,14 +15,16 @@ ghost use Rattle.flow.specs.Refusals.{root};
 ghost use Rattle.tallies.specs.Capped.{most};
 ghost use Rattle.tallies.specs.Formulas.{closing};
 ghost use Rattle.states.specs.Clauses.{Spot};
-ghost use Rattle.memory.specs.Memory.{Fitting};
 ghost use Rattle.search.specs.Room.{room_of, cleared};
 ghost use Rattle.search.specs.Searches.{role_of, LeftWithin, SearchReady, Searched, answered, went_through, Asked};
-ghost use Rattle.search.specs.Visits.{state, role_next, out_of, closing_of, ends_by, onward, VisitReady, Asking, memory, key_of, saw_none, Truthful, KeptOut, quest, Began, Visited, Tried, Followed, Inner, ends, RightCounts, successor_count, SuccessorsCounted, Applied};
+ghost use Rattle.search.specs.Visits.{state, role_next, out_of, closing_of, ends_by, onward, VisitReady, Asking, key_of, saw_none, Truthful, KeptOut, quest, Began, Visited, Tried, Followed, Inner, ends, RightCounts, successor_count, SuccessorsCounted, Applied};
 
 use memory::Sight;
 use states::{Basis, Moving, Role, Sense};
 use tallies::{Closing, View, Weight};
+use memory::{Sight, Slot};
+use states::{Role, Sense};
+use tallies::{View, Weight};
 
 // What a search brings back, unless its allowance is used up: whether it found the end, how many records at most it followed, and what is
 // left of the allowance.
@@ -244,11 +246,11 @@ fn arrive(ns: &[u16], t: &[u8], role: Role, asks: &mut [u64], left: u32) -> Opti
 }
 
 // What a state is remembered by, beside its modes: how many records are left, and the role.
-fn key_of(records: usize, role: Role) -> u32
+fn key_of(records: usize, role: Role) -> u16
     requires { records ≤ 256 }
     ensures { result ≡ key_of role records }
 {
-    let depth = 4 * (records as u32 + 1);
+    let depth = 4 * (records as u16 + 1);
     match role {
         Role::Plain(sense) => match sense {
             Sense::Drawn => depth,
@@ -270,47 +272,25 @@ fn known(seen: Sight, left: u32) -> Option<Trip>
     })
 }
 
-// What a search without an end came to, with so much left before it, is remembered.
-fn keep_trip(
-    trip: Trip,
-    left: u32,
-    modes: &mut [u64],
-    marks: &mut [u64],
-    slot: usize,
-    t: &[u8],
-    n: usize,
-    key: u32,
-)
-    requires fitting { Fitting modes.old marks.old t.now n key }
-    requires left_le_left { trip.left ≤ left }
-    ensures { KeptOut n key t.now left (out_of (Some trip)) (memory modes.old marks.old) (memory modes.new marks.new) }
-{
-    if !trip.found {
-        let seen = Sight {
-            entered: left - trip.left,
-            reached: trip.far,
-        };
-        memory::remember(modes, marks, slot, t, n, key, seen);
-    }
-}
-
-// What came of a state is remembered, if its search was over and found no end.
+// What came of a state, with so much left before it, is remembered, if its search was over and found no end.
 fn keep(
     out: Option<Trip>,
     left: u32,
-    modes: &mut [u64],
-    marks: &mut [u64],
-    slot: usize,
-    t: &[u8],
-    n: usize,
-    key: u32,
+    slots: &mut [Slot],
+    pair: usize,
+    state: &[u8],
+    key: u16,
 )
-    requires fitting { Fitting modes.old marks.old t.now n key }
+    requires few { length state.now ≤ 64 }
     requires left_within { LeftWithin left out }
-    ensures { KeptOut n key t.now left (out_of out) (memory modes.old marks.old) (memory modes.new marks.new) }
+    ensures { KeptOut (length state.now) key state.now left (out_of out) slots.old slots.new }
 {
-    if let Some(trip) = out {
-        keep_trip(trip, left, modes, marks, slot, t, n, key);
+    if let Some(Trip { found: false, far, left: rest }) = out {
+        let seen = Sight {
+            entered: left - rest,
+            reached: far,
+        };
+        memory::remember(slots, pair, state, key, seen);
     }
 }
 
@@ -323,20 +303,19 @@ fn visit(
     role: Role,
     asks: &mut [u64],
     left: u32,
-    modes: &mut [u64],
-    marks: &mut [u64],
+    slots: &mut [Slot],
 ) -> Option<Trip>
     requires visit_ready { VisitReady ns.now cues.now work.old role }
-    requires truthful { Truthful ns.now cues.now asks.old (memory modes.old marks.old) }
-    ensures { Visited (quest ns.now cues.now work.old role asks.old left (memory modes.old marks.old)) work.new asks.new (memory modes.new marks.new) result }
+    requires truthful { Truthful ns.now cues.now asks.old slots.old }
+    ensures { Visited (quest ns.now cues.now work.old role asks.old left slots.old) work.new asks.new slots.new result }
 {
     let n = ns.len() / 3;
     let key = key_of(cues.len(), role);
-    match memory::recall(modes, marks, work, n, key) {
+    match memory::recall(slots, &work[..n], key) {
         Ok(seen) => known(seen, left),
-        Err(slot) => {
-            let out = enter(ns, cues, work, role, asks, left, modes, marks);
-            keep(out, left, modes, marks, slot, work, n, key);
+        Err(pair) => {
+            let out = enter(ns, cues, work, role, asks, left, slots);
+            keep(out, left, slots, pair, &work[..n], key);
             out
         }
     }
@@ -351,12 +330,11 @@ fn enter(
     role: Role,
     asks: &mut [u64],
     left: u32,
-    modes: &mut [u64],
-    marks: &mut [u64],
+    slots: &mut [Slot],
 ) -> Option<Trip>
     requires visit_ready { VisitReady ns.now cues.now work.old role }
-    requires truthful { Truthful ns.now cues.now asks.old (memory modes.old marks.old) }
-    ensures { Visited (quest ns.now cues.now work.old role asks.old left (memory modes.old marks.old)) work.new asks.new (memory modes.new marks.new) result }
+    requires truthful { Truthful ns.now cues.now asks.old slots.old }
+    ensures { Visited (quest ns.now cues.now work.old role asks.old left slots.old) work.new asks.new slots.new result }
 {
     if left == 0 {
         return None;
@@ -367,7 +345,7 @@ fn enter(
     if ends(role, cues[0]) {
         finish(ns, work, cues[0], role, left - 1)
     } else {
-        visit_each(ns, cues, work, role, asks, left - 1, modes, marks)
+        visit_each(ns, cues, work, role, asks, left - 1, slots)
     }
 }
 
@@ -390,19 +368,18 @@ fn visit_each(
     role: Role,
     asks: &mut [u64],
     left: u32,
-    modes: &mut [u64],
-    marks: &mut [u64],
+    slots: &mut [Slot],
 ) -> Option<Trip>
     requires visit_ready { VisitReady ns.now cues.now work.old role }
-    requires truthful { Truthful ns.now cues.now asks.old (memory modes.old marks.old) }
+    requires truthful { Truthful ns.now cues.now asks.old slots.old }
     requires in_bounds { (1 ≤ length cues.now) × (left < most) }
     requires not_an_ending { ends role (get_or cues.now 0 0) ≡ false }
-    ensures { Tried (quest ns.now cues.now work.old role asks.old left (memory modes.old marks.old)) work.new asks.new (memory modes.new marks.new) result }
+    ensures { Tried (quest ns.now cues.now work.old role asks.old left slots.old) work.new asks.new slots.new result }
 {
     let mut c = [0u32; 64];
     let mut d = [0u32; 576];
     let many = successors(ns, work, cues[0], &mut c, &mut d, role);
-    try_each(ns, cues, work, role, asks, left, modes, marks, &c, &d, many)
+    try_each(ns, cues, work, role, asks, left, slots, &c, &d, many)
 }
 
 // The successors one after the other, until one finds the end.
@@ -414,24 +391,23 @@ fn try_each(
     role: Role,
     asks: &mut [u64],
     left: u32,
-    modes: &mut [u64],
-    marks: &mut [u64],
+    slots: &mut [Slot],
     c: &[u32; 64],
     d: &[u32],
     many: u32,
 ) -> Option<Trip>
     requires visit_ready { VisitReady ns.now cues.now work.old role }
-    requires truthful { Truthful ns.now cues.now asks.old (memory modes.old marks.old) }
+    requires truthful { Truthful ns.now cues.now asks.old slots.old }
     requires in_bounds { (1 ≤ length cues.now) × (left < most) }
     requires not_an_ending { ends role (get_or cues.now 0 0) ≡ false }
     requires right_counts { RightCounts ns.now role (get_or cues.now 0 0) work.old c.now d.now }
     requires many_is { many ≡ successor_count ns.now role (get_or cues.now 0 0) work.old }
-    ensures { Tried (quest ns.now cues.now work.old role asks.old left (memory modes.old marks.old)) work.new asks.new (memory modes.new marks.new) result }
+    ensures { Tried (quest ns.now cues.now work.old role asks.old left slots.old) work.new asks.new slots.new result }
 {
     let mut far = 0;
     let mut rest = left;
     for k in 0..many {
-        let trip = follow(ns, cues, c, d, work, role, asks, k, rest, modes, marks)?;
+        let trip = follow(ns, cues, c, d, work, role, asks, k, rest, slots)?;
         // the record into the successor counts too
         far = far.max(trip.far + 1);
         rest = trip.left;
@@ -475,16 +451,15 @@ fn follow(
     asks: &mut [u64],
     k: u32,
     left: u32,
-    modes: &mut [u64],
-    marks: &mut [u64],
+    slots: &mut [Slot],
 ) -> Option<Trip>
     requires visit_ready { VisitReady ns.now cues.now work.old role }
-    requires truthful { Truthful ns.now cues.now asks.old (memory modes.old marks.old) }
+    requires truthful { Truthful ns.now cues.now asks.old slots.old }
     requires in_bounds { 1 ≤ length cues.now }
     requires not_an_ending { ends role (get_or cues.now 0 0) ≡ false }
     requires right_counts { RightCounts ns.now role (get_or cues.now 0 0) work.old c.now d.now }
     requires k_bound { k < successor_count ns.now role (get_or cues.now 0 0) work.old }
-    ensures { Followed (quest ns.now cues.now work.old role asks.old left (memory modes.old marks.old)) work.new asks.new (memory modes.new marks.new) result k }
+    ensures { Followed (quest ns.now cues.now work.old role asks.old left slots.old) work.new asks.new slots.new result k }
 {
     let n = ns.len() / 3;
     copy_down(work, n);
@@ -498,8 +473,7 @@ fn follow(
         after,
         asks,
         left,
-        modes,
-        marks,
+        slots,
     )
 }
 
@@ -539,32 +513,6 @@ pub fn room_wanted(nodes: usize, records: usize) -> usize
 // A search of so many states at most goes without a memory: to clear one costs about as much.
 const FEW_STATES: u32 = 32;
 
-// Up to so many states, and nothing is remembered.
-fn first_search(
-    ns: &[u16],
-    cues: &[u64],
-    work: &mut [u8],
-    role: Role,
-    asks: &mut [u64],
-    allowance: u32,
-) -> Option<Trip>
-    requires { VisitReady ns.now cues.now work.old role × Asking asks.old }
-    ensures { Began ns.now cues.now work.old role asks.old allowance work.new asks.new result }
-{
-    let mut modes = [0u64; 1];
-    let mut marks = [0u64; 1];
-    visit(
-        ns,
-        cues,
-        work,
-        role,
-        asks,
-        allowance,
-        &mut modes[..0],
-        &mut marks[..0],
-    )
-}
-
 // With a memory.
 fn long_search(
     ns: &[u16],
@@ -577,11 +525,8 @@ fn long_search(
     requires { VisitReady ns.now cues.now work.old role × Asking asks.old }
     ensures { Began ns.now cues.now work.old role asks.old allowance work.new asks.new result }
 {
-    let mut modes = [0u64; memory::MODES];
-    let mut marks = [0u64; memory::MARKS];
-    visit(
-        ns, cues, work, role, asks, allowance, &mut modes, &mut marks,
-    )
+    let mut slots = [memory::EMPTY; memory::SLOTS];
+    visit(ns, cues, work, role, asks, allowance, &mut slots)
 }
 
 // What came of a search of fewer states, with the whole allowance.
@@ -610,9 +555,9 @@ fn search_twice(
     ensures { Began ns.now cues.now work.old role asks.old allowance work.new asks.new result }
 {
     if allowance <= FEW_STATES {
-        return first_search(ns, cues, work, role, asks, allowance);
+        return visit(ns, cues, work, role, asks, allowance, &mut []);
     }
-    match first_search(ns, cues, work, role, asks, FEW_STATES) {
+    match visit(ns, cues, work, role, asks, FEW_STATES, &mut []) {
         None => long_search(ns, cues, work, role, asks, allowance),
         Some(trip) => Some(with_more(trip, FEW_STATES, allowance)),
     }

@@ -1,19 +1,15 @@
--- `memory::fits` meets its contract: the first j modes fit or not. Assumes nothing.
-use mathlib.Core.Path.{refl, ap, sym, ◌∙◌}
-use mathlib.Core.Bool.{◌&&◌}
-use native.Mathlib.Omega.{arith}
+-- `memory::fits` meets its contract: a mode after the other fits or not. Assumes nothing.
+use mathlib.Core.Path.{◌∙◌}
+use mathlib.Core.Bool.{true, ◌&&◌}
 use lib.Dec.{ltb}
-use lib.ListN.{get_or}
-use Rattle.memory.specs.MemoryLaws.{two_bits_more}
-use Rattle.memory.specs.Memory.{two_bits}
+use Rattle.std.proofs.Common.{rules, tests}
+use Rattle.std.proofs.lemmas.Iterator.{YieldsList-from_slice}
+use Rattle.std.proofs.lemmas.Iterator.Consumers.{fold_from_yields_List}
+use Rattle.memory.specs.MemoryLaws.{two_bits_all}
 use Rattle.memory.proofs.fits.Goals as goal
 
-pub loop-j-init : goal.loop-j-init
-unfolding two_bits
-loop-j-init c = (omega arith, refl)
-
-pub loop-j-preserved : goal.loop-j-preserved
-loop-j-preserved c =
-    let l = c.loop-j in
-    let t = c.args.t.now in
-    (omega arith, ap (λ b. b && ltb (get_or t l.j 0) 4) l.invariant.1 ∙ sym (two_bits_more t l.j))
+pub returns : goal.returns
+returns c =
+    let t = c.args.state.now in
+    fold_from_yields_List _ (λ b m. b && ltb m 4) true _ c.fold.ensures.ran (YieldsList-from_slice t cc) (λ b x r q k. search (rules, tests))
+    ∙ two_bits_all t

@@ -1,9 +1,14 @@
 -- `memory::four` meets its contract: four bytes of four modes. Assumes nothing.
+use Prim.Native.Nat.{◌+◌}
 use native.Mathlib.Omega.{arith}
+use lib.ListN.{length}
 use Rattle.memory.specs.MemoryLaws.{four_is}
 use Rattle.memory.proofs.four.Goals as goal
 
 pub returns : goal.returns
 returns c =
     let a = c.args in
-    (four_is a.t.now a.n a.at (omega arith) c.wide.ensures.0 c.wide-2.ensures.0 c.wide-3.ensures.0 c.wide-4.ensures.0, omega arith)
+    let small = c.type_inv.state in (
+      four_is a.state.now (length a.state.now) a.at (omega arith) c.from.ensures c.from-2.ensures c.from-3.ensures c.from-4.ensures,
+      omega (arith, small a.at, small (a.at + 1), small (a.at + 2), small (a.at + 3), c.from.ensures, c.from-2.ensures, c.from-3.ensures, c.from-4.ensures),
+    )

@@ -1,8 +1,7 @@
 -- `memory::mixed` meets its contract: no sum is too large. Assumes nothing.
-use mathlib.Core.Path.{refl}
 use Rattle.memory.specs.Memory.{mixed}
 use Rattle.memory.proofs.mixed.Goals as goal
 
 pub returns : goal.returns
 unfolding mixed
-returns c = refl
+returns c = rw c.from.ensures

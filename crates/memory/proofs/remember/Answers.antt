@@ -1,20 +1,21 @@
 -- `memory::remember` meets its contract: a pair that is there takes what fits, and else nothing is changed. Assumes nothing.
-use Rattle.memory.specs.MemoryLaws.{remembered_put, remembered_unfit, remembered_not}
+use lib.ListN.{length}
+use Rattle.memory.specs.MemoryLaws.{remembered_put, remembered_far, remembered_not}
 use Rattle.memory.proofs.remember.Goals as goal
 
-pub returns-then-fits-seen : goal.returns-then-fits-seen
-returns-then-fits-seen c =
+pub returns-in-Ok : goal.returns-in-Ok
+returns-in-Ok c =
     let a = c.args in
-    let w = c.put_words in
-    remembered_put a.modes.now a.marks.now a.slot a.t.now a.n a.key a.seen c.if-slot-marks.true c.fits.ensures c.if-fits-seen.true
-    c.lesser-s.ensures.0 c.pack.ensures c.pack-then-fits-seen.ensures c.mark_of.ensures w.ensures
+    let r = c.in-Ok.ensures in
+    remembered_put a.slots.now a.pair a.state.now (length a.state.now) a.key a.seen c.fits.ensures c.if-pair-slots.true r.0 c.lesser-s.ensures.0
+    (λ i. record { low = c.pack.ensures i; high = c.pack-in-Ok.ensures i; entered = a.seen.entered; reached = r.1 i; key = a.key })
 
-pub returns-else-fits-seen : goal.returns-else-fits-seen
-returns-else-fits-seen c =
+pub returns-in_default : goal.returns-in_default
+returns-in_default c =
     let a = c.args in
-    remembered_unfit a.modes.now a.marks.now a.slot a.t.now a.n a.key a.seen c.if-slot-marks.true c.fits.ensures c.if-fits-seen.false
+    remembered_far a.slots.now a.pair a.state.now (length a.state.now) a.key a.seen c.fits.ensures c.if-pair-slots.true c.in_default.ensures
 
-pub returns-else-slot-marks : goal.returns-else-slot-marks
-returns-else-slot-marks c =
+pub returns-else-pair-slots : goal.returns-else-pair-slots
+returns-else-pair-slots c =
     let a = c.args in
-    remembered_not a.modes.now a.marks.now a.slot a.t.now a.n a.key a.seen c.if-slot-marks.false
+    remembered_not a.slots.now a.pair a.state.now (length a.state.now) a.key a.seen c.fits.ensures c.if-pair-slots.false

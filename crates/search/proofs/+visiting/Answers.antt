@@ -8,9 +8,9 @@ use native.Mathlib.Omega.{arith}
 use lib.ListN.{length, drop, get_or, length-drop}
 use Rattle.flow.specs.Cues.{cue_records}
 use Rattle.search.specs.SearchLaws.{visit_within}
-use Rattle.search.specs.Visits.{Truthful, state, memory}
+use Rattle.search.specs.Visits.{Truthful, state}
 use Rattle.flow.specs.Refusals.{count}
-use Rattle.search.proofs.Deeper.{memory_fits, visited_known, visited_kept, ready_spot, first_low, visited_spent, visited_arrived, visited_last, visited_tried, ready_still, right_still, count_still, goes_still, tried_none, tried_spent, tried_found, tried_on, tried_over, two_stretches, copied_room, apply_asked, back_room, visit_asked, followed, rest_is, rest_length}
+use Rattle.search.proofs.Deeper.{own_length, modes_room, modes_few, visited_known, visited_kept, ready_spot, first_low, visited_spent, visited_arrived, visited_last, visited_tried, ready_still, right_still, count_still, goes_still, tried_none, tried_spent, tried_found, tried_on, tried_over, two_stretches, copied_room, apply_asked, back_room, visit_asked, followed, rest_is, rest_length}
 use Rattle.search.proofs.Numbers.{first_inner, ends_fits}
 use Rattle.search.proofs.Stretches.{used_same, used_trans}
 use Rattle.search.proofs.Turns.{greater, turn_none, turn_over, turn_spent, turn_cost, turn_found, turn_on, turn_all}
@@ -21,7 +21,7 @@ use Rattle.search.proofs.+visiting.Goals as goal
 pub enter-returns-then-left-eq0 : goal.enter-returns-then-left-eq0
 enter-returns-then-left-eq0 t c =
     let a = c.args in
-    visited_spent a.ns.now a.cues.now a.work.now a.role a.asks.now a.left (memory a.modes.now a.marks.now) c.if-left-eq0.true
+    visited_spent a.ns.now a.cues.now a.work.now a.role a.asks.now a.left a.slots.now c.if-left-eq0.true
 
 pub enter-overflow_sub-left : goal.enter-overflow_sub-left
 enter-overflow_sub-left t c = omega (arith, c.if-left-eq0.false)
@@ -36,7 +36,7 @@ enter-arrive-requires t c =
 pub enter-returns-then-cues-eq0 : goal.enter-returns-then-cues-eq0
 enter-returns-then-cues-eq0 t c =
     let a = c.args in
-    visited_arrived a.ns.now a.cues.now a.work.now a.role a.asks.now a.left (memory a.modes.now a.marks.now) c.if-left-eq0.false c.arrive.result c.if-cues-eq0.true c.arrive.ensures.value c.arrive.ensures.asked
+    visited_arrived a.ns.now a.cues.now a.work.now a.role a.asks.now a.left a.slots.now c.if-left-eq0.false c.arrive.result c.if-cues-eq0.true c.arrive.ensures.value c.arrive.ensures.asked
 
 pub enter-bounds-cues-0 : goal.enter-bounds-cues-0
 enter-bounds-cues-0 t c = omega (arith, c.if-cues-eq0.false)
@@ -65,12 +65,12 @@ enter-visit_each-requires t c =
 pub enter-returns-then-ends : goal.enter-returns-then-ends
 enter-returns-then-ends t c =
     let a = c.args in
-    visited_last a.ns.now a.cues.now a.work.now a.role a.asks.now a.left (memory a.modes.now a.marks.now) c.if-left-eq0.false c.requires.visit_ready (omega (arith, c.if-cues-eq0.false)) c.finish.result (sym c.ends.ensures ∙ c.if-ends.true) c.finish.ensures
+    visited_last a.ns.now a.cues.now a.work.now a.role a.asks.now a.left a.slots.now c.if-left-eq0.false c.requires.visit_ready (omega (arith, c.if-cues-eq0.false)) c.finish.result (sym c.ends.ensures ∙ c.if-ends.true) c.finish.ensures
 
 pub enter-returns-else-ends : goal.enter-returns-else-ends
 enter-returns-else-ends t c =
     let a = c.args in
-    visited_tried a.ns.now a.cues.now a.work.now a.role a.asks.now a.left (memory a.modes.now a.marks.now) c.if-left-eq0.false c.requires.visit_ready (omega (arith, c.if-cues-eq0.false)) c.visit_each.result c.visit_each.new.work c.visit_each.new.asks (memory c.visit_each.new.modes c.visit_each.new.marks) c.visit_each.ensures
+    visited_tried a.ns.now a.cues.now a.work.now a.role a.asks.now a.left a.slots.now c.if-left-eq0.false c.requires.visit_ready (omega (arith, c.if-cues-eq0.false)) c.visit_each.result c.visit_each.new.work c.visit_each.new.asks c.visit_each.new.slots c.visit_each.ensures
 
 pub follow-copy_down-requires : goal.follow-copy_down-requires
 follow-copy_down-requires t c =
@@ -136,22 +136,20 @@ follow-visit-requires t c =
       omega (arith, c.decreases),
       (
         visit_asked c.requires.visit_ready one c.copy_down.new.work c.copy_down.ensures c.args.k c.apply.new.t c.apply.auto.t c.apply.ensures _ (rest_is c.args.cues.now) _ c.role_after-after.ensures,
-        subst (λ l. Truthful c.args.ns.now l c.args.asks.now (memory c.args.modes.now c.args.marks.now)) (sym (rest_is c.args.cues.now)) (truthful_rest c.args.ns.now c.args.cues.now (omega arith) c.requires.truthful),
+        subst (λ l. Truthful c.args.ns.now l c.args.asks.now c.args.slots.now) (sym (rest_is c.args.cues.now)) (truthful_rest c.args.ns.now c.args.cues.now (omega arith) c.requires.truthful),
       ),
     )
 
 pub follow-returns : goal.follow-returns
-follow-returns t c = followed c.requires.visit_ready c.requires.in_bounds c.copy_down.new.work c.copy_down.ensures c.args.k c.apply.new.t c.apply.auto.t c.apply.ensures _ (rest_is c.args.cues.now) _ c.role_after-after.ensures c.args.asks.now c.args.left c.visit.result c.visit.new.work c.visit.new.asks (memory c.args.modes.now c.args.marks.now) (memory c.visit.new.modes c.visit.new.marks) c.visit.ensures
+follow-returns t c = followed c.requires.visit_ready c.requires.in_bounds c.copy_down.new.work c.copy_down.ensures c.args.k c.apply.new.t c.apply.auto.t c.apply.ensures _ (rest_is c.args.cues.now) _ c.role_after-after.ensures c.args.asks.now c.args.left c.visit.result c.visit.new.work c.visit.new.asks c.args.slots.now c.visit.new.slots c.visit.ensures
 
 pub try_each-loop-k-init : goal.try_each-loop-k-init
 try_each-loop-k-init t c =
     let a = c.args in
     record {
       long = refl;
-      wide = refl;
-      deep = refl;
       used = used_same (count a.ns.now) (suc (length a.cues.now)) a.work.now;
-      learned = learned_same a.ns.now a.cues.now a.asks.now (memory a.modes.now a.marks.now);
+      learned = learned_same a.ns.now a.cues.now a.asks.now a.slots.now;
       turn = turn_none (state a.ns.now a.role a.work.now) (get_or a.cues.now 0 0) (drop 1 a.cues.now) a.left;
       struck = strikes_same a.asks.now;
       tried = tried_none (state a.ns.now a.role a.work.now) a.cues.now a.asks.now;
@@ -165,7 +163,7 @@ try_each-follow-requires t c =
       (
         ready_still c.requires.visit_ready c.loop-k.work v.used v.long,
         (
-          truthful_still a.ns.now a.cues.now c.requires.truthful v.struck v.learned v.wide v.deep,
+          truthful_still a.ns.now a.cues.now c.requires.truthful v.struck v.learned,
           (
             c.requires.in_bounds.0,
             (
@@ -222,8 +220,6 @@ try_each-loop-k-preserved t c =
     let g = tried_on (state a.ns.now a.role a.work.now) a.cues.now c.requires.in_bounds.0 v.struck (goes_still r c.loop-k.work v.used (get_or a.cues.now 0 0) c.loop-k.k c.follow.ensures.goes) c.follow.result c.follow.ensures.asked v.tried c.in_ok-trip.trip c.in_ok-trip.was c.if-trip.false in
     record {
       long = c.follow.auto.work ∙ v.long;
-      wide = c.follow.auto.modes ∙ v.wide;
-      deep = c.follow.auto.marks ∙ v.deep;
       used = used_trans v.used c.follow.ensures.used;
       learned = learned_trans a.ns.now a.cues.now c.follow.ensures.asked.strikes v.learned c.follow.ensures.learned;
       turn = turn_on (state a.ns.now a.role a.work.now) (get_or a.cues.now 0 0) (drop 1 a.cues.now) a.left v.turn c.follow.result (goes_still r c.loop-k.work v.used (get_or a.cues.now 0 0) c.loop-k.k c.follow.ensures.goes) c.follow.ensures.out c.in_ok-trip.trip c.in_ok-trip.was c.max-far.result (c.max-far.ensures ∙ greater c.loop-k.far (c.in_ok-trip.trip.far + 1)) c.if-trip.false;
@@ -245,8 +241,20 @@ try_each-returns t c =
 pub visit-key_of-key-requires : goal.visit-key_of-key-requires
 visit-key_of-key-requires t c = c.requires.visit_ready.known.few
 
+pub visit-slice_bounds-recall-end : goal.visit-slice_bounds-recall-end
+visit-slice_bounds-recall-end t c = modes_room c.requires.visit_ready c.key_of-key.ensures c.args.work.now refl
+
+pub visit-slice_bounds-recall-end-2 : goal.visit-slice_bounds-recall-end-2
+visit-slice_bounds-recall-end-2 t c = sym (own_length c.args.ns.now c.args.work.now (modes_room c.requires.visit_ready c.key_of-key.ensures c.args.work.now refl))
+
+pub visit-slice_bounds-keep-end : goal.visit-slice_bounds-keep-end
+visit-slice_bounds-keep-end t c = modes_room c.requires.visit_ready c.key_of-key.ensures c.enter-out.new.work c.enter-out.auto.work
+
+pub visit-slice_bounds-keep-end-in-Err : goal.visit-slice_bounds-keep-end-in-Err
+visit-slice_bounds-keep-end-in-Err t c = sym (own_length c.args.ns.now c.enter-out.new.work (modes_room c.requires.visit_ready c.key_of-key.ensures c.enter-out.new.work c.enter-out.auto.work))
+
 pub visit-recall-requires : goal.visit-recall-requires
-visit-recall-requires t c = memory_fits c.requires.visit_ready (memory c.args.modes.now c.args.marks.now) c.key_of-key.ensures c.args.work.now refl c.requires.truthful
+visit-recall-requires t c = modes_few c.requires.visit_ready c.key_of-key.ensures c.args.work.now refl
 
 pub visit-enter-out-requires : goal.visit-enter-out-requires
 visit-enter-out-requires t c = (omega (arith, c.decreases), (c.requires.visit_ready, c.requires.truthful))
@@ -254,20 +262,18 @@ visit-enter-out-requires t c = (omega (arith, c.decreases), (c.requires.visit_re
 pub visit-keep-requires : goal.visit-keep-requires
 visit-keep-requires t c =
     let a = c.args in
-    let m' = memory c.enter-out.new.modes c.enter-out.new.marks in record {
-      fitting = memory_fits c.requires.visit_ready m' c.key_of-key.ensures c.enter-out.new.work c.enter-out.auto.work (truthful_still a.ns.now a.cues.now c.requires.truthful c.enter-out.ensures.asked.strikes c.enter-out.ensures.learned c.enter-out.auto.modes c.enter-out.auto.marks);
+    record {
+      few = modes_few c.requires.visit_ready c.key_of-key.ensures c.enter-out.new.work c.enter-out.auto.work;
       left_within = visit_within (cue_records a.cues.now) (state a.ns.now a.role a.work.now) a.left c.enter-out.result c.enter-out.ensures.out;
     }
 
 pub visit-returns-in-Ok : goal.visit-returns-in-Ok
 visit-returns-in-Ok t c =
     let a = c.args in
-    visited_known c.requires.visit_ready (memory a.modes.now a.marks.now) c.key_of-key.ensures c.requires.truthful a.left c.known.result (sym c.recall.ensures ∙ c.in-Ok.is) c.known.ensures
+    visited_known c.requires.visit_ready c.key_of-key.ensures a.work.now refl (λ j h. refl) c.requires.truthful a.left c.known.result (sym c.recall.ensures ∙ c.in-Ok.is) c.known.ensures
 
 pub visit-returns-in-Err : goal.visit-returns-in-Err
-visit-returns-in-Err t c =
-    let a = c.args in
-    visited_kept c.requires.visit_ready (memory a.modes.now a.marks.now) c.key_of-key.ensures a.asks.now a.left c.enter-out.new.work c.enter-out.new.asks (memory c.enter-out.new.modes c.enter-out.new.marks) (memory c.keep.new.modes c.keep.new.marks) c.enter-out.result c.enter-out.ensures c.keep.ensures
+visit-returns-in-Err t c = visited_kept c.requires.visit_ready c.key_of-key.ensures c.enter-out.new.work c.enter-out.auto.work c.enter-out.ensures c.keep.ensures
 
 pub visit_each-bounds-cues-0 : goal.visit_each-bounds-cues-0
 visit_each-bounds-cues-0 t c =

@@ -1,6 +1,5 @@
 use Prim.Native.Nat.{◌+◌, ◌*◌}
 use lib.ListN.{length}
-use Rattle.search.specs.Visits.{memory}
 use Rattle.search.proofs.Deeper.{Going}
 use Rattle.search.proofs.+visiting.Given as goal
 
@@ -21,4 +20,4 @@ decreases-visit_each l = 6 * length l.cues.now + 3
 
 abbrev pub invariant-try_each-loop-k : goal.invariant-try_each-loop-k
 invariant-try_each-loop-k l =
-    Going l.ns l.cues l.initial.work l.role l.initial.asks l.left (memory l.initial.modes l.initial.marks) l.work l.asks (memory l.modes l.marks) l.k l.far l.rest
+    Going l.ns l.cues l.initial.work l.role l.initial.asks l.left l.initial.slots l.work l.asks l.slots l.k l.far l.rest

@@ -1,21 +1,21 @@
--- `search::keep` meets its contract: by what came of the search. Assumes nothing.
-use mathlib.Core.Path.{sym, subst}
+-- `search::keep` meets its contract: what was seen is put in, or an end was found or the allowance used up, and nothing is. Assumes nothing.
+use Prim.Native.Nat.{◌≤◌, ◌-◌}
+use mathlib.Core.Path.{◌≡◌, sym, ap, subst}
+use mathlib.Core.Bool.{false}
+use lib.ListN.{length}
+use borrow.Author.Rules.{rules}
+use Rattle.search.specs.declared.Trip.{Trip}
 use Rattle.search.specs.Searches.{LeftWithin}
-use Rattle.search.specs.Visits.{out_of, memory, KeptOut}
-use Rattle.search.proofs.Memories.{not_added}
+use Rattle.search.specs.Visits.{out_of, KeptOut}
+use Rattle.search.proofs.Memories.{added}
 use Rattle.search.proofs.keep.Goals as goal
 
-pub keep_trip-requires : goal.keep_trip-requires
-keep_trip-requires c =
-    record {
-      fitting = c.requires.fitting;
-      left_le_left = subst (LeftWithin c.args.left) c.in-Some.is c.requires.left_within;
-    }
-
-pub returns-in_default : goal.returns-in_default
-returns-in_default c = not_added c.args.n c.args.key c.args.t.now c.args.left _ (memory c.args.modes.now c.args.marks.now)
-
-pub returns-in-Some : goal.returns-in-Some
-returns-in-Some c =
+pub returns-in-Some-false : goal.returns-in-Some-false
+returns-in-Some-false c =
     let a = c.args in
-    subst (λ o. KeptOut a.n a.key a.t.now a.left (out_of o) (memory a.modes.now a.marks.now) (memory c.keep_trip.new.modes c.keep_trip.new.marks)) (sym c.in-Some.is) c.keep_trip.ensures
+    let s = c.in-Some-false in
+    let trip : Trip = s.field-0 in
+    let none : trip.found ≡ false = search rules in
+    let less : trip.left ≤ a.left = subst (LeftWithin a.left) s.is c.requires.left_within in
+    subst (λ o. KeptOut (length a.state.now) a.key a.state.now a.left (out_of o) a.slots.now c.remember.new.slots) (sym s.is)
+    (added a.pair c.requires.few less none (ap (λ (z : Trip). a.left - z.left) s.field-0-is) (ap (λ (z : Trip). z.far) s.field-0-is) c.remember.ensures)

@@ -1,5 +1,5 @@
--- `search::long_search` meets its contract: a memory of zeros remembers nothing yet. Assumes nothing.
-use native.Mathlib.Omega.{arith}
+-- `search::long_search` meets its contract: empty slots remember nothing yet. Assumes nothing.
+use Rattle.search.proofs.Deeper.{visited_began}
 use Rattle.search.proofs.Memories.{truthful_fresh}
 use Rattle.search.proofs.long_search.Goals as goal
 
@@ -7,5 +7,8 @@ pub visit-requires : goal.visit-requires
 visit-requires c =
     let a = c.args in record {
       visit_ready = c.requires.0;
-      truthful = truthful_fresh a.ns.now a.cues.now a.asks.now c.requires.1 14336 7168 (omega arith);
+      truthful = truthful_fresh a.ns.now a.cues.now a.asks.now c.requires.1 7168;
     }
+
+pub returns : goal.returns
+returns c = visited_began c.visit.ensures
