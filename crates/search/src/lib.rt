@@ -19,12 +19,9 @@ ghost use Rattle.search.specs.Room.{room_of, cleared};
 ghost use Rattle.search.specs.Searches.{role_of, LeftWithin, SearchReady, Searched, answered, went_through, Asked};
 ghost use Rattle.search.specs.Visits.{state, role_next, out_of, closing_of, ends_by, onward, VisitReady, Asking, key_of, saw_none, Truthful, KeptOut, quest, Began, Visited, Tried, Followed, Inner, ends, RightCounts, successor_count, SuccessorsCounted, Applied};
 
-use memory::Sight;
+use memory::{Sight, Slot};
 use states::{Basis, Moving, Role, Sense};
 use tallies::{Closing, View, Weight};
-use memory::{Sight, Slot};
-use states::{Role, Sense};
-use tallies::{View, Weight};
 
 // What a search brings back, unless its allowance is used up: whether it found the end, how many records at most it followed, and what is
 // left of the allowance.
