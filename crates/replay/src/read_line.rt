@@ -71,11 +71,8 @@ fn records_taken(answer: Result<Counts, Refusal>) -> usize
 fn clean(answer: Result<Counts, Refusal>, nodes: &[u16], records: &[u16]) -> bool
     ensures { result ≡ tables_clean answer nodes.now records.now }
 {
-    if filler::numbers_kept(nodes_taken(answer), nodes) {
-        filler::numbers_kept(records_taken(answer), records)
-    } else {
-        false
-    }
+    filler::numbers_kept(nodes_taken(answer), nodes)
+        && filler::numbers_kept(records_taken(answer), records)
 }
 
 fn write_case(answer: Result<Counts, Refusal>, clean: bool, out: &mut [u8]) -> usize

@@ -14,4 +14,4 @@ returns-then-numbers_kept c =
 
 pub returns-else-numbers_kept : goal.returns-else-numbers_kept
 unfolding tables_clean
-returns-else-numbers_kept c = both_stop (c.numbers_kept.ensures ∙ ap (λ (n : ℕ). kept number_filler n c.args.nodes.now) c.nodes_taken.ensures) _ c.if-numbers_kept.false
+returns-else-numbers_kept c = c.if-numbers_kept.false ∙ both_stop (c.numbers_kept.ensures ∙ ap (λ (n : ℕ). kept number_filler n c.args.nodes.now) c.nodes_taken.ensures) _ c.if-numbers_kept.false
