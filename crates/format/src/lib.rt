@@ -214,7 +214,8 @@ fn same_name(file: &[u8], a: usize, b: usize) -> bool
     file[a + 1..a_end] == file[b + 1..b_end]
 }
 
-// Whether the step names of the entries at two offsets are the same: for 18 as for the matching, so the two have one function of their own.
+// Whether the step names of the entries at two offsets are the same: one place for 18 and for the matching, whose contracts name the
+// definition that is theirs alone.
 pub fn same_step(file: &[u8], a: usize, b: usize) -> bool
     requires { (name_end file.now a ≤ length file.now) × (name_end file.now b ≤ length file.now) }
     ensures { result ≡ same_step (name_at file.now a) (name_at file.now b) }
@@ -327,7 +328,8 @@ pub fn sets_at(file: &[u8], c: Cursor) -> Result<Got, Refusal>
     items_at(file, c, SETS, 1, flow::SET_BYTES)
 }
 
-// The `count` numbers of the file at an offset, to the front of a table; the rest of it stays.
+// The `count` numbers of the file at an offset, to the front of a table; the rest of it stays. By index, since a proof knows of what is
+// written through `iter_mut` only how long it is.
 pub fn fill(file: &[u8], at: usize, count: usize, table: &mut [u16])
     requires { (at + 2 * count ≤ length file.now) × (count ≤ length table.old) }
     ensures { table.new ≡ at_front (numbers_at file.now count at) table.old }
