@@ -9,7 +9,8 @@ use std::io;
 use std::io::Read;
 
 // Reads until the room is full or the input ends, and answers how many bytes it put at the start of the room: what was taken from the
-// reader, all of it if there is room left. On an empty room it makes no call.
+// reader, all of it if there is room left. On an empty room it makes no call. A loop by hand: of an input that ends early std's `read_exact`
+// promises nothing, and `read_to_end` wants the heap.
 pub fn read_full<R: Read>(input: &mut R, room: &mut [u8]) -> io::Result<usize>
     ensures prefix_len { IfOk result (λ n. IsPrefixLen n room.new) }
     ensures bytes { IfOk result (λ n. Consumes (R.remaining input.old) (R.remaining input.new) (take n room.new)) }
