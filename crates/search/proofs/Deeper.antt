@@ -30,11 +30,11 @@ use Rattle.memory.specs.Memory.{Held, recalled}
 use Rattle.memory.specs.MemoryLaws.{recalled_held}
 use Rattle.std.specs.Prelude.{Option, Some, None, Ok}
 use Rattle.search.specs.declared.Trip.{Trip}
-use Rattle.search.specs.Visits.{state, role_next, out_of, onward, stretches, Known, VisitReady, Used, Strikes, Settled, key_of, saw_none, Has, Truthful, Learned, KeptOut, quest, AsksAfter, Began, Visited, Tried, Followed, Inner, ends, RightCounts, successor_count, Applied}
+use Rattle.search.specs.Visits.{state, role_next, out_of, onward, stretches, Known, VisitReady, Used, Strikes, Settled, key_of, saw_none, Truthful, Learned, KeptOut, quest, AsksAfter, Began, Visited, Tried, Followed, Inner, ends, RightCounts, successor_count, Applied}
 use Rattle.search.specs.Searches.{answered}
 use Rattle.search.proofs.Numbers.{first_inner, ends_alone, ends_settled}
 use Rattle.search.proofs.Asks.{strikes_same, strikes_trans, strikes_into, settled_still, settled_all, gathered_strikes, gathered_settles}
-use Rattle.search.proofs.Memories.{key_small, learned_same, learned_trans, learned_rest, recalled_out, recalled_settled, kept_learned}
+use Rattle.search.proofs.Memories.{learned_same, learned_trans, learned_rest, recalled_out, recalled_settled, kept_learned}
 use Rattle.search.proofs.Turns.{Turn}
 use Rattle.search.proofs.Stretches.{copy_same, copy_length, tail_is, back_is, front_length, stretches_next, stretches_some, used_same, used_trans, used_deeper, kept_from, state_same, right_same, used_modes}
 

@@ -4,11 +4,11 @@ use Prim.Native.Nat.{ℕ, suc, ◌+◌, ◌-◌, ◌*◌, ◌≤◌, ◌<◌}
 use mathlib.Core.Path.{◌≡◌, refl, sym, ap, ◌∙◌}
 use mathlib.Core.List.{List, [], ◌++◌, append_assoc, append-nil}
 use native.Mathlib.Omega.{arith}
-use native.Mathlib.Numerals.{add-one}
 use native.Mathlib.Nat.{mul-suc}
-use lib.ListN.{length, take, drop, get_or, set, length-drop, get_or-append, drop_of_length-le}
-use lib.Seq.{paste, paste-suc, length-paste, drop-paste, get_or-take, get_or-drop, length-take-le, take_at, drop_at, take_all, drop-drop, ext_get_or}
+use lib.ListN.{length, take, drop, get_or, length-drop, get_or-append, drop_of_length-le}
+use lib.Seq.{paste, length-paste, drop-paste, get_or-take, get_or-drop, length-take-le, take_at, drop_at, take_all, drop-drop, ext_get_or}
 use borrow.Rule.Slice.PartMut.{put_mid, mid_of}
+use Rattle.std.specs.List.{copy_within}
 use Rattle.calculus.specs.Records.{std, cmp}
 use Rattle.flow.specs.Kinds.{shape}
 use Rattle.flow.specs.Trees.{Under}
@@ -37,16 +37,13 @@ later a b i j h e =
 
 -- The copy ----------------------------------------------------------------------------------------------------------------
 
+pub copied : (d x : List ℕ) (n : ℕ) → x ≡ copy_within d 0 n (2 * n) → x ≡ paste d (2 * n) d n
+copied d x n e = let z : n - 0 ≡ n = omega arith in e ∙ ap (paste d (2 * n) d) z
+
 head_at : (d : List ℕ) (w i : ℕ) → i < w → w ≤ length d → (r : List ℕ) → get_or (take w d ++ r) i 0 ≡ get_or d i 0
 head_at d w i h k r = get_or-append (take w d) r 0 i (rw (length-take-le w d k) h) ∙ get_or-take w d i 0 h
 
 module _ (d x : List ℕ) (w i : ℕ) (e : x ≡ paste d w d i) where
-  -- a turn of `copy_down`
-  pub copy_more : i < w → w + i < length d → set x (w + i) (get_or x i 0) ≡ paste d w d (i + 1)
-  copy_more h k =
-      rw (e, append_assoc (take w d) (take i d) (drop (w + i) d), head_at d w i h (omega arith) (take i d ++ drop (w + i) d), ← append_assoc (take w d) (take i d) (drop (w + i) d), add-one i)
-      (paste-suc d w d i 0 k (omega arith))
-
   pub copy_length : w + i ≤ length d → length x ≡ length d
   copy_length k = ap length e ∙ length-paste d w d i k (omega arith)
 

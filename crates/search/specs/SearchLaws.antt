@@ -1,17 +1,16 @@
 -- What ties the code of `search` to what it leaves: all modes 0 are the drawn flow (`state_drawn`), what a search asks is what a visit
 -- asks (`visit_ready`), and clearing, searching and clearing again bring back what the counted search does, leave the bytes as promised,
 -- and answer what is asked: all of it where the search went through (`asked_all`), and else nothing (`asked_nothing`). Assumes nothing.
-use Rattle.std.specs.Prelude.{ℕ, zero, suc, ◌+◌, ◌*◌, ◌-◌, ◌<◌, ◌≤◌, ◌≡◌, Bool, true, false, length, get_or, set, Option, Some, None}
+use Rattle.std.specs.Prelude.{ℕ, zero, suc, ◌+◌, ◌*◌, ◌-◌, ◌<◌, ◌≤◌, ◌≡◌, Bool, true, false, length, get_or, Option, Some, None}
 use Rattle.std.proofs.Math.Path.{refl, sym, ap}
 use Rattle.std.proofs.Common.{◌∙◌, subst, mul-le-mul, mul-suc, add-one, length-append, length-drop, drop_at, le-leb}
 use Rattle.std.proofs.Math.Bool.{cond}
-use mathlib.Core.List.{List, [], ◌∷◌, ◌++◌, map, append-nil}
+use mathlib.Core.List.{List, [], ◌∷◌, ◌++◌, map}
 use native.Mathlib.Omega.{arith}
 use Rattle.std.proofs.Math.Decide.{dec_le}
-use Rattle.std.proofs.Math.ListN.{drop, replicate, length-replicate, get_or-replicate, get_or-append, get_or-map}
-use Rattle.std.proofs.lemmas.List.{length-map}
-use Rattle.std.proofs.Math.Seq.{drop-drop, drop-length, ext_get_or}
-use Rattle.std.proofs.lemmas.List.Edits.{fill_more}
+use Rattle.std.proofs.Math.ListN.{take, drop, replicate, length-replicate, get_or-replicate, get_or-append, get_or-map}
+use Rattle.std.proofs.lemmas.List.{length-map, length-take-le}
+use Rattle.std.proofs.Math.Seq.{drop-drop, ext_get_or}
 use Rattle.std.proofs.lemmas.Bool.{lt-leb}
 use Rattle.calculus.specs.Records.{Record, State, std, cmp}
 use Rattle.calculus.proofs.Members.{is_true}
@@ -79,16 +78,10 @@ module _ (n : ℕ) (work : List ℕ) where
       ∙ ap (drop (m - n)) (drop_at (replicate n 0) (drop n work) n (length-replicate n 0))
       ∙ drop-drop (m - n) n work)
 
--- a byte more
-pub cleared_more : (work t : List ℕ) (i : ℕ) → i < length work → t ≡ cleared i work → set t i 0 ≡ cleared (i + 1) work
+-- zeros in place of the first n
+pub cleared_by : (n : ℕ) (work zeros : List ℕ) → n ≤ length work → zeros ≡ replicate (length (take n work)) 0 → zeros ++ drop n work ≡ cleared n work
 unfolding cleared
-cleared_more work t i h e = rw e (fill_more i 0 work h)
-
--- all of them
-pub cleared_all : (work t : List ℕ) (i : ℕ) → length work ≡ i → t ≡ cleared i work → t ≡ replicate (length work) 0
-unfolding cleared
-cleared_all work t i h e =
-    e ∙ ap (λ (n : ℕ). replicate n 0 ++ drop n work) (sym h) ∙ ap (λ (l : List ℕ). replicate (length work) 0 ++ l) (drop-length work) ∙ append-nil (replicate (length work) 0)
+cleared_by n work zeros h e = ap (λ (l : List ℕ). l ++ drop n work) (e ∙ ap (λ (k : ℕ). replicate k 0) (length-take-le n work h))
 
 pub room_small : (n m : ℕ) → n ≤ 64 → m ≤ 256 → 2 * n * (m + 1) ≤ 32896
 room_small n m h k =
@@ -129,6 +122,10 @@ module _ {ns xs work : List ℕ} (asked : SearchReady ns xs work) where
 
   pub nodes_within : count ns ≤ length work
   nodes_within = omega (arith, room_stretches (count ns) (length xs), stretches_own (count ns) (length xs), asked.room)
+
+  -- there is room in what a search leaves, which is as long as t was
+  pub room_within : {t : List ℕ} (later : List ℕ) {room : ℕ} → t ≡ cleared (count ns) work → length later ≡ length t → room ≡ room_of (count ns) (length xs) → room ≤ length later
+  room_within {t} later e l r = let k : length t ≡ length work = ap length e ∙ cleared_length (count ns) work nodes_within in omega (arith, asked.room)
 
   ready : VisitReady ns xs (cleared (count ns) work) (role_of ns)
   ready = record {

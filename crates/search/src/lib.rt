@@ -220,10 +220,8 @@ fn gather(ns: &[u16], t: &[u8], role: Role, asks: &mut [u64])
     requires in_bounds { (3 ≤ length ns.now) × Asking asks.old }
     ensures { asks.new ≡ map (answered (state ns.now role t.now) []) asks.old }
 {
-    let mut j = 0;
-    while j < asks.len() {
-        asks[j] = answer(ns, t, asks[j], role);
-        j += 1;
+    for ask in asks.iter_mut() {
+        *ask = answer(ns, t, *ask, role);
     }
 }
 
@@ -270,19 +268,19 @@ fn known(seen: Sight, left: u32) -> Option<Trip>
 }
 
 // What came of a state, with so much left before it, is remembered, if its search was over and found no end.
-fn keep(
-    out: Option<Trip>,
-    left: u32,
-    slots: &mut [Slot],
-    pair: usize,
-    state: &[u8],
-    key: u16,
-)
+fn keep(out: Option<Trip>, left: u32, slots: &mut [Slot], pair: usize, state: &[u8], key: u16)
     requires few { length state.now ≤ 64 }
     requires left_within { LeftWithin left out }
     ensures { KeptOut (length state.now) key state.now left (out_of out) slots.old slots.new }
 {
-    if let Some(Trip { found: false, far, left: rest }) = out {
+    if let Some(
+        Trip {
+            found: false,
+            far,
+            left: rest,
+        },
+    ) = out
+    {
         let seen = Sight {
             entered: left - rest,
             reached: far,
@@ -423,20 +421,7 @@ fn try_each(
     })
 }
 
-// The deeper stretch gets a copy of the modes.
-fn copy_down(work: &mut [u8], n: usize)
-    requires { 3 * n ≤ length work.old }
-    ensures { work.new ≡ paste work.old (2 * n) work.old n }
-{
-    let mut j = 0;
-    while j < n {
-        let m = work[j];
-        work[2 * n + j] = m;
-        j += 1;
-    }
-}
-
-// Into the k-th successor, in its own stretch of the work bytes.
+// Into the k-th successor, in its own stretch of the work bytes, which gets a copy of the modes.
 #[cycle(visiting)]
 fn follow(
     ns: &[u16],
@@ -459,31 +444,11 @@ fn follow(
     ensures { Followed (quest ns.now cues.now work.old role asks.old left slots.old) work.new asks.new slots.new result k }
 {
     let n = ns.len() / 3;
-    copy_down(work, n);
     let w = 2 * n;
+    work.copy_within(..n, w);
     apply(ns, &mut work[w..], cues[0], c, d, role, k);
     let after = role_after(role, cues[0]);
-    visit(
-        ns,
-        &cues[1..],
-        &mut work[w..],
-        after,
-        asks,
-        left,
-        slots,
-    )
-}
-
-// Zeroes the first bytes, up to `end`.
-fn clear(work: &mut [u8], end: usize)
-    requires { end ≤ length work.old }
-    ensures { work.new ≡ cleared end work.old }
-{
-    let mut i = 0;
-    while i < end {
-        work[i] = 0;
-        i += 1;
-    }
+    visit(ns, &cues[1..], &mut work[w..], after, asks, left, slots)
 }
 
 // What the root is before the first record.
@@ -567,17 +532,6 @@ fn went_through(out: Option<Trip>) -> bool
     matches!(out, Some(trip) if !trip.found)
 }
 
-// Nothing is asked, and nothing answered.
-fn forget(asks: &mut [u64])
-    ensures { asks.new ≡ replicate (length asks.old) 0 }
-{
-    let mut j = 0;
-    while j < asks.len() {
-        asks[j] = 0;
-        j += 1;
-    }
-}
-
 // The search from the drawn flow, in work bytes that are zero up to the room wanted when it is over. If it went through all runs without
 // an end, each ask whose record can follow has become `FOLLOWS`; else all are 0.
 pub fn ask(
@@ -592,12 +546,12 @@ pub fn ask(
 {
     let n = ns.len() / 3;
     let room = room_wanted(n, cues.len());
-    clear(work, n);
+    work[..n].fill(0);
     let role = role_of(ns);
     let out = search_twice(ns, cues, work, role, asks, allowance);
-    clear(work, room);
+    work[..room].fill(0);
     if !went_through(out) {
-        forget(asks);
+        asks.fill(0);
     }
     out
 }

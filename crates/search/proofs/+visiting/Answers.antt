@@ -12,7 +12,7 @@ use Rattle.search.specs.Visits.{Truthful, state}
 use Rattle.flow.specs.Refusals.{count}
 use Rattle.search.proofs.Deeper.{own_length, modes_room, modes_few, visited_known, visited_kept, ready_spot, first_low, visited_spent, visited_arrived, visited_last, visited_tried, ready_still, right_still, count_still, goes_still, tried_none, tried_spent, tried_found, tried_on, tried_over, two_stretches, copied_room, apply_asked, back_room, visit_asked, followed, rest_is, rest_length}
 use Rattle.search.proofs.Numbers.{first_inner, ends_fits}
-use Rattle.search.proofs.Stretches.{used_same, used_trans}
+use Rattle.search.proofs.Stretches.{copied, used_same, used_trans}
 use Rattle.search.proofs.Turns.{greater, turn_none, turn_over, turn_spent, turn_cost, turn_found, turn_on, turn_all}
 use Rattle.search.proofs.Asks.{strikes_same}
 use Rattle.search.proofs.Memories.{learned_same, learned_trans, truthful_still, truthful_rest}
@@ -72,8 +72,8 @@ enter-returns-else-ends t c =
     let a = c.args in
     visited_tried a.ns.now a.cues.now a.work.now a.role a.asks.now a.left a.slots.now c.if-left-eq0.false c.requires.visit_ready (omega (arith, c.if-cues-eq0.false)) c.visit_each.result c.visit_each.new.work c.visit_each.new.asks c.visit_each.new.slots c.visit_each.ensures
 
-pub follow-copy_down-requires : goal.follow-copy_down-requires
-follow-copy_down-requires t c =
+pub follow-copy_within-requires : goal.follow-copy_within-requires
+follow-copy_within-requires t c =
     let o = two_stretches c.requires.visit_ready c.requires.in_bounds in
     omega arith
 
@@ -82,12 +82,12 @@ follow-overflow_mul-w t c = omega arith
 
 pub follow-slice_bounds-apply-count : goal.follow-slice_bounds-apply-count
 follow-slice_bounds-apply-count t c =
-    let o = copied_room c.requires.visit_ready c.requires.in_bounds c.copy_down.new.work c.copy_down.ensures in
+    let o = copied_room c.requires.visit_ready c.requires.in_bounds c.copy_within.new.self (copied c.args.work.now c.copy_within.new.self (count c.args.ns.now) c.copy_within.ensures.after) in
     omega arith
 
 pub follow-slice_bounds-apply-start : goal.follow-slice_bounds-apply-start
 follow-slice_bounds-apply-start t c =
-    let o = copied_room c.requires.visit_ready c.requires.in_bounds c.copy_down.new.work c.copy_down.ensures in
+    let o = copied_room c.requires.visit_ready c.requires.in_bounds c.copy_within.new.self (copied c.args.work.now c.copy_within.new.self (count c.args.ns.now) c.copy_within.ensures.after) in
     omega arith
 
 pub follow-bounds-cues-0 : goal.follow-bounds-cues-0
@@ -97,7 +97,7 @@ follow-bounds-cues-0 t c =
 
 pub follow-apply-requires : goal.follow-apply-requires
 follow-apply-requires t c =
-    let whole = apply_asked c.requires.visit_ready c.requires.in_bounds c.copy_down.new.work c.copy_down.ensures c.requires.not_an_ending c.args.c.now c.args.d.now c.args.k c.requires.right_counts c.requires.k_bound in record {
+    let whole = apply_asked c.requires.visit_ready c.requires.in_bounds c.copy_within.new.self (copied c.args.work.now c.copy_within.new.self (count c.args.ns.now) c.copy_within.ensures.after) c.requires.not_an_ending c.args.c.now c.args.d.now c.args.k c.requires.right_counts c.requires.k_bound in record {
       spot = whole.0;
       in_bounds = whole.1.0;
       right_counts = whole.1.1.0;
@@ -121,12 +121,12 @@ follow-slice_bounds-visit-start t c =
 
 pub follow-slice_bounds-visit-count-2 : goal.follow-slice_bounds-visit-count-2
 follow-slice_bounds-visit-count-2 t c =
-    let o = back_room c.requires.visit_ready c.requires.in_bounds c.copy_down.new.work c.copy_down.ensures c.args.k c.apply.new.t c.apply.auto.t c.apply.ensures in
+    let o = back_room c.requires.visit_ready c.requires.in_bounds c.copy_within.new.self (copied c.args.work.now c.copy_within.new.self (count c.args.ns.now) c.copy_within.ensures.after) c.args.k c.apply.new.t c.apply.auto.t c.apply.ensures in
     omega arith
 
 pub follow-slice_bounds-visit-start-2 : goal.follow-slice_bounds-visit-start-2
 follow-slice_bounds-visit-start-2 t c =
-    let o = back_room c.requires.visit_ready c.requires.in_bounds c.copy_down.new.work c.copy_down.ensures c.args.k c.apply.new.t c.apply.auto.t c.apply.ensures in
+    let o = back_room c.requires.visit_ready c.requires.in_bounds c.copy_within.new.self (copied c.args.work.now c.copy_within.new.self (count c.args.ns.now) c.copy_within.ensures.after) c.args.k c.apply.new.t c.apply.auto.t c.apply.ensures in
     omega arith
 
 pub follow-visit-requires : goal.follow-visit-requires
@@ -135,13 +135,13 @@ follow-visit-requires t c =
     let one = c.requires.in_bounds in (
       omega (arith, c.decreases),
       (
-        visit_asked c.requires.visit_ready one c.copy_down.new.work c.copy_down.ensures c.args.k c.apply.new.t c.apply.auto.t c.apply.ensures _ (rest_is c.args.cues.now) _ c.role_after-after.ensures,
+        visit_asked c.requires.visit_ready one c.copy_within.new.self (copied c.args.work.now c.copy_within.new.self (count c.args.ns.now) c.copy_within.ensures.after) c.args.k c.apply.new.t c.apply.auto.t c.apply.ensures _ (rest_is c.args.cues.now) _ c.role_after-after.ensures,
         subst (λ l. Truthful c.args.ns.now l c.args.asks.now c.args.slots.now) (sym (rest_is c.args.cues.now)) (truthful_rest c.args.ns.now c.args.cues.now (omega arith) c.requires.truthful),
       ),
     )
 
 pub follow-returns : goal.follow-returns
-follow-returns t c = followed c.requires.visit_ready c.requires.in_bounds c.copy_down.new.work c.copy_down.ensures c.args.k c.apply.new.t c.apply.auto.t c.apply.ensures _ (rest_is c.args.cues.now) _ c.role_after-after.ensures c.args.asks.now c.args.left c.visit.result c.visit.new.work c.visit.new.asks c.args.slots.now c.visit.new.slots c.visit.ensures
+follow-returns t c = followed c.requires.visit_ready c.requires.in_bounds c.copy_within.new.self (copied c.args.work.now c.copy_within.new.self (count c.args.ns.now) c.copy_within.ensures.after) c.args.k c.apply.new.t c.apply.auto.t c.apply.ensures _ (rest_is c.args.cues.now) _ c.role_after-after.ensures c.args.asks.now c.args.left c.visit.result c.visit.new.work c.visit.new.asks c.args.slots.now c.visit.new.slots c.visit.ensures
 
 pub try_each-loop-k-init : goal.try_each-loop-k-init
 try_each-loop-k-init t c =
