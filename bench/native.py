@@ -27,28 +27,40 @@ def crates(checkout):
 
 
 def plain(text):
-    """Without what only a proof reads: ghost imports, clauses, and what is said to the prover."""
-    kept, open_braces = [], 0
-    for line in text.splitlines():
-        if open_braces or re.match(r"\s*(ghost \w+:|requires|ensures) .*{", line):
-            open_braces += line.count("{") - line.count("}")
-        elif not re.match(r"\s*(ghost use\b|#!?\[(tactic|cycle)\b)", line):
-            kept.append(line)
-    return "\n".join(kept) + "\n"
+    """Without what only a proof reads: ghost imports, members and fields, clauses, and what is said to the prover."""
+    text = re.sub(r"^\s*(ghost use\b|#!?\[(tactic|cycle)\b).*\n", "", text, flags=re.M)
+    kept, at = [], 0
+    for found in re.finditer(r"\n[ \t]*(?:(?:requires|ensures\*?)(?: \w+)? |(?:pub )?ghost \w+(?: =|:) )(?=\{)", text):
+        if found.start() < at:
+            continue
+        kept.append(text[at : found.start()])
+        at, open_braces = found.end(), 0
+        while True:
+            open_braces += {"{": 1, "}": -1}.get(text[at], 0)
+            at += 1
+            if open_braces == 0:
+                break
+        # A method that is only declared ends with its last clause; a ghost member or field takes its end with it.
+        if text[at] in ",;":
+            if "ghost" not in found[0]:
+                kept.append(";")
+            at += 1
+    return "".join(kept) + text[at:] + "\n"
 
 
 def unchecked(text):
     """Without the checks of bounds that Rust would make: that every index is within is proved, and the proved program makes none. Through
     pointers, since Rust's own unchecked reads still compare with the length, for its compiler to go by, which keeps lengths at hand."""
-    at = r"\b([a-z]\w*|[A-Z]+)\[((?:(?!\.\.)[^\[\];])+)\]"
-    text = re.sub(rf"^(\s*){at} = (.*);$", r"\1unsafe { *\2.as_mut_ptr().add(\3) = \4; }", text, flags=re.M)
+    at = r"(?<![.\w])((?:[a-z]\w*\.)*(?:[a-z]\w*|[A-Z]+))\[((?:(?!\.\.)[^\[\];])+)\]"
+    text = re.sub(rf"^(\s*){at} ([|+&]?=) (.*);$", r"\1unsafe { *\2.as_mut_ptr().add(\3) \4 \5; }", text, flags=re.M)
     return re.sub(at, r"(unsafe { *\1.as_ptr().add(\2) })", text)
 
 
 def copied(found):
-    """A type with what it derives: it can be copied, and what says that it may be let go is Rattle's alone."""
-    names = {"Clone", "Copy", *re.findall(r"\w+", found[1] or "")} - {"Drop"}
-    return f"#[derive({', '.join(sorted(names))})]\n{found[2]}"
+    """A type with what it derives, but for what says that it may be let go, which is Rattle's alone. Where nothing is said, as in earlier
+    builds, it can be copied."""
+    names = set(re.findall(r"\w+", found[1])) - {"Drop"} if found[1] else {"Clone", "Copy"}
+    return (f"#[derive({', '.join(sorted(names))})]\n" if names else "") + found[2]
 
 
 def module(text, names):
