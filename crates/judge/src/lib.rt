@@ -130,7 +130,12 @@ pub fn judge_named(
         return Answer::Refused(refusal);
     }
     let mut cues = [0u64; 256];
-    matching::write_cues(&matching::Named { section: names }, records, sets, &mut cues);
+    matching::write_cues(
+        &matching::Named { section: names },
+        records,
+        sets,
+        &mut cues,
+    );
     let n = records.len();
     answer_by(nodes, &cues[..n], work, allowance)
 }
