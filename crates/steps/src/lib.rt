@@ -6,6 +6,7 @@
 ghost use Rattle.std.specs.Prelude.{◌≡◌, ◌<◌, ◌≤◌, length, false};
 ghost use Rattle.calculus.specs.Term.{done};
 ghost use Rattle.flow.specs.Cues.{joint_by};
+ghost use Rattle.flow.specs.Kinds.{node};
 ghost use Rattle.tallies.specs.Formulas.{hold_g};
 ghost use Rattle.states.specs.declared.Standing.TheVariants as standing;
 ghost use Rattle.states.specs.declared.Course.TheVariants as course;
@@ -14,14 +15,15 @@ ghost use Rattle.states.specs.declared.Role.TheVariants.{Plain, Running};
 ghost use Rattle.states.specs.State.{modes, counts};
 ghost use Rattle.states.specs.Rows.{notes, entries};
 ghost use Rattle.states.specs.Clauses.{Spot, Kept, Sets, scene, weight_of, ask, Chosen, Weighed, Ready, Stepped};
-ghost use Rattle.states.specs.Hands.{move, stand_in, course_in, gone, first_mode, second_mode, Passed, Meets};
+ghost use Rattle.states.specs.Hands.{move, stance_of, stand_in, course_in, gone, first_mode, second_mode, Passed, Meets};
 ghost use Rattle.steps.specs.Turns.{Turned, halves, Forked};
 
 use flow::{Operator, Two};
-use states::{Course, Picked, Sense, Standing};
+use states::{Course, Picked, Role, Sense, Standing};
 use tallies::{Closing, Weight};
 
-// Where a step goes on: a live part, the place among its steps, and whether it is the second of two.
+// Where a step goes on: a live part, the place among its steps, and whether it is the second of two. An enum would be no plainer: both of
+// its variants would have the same two fields, and be taken apart for them wherever it is all one.
 #[derive(Clone, Copy)]
 struct Turn {
     node: usize,
@@ -42,9 +44,8 @@ fn enter_first(t: &mut [u8], i: usize, operator: Operator)
     ensures { Sets t.old i (first_mode operator (modes t.old i)) t.new }
 {
     match operator {
-        Operator::Sequence => {}
         Operator::Choice => states::set_mode(t, i, states::FIRST_TAKEN),
-        Operator::Parallel(_) => {}
+        Operator::Sequence | Operator::Parallel(_) => {}
     }
 }
 
@@ -109,8 +110,7 @@ fn pass(ns: &[u16], t: &mut [u8], operator: Operator, first: usize)
 {
     match operator {
         Operator::Sequence => states::redraw(ns, t, first),
-        Operator::Choice => {}
-        Operator::Parallel(_) => {}
+        Operator::Choice | Operator::Parallel(_) => {}
     }
 }
 
@@ -165,8 +165,7 @@ fn turn_run(
                 x
             }
         }
-        Operator::Choice => x,
-        Operator::Parallel(_) => x,
+        Operator::Choice | Operator::Parallel(_) => x,
     }
 }
 
@@ -224,7 +223,7 @@ pub fn step_std(
             Standing::Basic(_) => return,
             Standing::Both(operator, two) => {
                 if states::joint_by(a, operator) {
-                    return meet_std(ns, t, a, c, d, here, two, live, at);
+                    return meet(ns, t, a, c, d, here, two, Role::Plain(live), at);
                 }
                 let x = turn_two(t, c, here, operator, two, gone_on(live), at);
                 if x.second {
@@ -248,29 +247,6 @@ pub fn step_std(
             }
         }
     }
-}
-
-// Both sides of a parallel, by a joint event: each step of the first goes with all of the second.
-#[cycle(stepping)]
-fn meet_std(
-    ns: &[u16],
-    t: &mut [u8],
-    a: u64,
-    c: &mut [u32; 64],
-    d: &[u32],
-    i: usize,
-    two: Two,
-    sense: Sense,
-    k: u32,
-)
-    requires ready { Ready (scene ns.now t.old a) (Plain sense) (notes c.old d.now) i k }
-    requires meets { Meets a (Plain sense) (stand_in (scene ns.now t.old a) sense i) two }
-    ensures stepped { Stepped (scene ns.now t.old a) (Plain sense) i k t.new }
-    ensures noted { Kept ns.now i (entries (notes c.old d.now)) (entries (notes c.new d.now)) }
-{
-    let n = count_at(c, two.second);
-    step_std(ns, t, a, c, d, two.first, sense, k / n);
-    step_std(ns, t, a, c, d, two.second, sense, k % n);
 }
 
 // Of a block: inside, or out of it by a compensation.
@@ -311,7 +287,7 @@ pub fn step_run(ns: &[u16], t: &mut [u8], a: u64, c: &mut [u32; 64], d: &[u32], 
         Course::Pair(two) => step_std(ns, t, a, c, d, two.first, Sense::Drawn, k),
         Course::Both(operator, two) => {
             if states::joint_by(a, operator) {
-                return meet_run(ns, t, a, c, d, i, two, k);
+                return meet(ns, t, a, c, d, i, two, Role::Running, k);
             }
             let x = turn_run(ns, t, a, c, d, i, operator, two, k);
             step_run(ns, t, a, c, d, x.node, x.at);
@@ -321,9 +297,31 @@ pub fn step_run(ns: &[u16], t: &mut [u8], a: u64, c: &mut [u32; 64], d: &[u32], 
     }
 }
 
-// Both sides of a parallel that runs, by a joint event.
+// The k-th step of a part in a role.
 #[cycle(stepping)]
-fn meet_run(
+fn step(
+    ns: &[u16],
+    t: &mut [u8],
+    a: u64,
+    c: &mut [u32; 64],
+    d: &[u32],
+    i: usize,
+    role: Role,
+    k: u32,
+)
+    requires { Ready (scene ns.now t.old a) role (notes c.old d.now) i k }
+    ensures stepped { Stepped (scene ns.now t.old a) role i k t.new }
+    ensures noted { Kept ns.now i (entries (notes c.old d.now)) (entries (notes c.new d.now)) }
+{
+    match role {
+        Role::Plain(sense) => step_std(ns, t, a, c, d, i, sense, k),
+        Role::Running => step_run(ns, t, a, c, d, i, k),
+    }
+}
+
+// Both sides of a parallel in a role, by a joint event: each step of the first goes with all of the second.
+#[cycle(stepping)]
+fn meet(
     ns: &[u16],
     t: &mut [u8],
     a: u64,
@@ -331,14 +329,15 @@ fn meet_run(
     d: &[u32],
     i: usize,
     two: Two,
+    role: Role,
     k: u32,
 )
-    requires ready { Ready (scene ns.now t.old a) Running (notes c.old d.now) i k }
-    requires meets { Meets a Running (course_in (scene ns.now t.old a) i) two }
-    ensures stepped { Stepped (scene ns.now t.old a) Running i k t.new }
+    requires ready { Ready (scene ns.now t.old a) role (notes c.old d.now) i k }
+    requires meets { Meets a role (stance_of role (node ns.now i) (modes t.old i)) two }
+    ensures stepped { Stepped (scene ns.now t.old a) role i k t.new }
     ensures noted { Kept ns.now i (entries (notes c.old d.now)) (entries (notes c.new d.now)) }
 {
     let n = count_at(c, two.second);
-    step_run(ns, t, a, c, d, two.first, k / n);
-    step_run(ns, t, a, c, d, two.second, k % n);
+    step(ns, t, a, c, d, two.first, role, k / n);
+    step(ns, t, a, c, d, two.second, role, k % n);
 }
