@@ -10,11 +10,11 @@ ghost use Rattle.tallies.specs.Formulas.{skip_v, ev_v, pair_w};
 ghost use Rattle.states.specs.declared.Role.TheVariants.{Plain, Running};
 ghost use Rattle.states.specs.Rows.{Shared, Written, notes};
 ghost use Rattle.states.specs.Clauses.{Spot, Sets, scene, Counted};
-ghost use Rattle.counting.specs.Wholes.{simple_v, operator_v, simple_w, operator_w};
+ghost use Rattle.counting.specs.Wholes.{by_simple, by_operator};
 
 use flow::{Operator, Simple};
 use states::{Course, Sense, Standing};
-use tallies::{Tally, View, Word};
+use tallies::{Known, Tally, View, Word};
 
 // A count is written, through a slice, which knows its length.
 pub fn put_count(c: &mut [u32], i: usize, n: u32)
@@ -71,60 +71,44 @@ fn note_held(d: &mut [u32; 576], i: usize, v: View)
     requires { i < 64 }
     ensures { Written d.old i (pair_w skip_v v) d.new }
 {
-    keep(d, i, tallies::pair_word(tallies::skip_view(), v));
+    keep(d, i, Word::pair(View::skip(), v));
 }
 
 // Whether a leaf of this event takes the record of the cue: it is the record's own event, or the other one.
 fn takes(cue: u64, event: u16) -> bool
     ensures { result ≡ takes_cue cue event }
 {
-    let e = event as u64;
+    let e = u64::from(event);
     (cue % 65536 == e) | (cue / 4294967296 == e)
 }
 
 fn event_view(cue: u64, event: u16) -> View
     ensures { result ≡ ev_v (takes_cue cue event) }
 {
-    tallies::event_view(takes(cue, event))
+    View::event(takes(cue, event))
 }
 
-fn basic_view(simple: Simple) -> View
-    ensures { result ≡ simple_v simple }
+// What is known of SKIP, THROW or YIELD, as a standard part or as one that runs.
+#[tactic(auto, unfolding(crate::specs::Wholes::by_simple))]
+fn basic<K: Known>(simple: Simple) -> K
+    ensures { result ≡ by_simple K.of_skip K.of_throw K.of_yield simple }
 {
     match simple {
-        Simple::Skip => tallies::skip_view(),
-        Simple::Throw => tallies::throw_view(),
-        Simple::Yield => tallies::yield_view(),
+        Simple::Skip => K::skip(),
+        Simple::Throw => K::throw(),
+        Simple::Yield => K::yields(),
     }
 }
 
-fn both_view(cue: u64, operator: Operator, p: View, q: View) -> View
-    ensures { result ≡ operator_v cue operator p q }
+// And of two parts of either sort that the operator joins.
+#[tactic(auto, unfolding(crate::specs::Wholes::by_operator))]
+fn both<K: Known>(cue: u64, operator: Operator, p: K, q: K) -> K
+    ensures { result ≡ by_operator K.of_sequence K.of_choice K.of_parallel cue operator p q }
 {
     match operator {
-        Operator::Sequence => tallies::sequence_view(p, q),
-        Operator::Choice => tallies::choice_view(p, q),
-        Operator::Parallel(set) => tallies::parallel_view(states::joint(cue, set), p, q),
-    }
-}
-
-fn basic_word(simple: Simple) -> Word
-    ensures { result ≡ simple_w simple }
-{
-    match simple {
-        Simple::Skip => tallies::skipp_word(),
-        Simple::Throw => tallies::throww_word(),
-        Simple::Yield => tallies::yieldd_word(),
-    }
-}
-
-fn both_word(cue: u64, operator: Operator, p: Word, q: Word) -> Word
-    ensures { result ≡ operator_w cue operator p q }
-{
-    match operator {
-        Operator::Sequence => tallies::sequence_word(p, q),
-        Operator::Choice => tallies::choice_word(p, q),
-        Operator::Parallel(set) => tallies::parallel_word(states::joint(cue, set), p, q),
+        Operator::Sequence => K::sequence(p, q),
+        Operator::Choice => K::choice(p, q),
+        Operator::Parallel(set) => K::parallel(states::joint(cue, set), p, q),
     }
 }
 
@@ -148,20 +132,20 @@ pub fn count_std(
         let stands = states::stand_at(ns, t, here, live);
         match stands {
             Standing::Event(event) => return note(c, i, event_view(a, event)),
-            Standing::Basic(simple) => return note(c, i, basic_view(simple)),
+            Standing::Basic(simple) => return note(c, i, basic(simple)),
             Standing::Both(operator, two) => {
                 let p = count_std(ns, t, a, c, d, two.first, live);
                 let q = count_std(ns, t, a, c, d, two.second, live);
-                return note(c, i, both_view(a, operator, p, q));
+                return note(c, i, both(a, operator, p, q));
             }
             Standing::Handler(two) => {
                 let p = count_std(ns, t, a, c, d, two.first, live);
                 let q = count_std(ns, t, a, c, d, two.second, live);
-                return note(c, i, tallies::handler_view(p, q));
+                return note(c, i, View::handler(p, q));
             }
             Standing::Block(child) => {
                 let w = count_run(ns, t, a, c, d, child);
-                return note(c, i, tallies::block_view(w));
+                return note(c, i, View::block(w));
             }
             Standing::As(sub) => {
                 here = sub.node;
@@ -186,26 +170,26 @@ pub fn count_run(
 {
     let runs = states::course_at(ns, t, i);
     match runs {
-        Course::Basic(simple) => note_word(c, d, i, basic_word(simple)),
+        Course::Basic(simple) => note_word(c, d, i, basic(simple)),
         Course::Pair(two) => {
             let p = count_std(ns, t, a, c, d, two.first, Sense::Drawn);
             if !p.done {
                 // the second part is looked at only where the first can end done
-                return note_word(c, d, i, tallies::pair_word(p, tallies::skip_view()));
+                return note_word(c, d, i, Word::pair(p, View::skip()));
             }
             let q = count_std(ns, t, a, c, d, two.second, Sense::Drawn);
-            note_word(c, d, i, tallies::pair_word(p, q))
+            note_word(c, d, i, Word::pair(p, q))
         }
         Course::Both(operator, two) => {
             let p = count_run(ns, t, a, c, d, two.first);
             let q = count_run(ns, t, a, c, d, two.second);
-            note_word(c, d, i, both_word(a, operator, p, q))
+            note_word(c, d, i, both(a, operator, p, q))
         }
         Course::Held(two) => {
             let k = count_std(ns, t, a, c, d, two.first, Sense::Undoing);
             note_held(d, two.first, k);
             let q = count_run(ns, t, a, c, d, two.second);
-            note_word(c, d, i, tallies::held_word(q, k))
+            note_word(c, d, i, q.held(k))
         }
         Course::As(child) => {
             let w = count_run(ns, t, a, c, d, child);

@@ -91,7 +91,7 @@ fn successors(
             if cue < flow::DONE_CUE {
                 w.moves
             } else {
-                let y = tallies::tally_by(w, closing_of(cue));
+                let y = w.by(closing_of(cue));
                 y.many
             }
         }

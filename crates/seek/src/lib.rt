@@ -39,7 +39,7 @@ fn share(d: &[u32], k: usize) -> Tally
     }
 }
 
-// What is kept of node i's running part.
+// What is kept of node i's running part. Its own number of steps, which no weight looks at, is not.
 fn word_at(d: &[u32], i: usize) -> Word
     requires { 9 * i + 8 < length d.now }
     ensures { result ≡ row d.now i }
@@ -90,7 +90,7 @@ fn tally_at(d: &[u32], i: usize, w: Closing) -> Tally
     requires { 9 * i + 8 < length d.now }
     ensures { result ≡ by_w (row d.now i) (closing w) }
 {
-    tallies::tally_by(word_at(d, i), w)
+    word_at(d, i).by(w)
 }
 
 // The one compensation by done that is kept of node i, of a pair or of what is held, where j is left of the number.
@@ -111,7 +111,7 @@ fn weight_by(d: &[u32], i: usize, w: Closing, g: Weight) -> u32
     requires { 9 * i + 8 < length d.now }
     ensures { result ≡ total (by_w (row d.now i) (closing w)) g }
 {
-    tallies::weight_total(tally_at(d, i, w), g)
+    g.total(tally_at(d, i, w))
 }
 
 // What the compensations of PP, node i, weigh in PP;QQ by w: nothing if w is done, since then QQ goes on.
@@ -130,7 +130,7 @@ fn weight_before(d: &[u32], i: usize, w: Closing, g: Weight) -> Weight
     requires { 9 * i + 8 < length d.now }
     ensures { result ≡ after_g (by_w (row d.now i) (closing w)) g }
 {
-    tallies::weight_after(tally_at(d, i, w), g)
+    g.after(tally_at(d, i, w))
 }
 
 // The steps of l;k, where l has so many and can end done or not.
@@ -145,7 +145,7 @@ fn fitting_count(d: &[u32], i: usize, w: Closing, x: Closing, y: Closing) -> u32
     requires { 9 * i + 8 < length d.now }
     ensures { result ≡ (fitting_t (row d.now i) (closing w) (closing x) (closing y)).many }
 {
-    let y = tallies::fitting(word_at(d, i), w, x, y);
+    let y = word_at(d, i).fitting(w, x, y);
     y.many
 }
 
@@ -166,7 +166,7 @@ fn beside(joint: bool, d: &[u32], i: usize, w: Closing, x: Closing, g: Weight) -
     requires { 9 * i + 8 < length d.now }
     ensures { result ≡ beside_g joint (partners_t (row d.now i) (closing w) (closing x)) g }
 {
-    if tallies::own_only(g) {
+    if g.own_only() {
         let own = tallies::product(g.own, partner_count(d, i, w, x));
         return Weight {
             own,
@@ -174,7 +174,7 @@ fn beside(joint: bool, d: &[u32], i: usize, w: Closing, x: Closing, g: Weight) -
             able: 0,
         };
     }
-    tallies::weight_beside(joint, tallies::partners(word_at(d, i), w, x), g)
+    g.beside(joint, word_at(d, i).partners(w, x))
 }
 
 // All those of the first side, by x, with all that go with them. Most are none, so this is told before.
@@ -186,7 +186,7 @@ fn side_weight(joint: bool, d: &[u32], two: Two, w: Closing, x: Closing, g: Weig
     if (k.many == 0) & (k.able == 0) & (k.moves == 0) {
         return 0;
     }
-    tallies::weight_total(k, beside(joint, d, two.second, w, x, g))
+    beside(joint, d, two.second, w, x, g).total(k)
 }
 
 // By what the first side ends.
@@ -206,10 +206,10 @@ fn fitting_weight(d: &[u32], i: usize, w: Closing, x: Closing, y: Closing, g: We
     requires { 9 * i + 8 < length d.now }
     ensures { result ≡ total (fitting_t (row d.now i) (closing w) (closing x) (closing y)) g }
 {
-    if tallies::own_only(g) {
+    if g.own_only() {
         return tallies::product(g.own, fitting_count(d, i, w, x, y));
     }
-    tallies::weight_total(tallies::fitting(word_at(d, i), w, x, y), g)
+    g.total(word_at(d, i).fitting(w, x, y))
 }
 
 // By what the second side ends, where the first ends by x.
@@ -371,7 +371,7 @@ fn seek_second(
     ensures counted { UndoneBelow (scene_at by.now s.new) i (notes_at by.now s.old) (notes_at by.now s.new) }
     ensures lent { SameLent s.old s.new }
 {
-    let inside = tallies::weight_inside(g, k.moves, k.able);
+    let inside = g.inside(k.moves, k.able);
     let inner = Query {
         closing: w,
         weight: inside,
@@ -451,7 +451,7 @@ fn seek_parallel(
         beside(joint, by.d, two.second, w, x.ending, g),
         x.rest,
     );
-    let within = tallies::weight_within(joint, g, k.moves, k.able);
+    let within = g.within(joint, k.moves, k.able);
     let y = second_ending(by.d, two.second, w, x.ending, within, k.rest);
     let l = choose(by, s, two.second, y.ending, within, y.rest);
     Picked {

@@ -285,8 +285,7 @@ pub fn joint_by(cue: u64, operator: Operator) -> bool
     ensures { result ≡ joint_by cue operator }
 {
     match operator {
-        Operator::Sequence => false,
-        Operator::Choice => false,
+        Operator::Sequence | Operator::Choice => false,
         Operator::Parallel(set) => joint(cue, set),
     }
 }

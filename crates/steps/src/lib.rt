@@ -6,6 +6,7 @@
 ghost use Rattle.std.specs.Prelude.{◌≡◌, ◌<◌, ◌≤◌, length, false};
 ghost use Rattle.calculus.specs.Term.{done};
 ghost use Rattle.flow.specs.Cues.{joint_by};
+ghost use Rattle.flow.specs.Kinds.{node};
 ghost use Rattle.tallies.specs.Formulas.{hold_g};
 ghost use Rattle.states.specs.declared.Standing.TheVariants as standing;
 ghost use Rattle.states.specs.declared.Course.TheVariants as course;
@@ -15,14 +16,15 @@ ghost use Rattle.states.specs.State.{modes, counts};
 ghost use Rattle.states.specs.Rows.{notes, entries};
 ghost use Rattle.states.specs.Stage.{scene_at, notes_at, SameLent};
 ghost use Rattle.states.specs.Clauses.{Spot, Kept, Sets, scene, weight_of, ask, Chosen, Weighed, Ready, Stepped};
-ghost use Rattle.states.specs.Hands.{move, stand_in, course_in, gone, first_mode, second_mode, Passed, Meets};
+ghost use Rattle.states.specs.Hands.{move, stance_of, stand_in, course_in, gone, first_mode, second_mode, Passed, Meets};
 ghost use Rattle.steps.specs.Turns.{Turned, halves, Forked};
 
 use flow::{Operator, Two};
-use states::{Basis, Course, Moving, Picked, Sense, Standing};
+use states::{Basis, Course, Moving, Picked, Role, Sense, Standing};
 use tallies::{Closing, Weight};
 
-// Where a step goes on: a live part, the place among its steps, and whether it is the second of two.
+// Where a step goes on: a live part, the place among its steps, and whether it is the second of two. An enum would be no plainer: both of
+// its variants would have the same two fields, and be taken apart for them wherever it is all one.
 #[derive(Clone, Copy)]
 struct Turn {
     node: usize,
@@ -43,9 +45,8 @@ fn enter_first(t: &mut [u8], i: usize, operator: Operator)
     ensures { Sets t.old i (first_mode operator (modes t.old i)) t.new }
 {
     match operator {
-        Operator::Sequence => {}
         Operator::Choice => states::set_mode(t, i, states::FIRST_TAKEN),
-        Operator::Parallel(_) => {}
+        Operator::Sequence | Operator::Parallel(_) => {}
     }
 }
 
@@ -110,8 +111,7 @@ fn pass(ns: &[u16], t: &mut [u8], operator: Operator, first: usize)
 {
     match operator {
         Operator::Sequence => states::redraw(ns, t, first),
-        Operator::Choice => {}
-        Operator::Parallel(_) => {}
+        Operator::Choice | Operator::Parallel(_) => {}
     }
 }
 
@@ -165,8 +165,7 @@ fn turn_run(
                 x
             }
         }
-        Operator::Choice => x,
-        Operator::Parallel(_) => x,
+        Operator::Choice | Operator::Parallel(_) => x,
     }
 }
 
@@ -209,7 +208,7 @@ pub fn step_std(by: &Basis<'_>, s: &mut Moving<'_>, i: usize, sense: Sense, k: u
             Standing::Basic(_) => return,
             Standing::Both(operator, two) => {
                 if states::joint_by(by.a, operator) {
-                    return meet_std(by, s, here, two, live, at);
+                    return meet(by, s, here, two, Role::Plain(live), at);
                 }
                 let x = turn_two(s.t, &s.c, here, operator, two, gone_on(live), at);
                 if x.second {
@@ -241,20 +240,6 @@ pub fn step_std(by: &Basis<'_>, s: &mut Moving<'_>, i: usize, sense: Sense, k: u
             }
         }
     }
-}
-
-// Both sides of a parallel, by a joint event: each step of the first goes with all of the second.
-#[cycle(stepping)]
-fn meet_std(by: &Basis<'_>, s: &mut Moving<'_>, i: usize, two: Two, sense: Sense, k: u32)
-    requires ready { Ready (scene_at by.now s.old) (Plain sense) (notes_at by.now s.old) i k }
-    requires meets { Meets by.now.a (Plain sense) (stand_in (scene_at by.now s.old) sense i) two }
-    ensures stepped { Stepped (scene_at by.now s.old) (Plain sense) i k s.new.t.now }
-    ensures noted { Kept by.now.ns.now i (entries (notes_at by.now s.old)) (entries (notes_at by.now s.new)) }
-    ensures lent { SameLent s.old s.new }
-{
-    let n = count_at(&s.c, two.second);
-    step_std(by, s, two.first, sense, k / n);
-    step_std(by, s, two.second, sense, k % n);
 }
 
 // Of a block: inside, or out of it by a compensation.
@@ -289,7 +274,7 @@ pub fn step_run(by: &Basis<'_>, s: &mut Moving<'_>, i: usize, k: u32)
         Course::Pair(two) => step_std(by, s, two.first, Sense::Drawn, k),
         Course::Both(operator, two) => {
             if states::joint_by(by.a, operator) {
-                return meet_run(by, s, i, two, k);
+                return meet(by, s, i, two, Role::Running, k);
             }
             let x = turn_run(by, s, i, operator, two, k);
             step_run(by, s, x.node, x.at);
@@ -299,16 +284,30 @@ pub fn step_run(by: &Basis<'_>, s: &mut Moving<'_>, i: usize, k: u32)
     }
 }
 
-// Both sides of a parallel that runs, by a joint event.
+// The k-th step of a part in a role.
 #[cycle(stepping)]
-fn meet_run(by: &Basis<'_>, s: &mut Moving<'_>, i: usize, two: Two, k: u32)
-    requires ready { Ready (scene_at by.now s.old) Running (notes_at by.now s.old) i k }
-    requires meets { Meets by.now.a Running (course_in (scene_at by.now s.old) i) two }
-    ensures stepped { Stepped (scene_at by.now s.old) Running i k s.new.t.now }
+fn step(by: &Basis<'_>, s: &mut Moving<'_>, i: usize, role: Role, k: u32)
+    requires { Ready (scene_at by.now s.old) role (notes_at by.now s.old) i k }
+    ensures stepped { Stepped (scene_at by.now s.old) role i k s.new.t.now }
+    ensures noted { Kept by.now.ns.now i (entries (notes_at by.now s.old)) (entries (notes_at by.now s.new)) }
+    ensures lent { SameLent s.old s.new }
+{
+    match role {
+        Role::Plain(sense) => step_std(by, s, i, sense, k),
+        Role::Running => step_run(by, s, i, k),
+    }
+}
+
+// Both sides of a parallel in a role, by a joint event: each step of the first goes with all of the second.
+#[cycle(stepping)]
+fn meet(by: &Basis<'_>, s: &mut Moving<'_>, i: usize, two: Two, role: Role, k: u32)
+    requires ready { Ready (scene_at by.now s.old) role (notes_at by.now s.old) i k }
+    requires meets { Meets by.now.a role (stance_of role (node by.now.ns.now i) (modes s.old.t.now i)) two }
+    ensures stepped { Stepped (scene_at by.now s.old) role i k s.new.t.now }
     ensures noted { Kept by.now.ns.now i (entries (notes_at by.now s.old)) (entries (notes_at by.now s.new)) }
     ensures lent { SameLent s.old s.new }
 {
     let n = count_at(&s.c, two.second);
-    step_run(by, s, two.first, k / n);
-    step_run(by, s, two.second, k % n);
+    step(by, s, two.first, role, k / n);
+    step(by, s, two.second, role, k % n);
 }

@@ -1,19 +1,17 @@
 // Views, tallies and words: what is known of a term, of several terms and of a running part without going through
-// their steps and compensations one by one. Counts stop at MOST, one more than any index a search can use: an
-// allowance is a 32-bit number, and the root is counted too. What is put together of two parallel sides takes first whether the record's
+// their steps and compensations one by one. Counts stop at the greatest 32-bit number, one more than any index a search can use:
+// an allowance is such a number, and the root is counted too. What is put together of two parallel sides takes first whether the record's
 // event is joint there.
 #![tactic(auto)]
 
-ghost use Rattle.std.specs.Prelude.{◌≡◌, ◌+◌, ◌*◌, ◌<◌, ◌&&◌, cond, eqb};
+ghost use Rattle.std.specs.Prelude.{◌≡◌, Bool, ◌+◌, ◌*◌, ◌<◌, ◌&&◌, cond, eqb};
 ghost use Rattle.tallies.specs.Capped.{cap};
 ghost use Rattle.tallies.specs.Formulas.{closing, rank, viewed, skip_v, throw_v, yield_v, ev_v, alt_v, seq_v, hnd_v, both_v, sides, par_v, tallied, none_t, one_t, when_t, plus_t, seq_t, any_v, sides_t, par_t, over_t, worded, by_w, blk_v, pair_w, cseq_w, held_w, calt_w, fitting_t, partners_t, both_t, cpar_w, skipp_w, throww_w, yieldd_w, weighs, is_own, total, after_g, inside_g, beside_g, within_g};
 ghost use Rattle.calculus.specs.Term.{done, withdrawn, failed, join};
 ghost use Rattle.calculus.specs.Successors.{eqc};
 
-const MOST: u64 = 4294967295;
-
-// How a part ends, in the order of 01.
-#[derive(Clone, Copy, PartialEq, Eq)]
+// How a part ends, in the order of 01: two parallel sides end by the later one.
+#[derive(Clone, Copy, PartialEq, Eq, PartialOrd, Ord)]
 pub enum Closing {
     Done,
     Withdrawn,
@@ -56,39 +54,50 @@ pub struct Weight {
     pub able: u32,
 }
 
-fn capped(x: u64) -> u32
-    ensures { result ≡ cap x }
-{
-    if x < MOST { x as u32 } else { 4294967295 }
-}
-
-fn wide(x: u32) -> u64
-    ensures { result ≡ x }
-{
-    x as u64
-}
-
 pub fn sum(a: u32, b: u32) -> u32
     ensures { result ≡ cap (a + b) }
 {
-    capped(wide(a) + wide(b))
+    a.saturating_add(b)
 }
 
+// In 64 bits: `saturating_mul` has a branch of its own for a factor 0, and flows that are undone took 4 percent more steps of the processor.
 pub fn product(a: u32, b: u32) -> u32
     ensures { result ≡ cap (a * b) }
 {
-    capped(wide(a) * wide(b))
+    u32::try_from(u64::from(a) * u64::from(b)).unwrap_or(u32::MAX)
 }
 
-fn view_of(moves: u32, done: bool, withdraws: bool, fails: bool) -> View
-    ensures { result ≡ viewed moves done withdraws fails }
-{
-    View {
-        moves,
-        done,
-        withdraws,
-        fails,
-    }
+// What is known of a part, of a standard one a view, and of one that runs a word: of SKIP, THROW and YIELD, and of a whole from its parts.
+pub trait Known {
+    ghost of_skip: { Self };
+
+    ghost of_throw: { Self };
+
+    ghost of_yield: { Self };
+
+    ghost of_sequence: { Self → Self → Self };
+
+    ghost of_choice: { Self → Self → Self };
+
+    ghost of_parallel: { Bool → Self → Self → Self };
+
+    fn skip() -> Self
+        ensures { result ≡ of_skip };
+
+    fn throw() -> Self
+        ensures { result ≡ of_throw };
+
+    fn yields() -> Self
+        ensures { result ≡ of_yield };
+
+    fn sequence(p: Self, q: Self) -> Self
+        ensures { result ≡ of_sequence p q };
+
+    fn choice(p: Self, q: Self) -> Self
+        ensures { result ≡ of_choice p q };
+
+    fn parallel(joint: bool, p: Self, q: Self) -> Self
+        ensures { result ≡ of_parallel joint p q };
 }
 
 // Closings ----------------------------------------------------------------------------------------------------------
@@ -98,11 +107,7 @@ fn view_of(moves: u32, done: bool, withdraws: bool, fails: bool) -> View
 fn joined(x: Closing, y: Closing) -> Closing
     ensures { result ≡ rank (join (closing x) (closing y)) }
 {
-    match (x, y) {
-        (Closing::Failed, _) | (_, Closing::Failed) => Closing::Failed,
-        (Closing::Done, Closing::Done) => Closing::Done,
-        _ => Closing::Withdrawn,
-    }
+    x.max(y)
 }
 
 // Whether x and y join to u.
@@ -113,75 +118,6 @@ fn joins(u: Closing, x: Closing, y: Closing) -> bool
 }
 
 // Views -------------------------------------------------------------------------------------------------------------
-
-pub fn skip_view() -> View
-    ensures { result ≡ skip_v }
-{
-    view_of(0, true, false, false)
-}
-
-pub fn throw_view() -> View
-    ensures { result ≡ throw_v }
-{
-    view_of(0, false, false, true)
-}
-
-pub fn yield_view() -> View
-    ensures { result ≡ yield_v }
-{
-    view_of(0, true, true, false)
-}
-
-pub fn event_view(taken: bool) -> View
-    ensures { result ≡ ev_v taken }
-{
-    if taken {
-        view_of(1, false, false, false)
-    } else {
-        view_of(0, false, false, false)
-    }
-}
-
-pub fn choice_view(p: View, q: View) -> View
-    ensures { result ≡ alt_v p q }
-{
-    view_of(
-        sum(p.moves, q.moves),
-        p.done | q.done,
-        p.withdraws | q.withdraws,
-        p.fails | q.fails,
-    )
-}
-
-pub fn sequence_view(p: View, q: View) -> View
-    ensures { result ≡ seq_v p q }
-{
-    if p.done {
-        view_of(
-            sum(p.moves, q.moves),
-            q.done,
-            p.withdraws | q.withdraws,
-            p.fails | q.fails,
-        )
-    } else {
-        p
-    }
-}
-
-pub fn handler_view(p: View, q: View) -> View
-    ensures { result ≡ hnd_v p q }
-{
-    if p.fails {
-        view_of(
-            sum(p.moves, q.moves),
-            p.done | q.done,
-            p.withdraws | q.withdraws,
-            q.fails,
-        )
-    } else {
-        p
-    }
-}
 
 // Whether two sides can end withdrawn together, by `join_withdrawn`.
 fn both_withdraw(p: View, q: View) -> bool
@@ -204,105 +140,129 @@ pub fn sides(joint: bool, m: u32, n: u32) -> u32
     if joint { product(m, n) } else { sum(m, n) }
 }
 
-pub fn parallel_view(joint: bool, p: View, q: View) -> View
-    ensures { result ≡ par_v joint p q }
-{
-    view_of(
-        sides(joint, p.moves, q.moves),
-        p.done & q.done,
-        both_withdraw(p, q),
-        both_fail(p, q),
-    )
+impl Known for View {
+    ghost of_skip = { skip_v };
+
+    ghost of_throw = { throw_v };
+
+    ghost of_yield = { yield_v };
+
+    ghost of_sequence = { seq_v };
+
+    ghost of_choice = { alt_v };
+
+    ghost of_parallel = { par_v };
+
+    fn skip() -> View {
+        View {
+            moves: 0,
+            done: true,
+            withdraws: false,
+            fails: false,
+        }
+    }
+
+    fn throw() -> View {
+        View {
+            moves: 0,
+            done: false,
+            withdraws: false,
+            fails: true,
+        }
+    }
+
+    fn yields() -> View {
+        View {
+            moves: 0,
+            done: true,
+            withdraws: true,
+            fails: false,
+        }
+    }
+
+    fn sequence(p: View, q: View) -> View {
+        if p.done {
+            View {
+                moves: sum(p.moves, q.moves),
+                done: q.done,
+                withdraws: p.withdraws | q.withdraws,
+                fails: p.fails | q.fails,
+            }
+        } else {
+            p
+        }
+    }
+
+    fn choice(p: View, q: View) -> View {
+        View {
+            moves: sum(p.moves, q.moves),
+            done: p.done | q.done,
+            withdraws: p.withdraws | q.withdraws,
+            fails: p.fails | q.fails,
+        }
+    }
+
+    fn parallel(joint: bool, p: View, q: View) -> View {
+        View {
+            moves: sides(joint, p.moves, q.moves),
+            done: p.done & q.done,
+            withdraws: both_withdraw(p, q),
+            fails: both_fail(p, q),
+        }
+    }
+}
+
+impl View {
+    pub fn event(taken: bool) -> View
+        ensures { result ≡ ev_v taken }
+    {
+        if taken {
+            View {
+                moves: 1,
+                done: false,
+                withdraws: false,
+                fails: false,
+            }
+        } else {
+            View {
+                moves: 0,
+                done: false,
+                withdraws: false,
+                fails: false,
+            }
+        }
+    }
+
+    pub fn handler(p: View, q: View) -> View
+        ensures { result ≡ hnd_v p q }
+    {
+        if p.fails {
+            View {
+                moves: sum(p.moves, q.moves),
+                done: p.done | q.done,
+                withdraws: p.withdraws | q.withdraws,
+                fails: q.fails,
+            }
+        } else {
+            p
+        }
+    }
+
+    pub fn block(x: Word) -> View
+        ensures { result ≡ blk_v x }
+    {
+        let d = x.done;
+        let f = x.failed;
+        View {
+            moves: sum(x.moves, f.moves),
+            done: (d.many != 0) | (f.able != 0),
+            withdraws: f.withdraws,
+            fails: f.fails,
+        }
+    }
 }
 
 // Tallies -----------------------------------------------------------------------------------------------------------
-
-fn tally_of(many: u32, able: u32, moves: u32, withdraws: bool, fails: bool) -> Tally
-    ensures { result ≡ tallied many able moves withdraws fails }
-{
-    Tally {
-        many,
-        able,
-        moves,
-        withdraws,
-        fails,
-    }
-}
-
-fn no_tally() -> Tally
-    ensures { result ≡ none_t }
-{
-    tally_of(0, 0, 0, false, false)
-}
-
-fn one_tally(v: View) -> Tally
-    ensures { result ≡ one_t v }
-{
-    if v.done {
-        tally_of(1, 1, v.moves, v.withdraws, v.fails)
-    } else {
-        tally_of(1, 0, v.moves, v.withdraws, v.fails)
-    }
-}
-
-// Of SKIP alone, the compensation of a part that has nothing to undo.
-fn skip_tally() -> Tally
-    ensures { result ≡ one_t skip_v }
-{
-    tally_of(1, 1, 0, false, false)
-}
-
-pub fn tally_when(b: bool, t: Tally) -> Tally
-    ensures { result ≡ when_t b t }
-{
-    if b { t } else { no_tally() }
-}
-
-// Of two lists, one after the other.
-fn plus(x: Tally, y: Tally) -> Tally
-    ensures { result ≡ plus_t x y }
-{
-    if x.many == 0 {
-        return y;
-    }
-    if y.many == 0 {
-        return x;
-    }
-    tally_of(
-        sum(x.many, y.many),
-        sum(x.able, y.able),
-        sum(x.moves, y.moves),
-        x.withdraws | y.withdraws,
-        x.fails | y.fails,
-    )
-}
-
-// Of all l;k, l of x and k of y.
-fn sequence_tally(x: Tally, y: Tally) -> Tally
-    ensures { result ≡ seq_t x y }
-{
-    if x.many == 0 {
-        return no_tally();
-    }
-    if y.many == 0 {
-        return no_tally();
-    }
-    let goes_on = x.able != 0;
-    tally_of(
-        product(x.many, y.many),
-        product(x.able, y.able),
-        sum(product(x.moves, y.many), product(x.able, y.moves)),
-        x.withdraws | (goes_on & y.withdraws),
-        x.fails | (goes_on & y.fails),
-    )
-}
-
-// One term that can end as some of a tally can.
-fn any_view(t: Tally) -> View
-    ensures { result ≡ any_v t }
-{
-    view_of(0, t.able != 0, t.withdraws, t.fails)
-}
 
 // How many steps all k beside l have, k of x and l of y.
 fn steps_beside(joint: bool, x: Tally, y: Tally) -> u32
@@ -315,163 +275,157 @@ fn steps_beside(joint: bool, x: Tally, y: Tally) -> u32
     }
 }
 
-// Of all k beside l, k of x and l of y. Those that can end done multiply, by `join_done`.
-fn parallel_tally(joint: bool, x: Tally, y: Tally) -> Tally
-    ensures { result ≡ par_t joint x y }
-{
-    if x.many == 0 {
-        return no_tally();
+impl Tally {
+    fn none() -> Tally
+        ensures { result ≡ none_t }
+    {
+        Tally {
+            many: 0,
+            able: 0,
+            moves: 0,
+            withdraws: false,
+            fails: false,
+        }
     }
-    if y.many == 0 {
-        return no_tally();
+
+    fn one(v: View) -> Tally
+        ensures { result ≡ one_t v }
+    {
+        if v.done {
+            Tally {
+                many: 1,
+                able: 1,
+                moves: v.moves,
+                withdraws: v.withdraws,
+                fails: v.fails,
+            }
+        } else {
+            Tally {
+                many: 1,
+                able: 0,
+                moves: v.moves,
+                withdraws: v.withdraws,
+                fails: v.fails,
+            }
+        }
     }
-    let p = any_view(x);
-    let q = any_view(y);
-    tally_of(
-        product(x.many, y.many),
-        product(x.able, y.able),
-        steps_beside(joint, x, y),
-        both_withdraw(p, q),
-        both_fail(p, q),
-    )
+
+    // Of SKIP alone, the compensation of a part that has nothing to undo.
+    fn skip() -> Tally
+        ensures { result ≡ one_t skip_v }
+    {
+        Tally {
+            many: 1,
+            able: 1,
+            moves: 0,
+            withdraws: false,
+            fails: false,
+        }
+    }
+
+    pub fn when(self, b: bool) -> Tally
+        ensures { result ≡ when_t b self }
+    {
+        if b { self } else { Tally::none() }
+    }
+
+    // Of two lists, one after the other.
+    fn plus(self, y: Tally) -> Tally
+        ensures { result ≡ plus_t self y }
+    {
+        if self.many == 0 {
+            return y;
+        }
+        if y.many == 0 {
+            return self;
+        }
+        Tally {
+            many: sum(self.many, y.many),
+            able: sum(self.able, y.able),
+            moves: sum(self.moves, y.moves),
+            withdraws: self.withdraws | y.withdraws,
+            fails: self.fails | y.fails,
+        }
+    }
+
+    // Of all l;k, l of this and k of y.
+    fn sequence(self, y: Tally) -> Tally
+        ensures { result ≡ seq_t self y }
+    {
+        if self.many == 0 {
+            return Tally::none();
+        }
+        if y.many == 0 {
+            return Tally::none();
+        }
+        let goes_on = self.able != 0;
+        Tally {
+            many: product(self.many, y.many),
+            able: product(self.able, y.able),
+            moves: sum(product(self.moves, y.many), product(self.able, y.moves)),
+            withdraws: self.withdraws | (goes_on & y.withdraws),
+            fails: self.fails | (goes_on & y.fails),
+        }
+    }
+
+    // One term that can end as some of a tally can.
+    fn any(self) -> View
+        ensures { result ≡ any_v self }
+    {
+        View {
+            moves: 0,
+            done: self.able != 0,
+            withdraws: self.withdraws,
+            fails: self.fails,
+        }
+    }
+
+    // Of all k beside l, k of x and l of y. Those that can end done multiply, by `join_done`.
+    fn parallel(joint: bool, x: Tally, y: Tally) -> Tally
+        ensures { result ≡ par_t joint x y }
+    {
+        if x.many == 0 {
+            return Tally::none();
+        }
+        if y.many == 0 {
+            return Tally::none();
+        }
+        let p = x.any();
+        let q = y.any();
+        Tally {
+            many: product(x.many, y.many),
+            able: product(x.able, y.able),
+            moves: steps_beside(joint, x, y),
+            withdraws: both_withdraw(p, q),
+            fails: both_fail(p, q),
+        }
+    }
 }
 
 // Words -------------------------------------------------------------------------------------------------------------
-
-fn word_of(moves: u32, done: Tally, withdrawn: Tally, failed: Tally) -> Word
-    ensures { result ≡ worded moves done withdrawn failed }
-{
-    Word {
-        moves,
-        done,
-        withdrawn,
-        failed,
-    }
-}
-
-pub fn tally_by(x: Word, w: Closing) -> Tally
-    ensures { result ≡ by_w x (closing w) }
-{
-    match w {
-        Closing::Done => x.done,
-        Closing::Withdrawn => x.withdrawn,
-        Closing::Failed => x.failed,
-    }
-}
-
-pub fn block_view(x: Word) -> View
-    ensures { result ≡ blk_v x }
-{
-    let d = x.done;
-    let f = x.failed;
-    view_of(
-        sum(x.moves, f.moves),
-        (d.many != 0) | (f.able != 0),
-        f.withdraws,
-        f.fails,
-    )
-}
-
-pub fn pair_word(p: View, q: View) -> Word
-    ensures { result ≡ pair_w p q }
-{
-    let skips = skip_tally();
-    word_of(
-        p.moves,
-        tally_when(p.done, one_tally(q)),
-        tally_when(p.withdraws, skips),
-        tally_when(p.fails, skips),
-    )
-}
-
-// PP;QQ whose first part runs.
-pub fn sequence_word(x: Word, y: Word) -> Word
-    ensures { result ≡ cseq_w x y }
-{
-    let k = x.done;
-    let w = plus(x.withdrawn, sequence_tally(y.withdrawn, k));
-    let f = plus(x.failed, sequence_tally(y.failed, k));
-    word_of(
-        sum(x.moves, product(k.many, y.moves)),
-        sequence_tally(y.done, k),
-        w,
-        f,
-    )
-}
-
-// PP;QQ whose first part has become the compensation seen as r.
-pub fn held_word(y: Word, r: View) -> Word
-    ensures { result ≡ held_w y r }
-{
-    let k = one_tally(r);
-    word_of(
-        y.moves,
-        sequence_tally(y.done, k),
-        sequence_tally(y.withdrawn, k),
-        sequence_tally(y.failed, k),
-    )
-}
-
-pub fn choice_word(x: Word, y: Word) -> Word
-    ensures { result ≡ calt_w x y }
-{
-    word_of(
-        sum(x.moves, y.moves),
-        plus(x.done, y.done),
-        plus(x.withdrawn, y.withdrawn),
-        plus(x.failed, y.failed),
-    )
-}
-
-// Compensations of the second side by y, where the first ends by x and both by u.
-pub fn fitting(q: Word, u: Closing, x: Closing, y: Closing) -> Tally
-    ensures { result ≡ fitting_t q (closing u) (closing x) (closing y) }
-{
-    tally_when(joins(u, x, y), tally_by(q, y))
-}
-
-// All compensations of the second side that go with an ending x of the first.
-pub fn partners(q: Word, u: Closing, x: Closing) -> Tally
-    ensures { result ≡ partners_t q (closing u) (closing x) }
-{
-    plus(
-        plus(
-            fitting(q, u, x, Closing::Done),
-            fitting(q, u, x, Closing::Withdrawn),
-        ),
-        fitting(q, u, x, Closing::Failed),
-    )
-}
 
 // Of all k of t beside each compensation of q, by whatever closing.
 fn beside_any(joint: bool, t: Tally, q: Word) -> Tally
     ensures { result ≡ par_t joint t (over_t (by_w q)) }
 {
-    parallel_tally(joint, t, plus(plus(q.done, q.withdrawn), q.failed))
+    Tally::parallel(joint, t, q.done.plus(q.withdrawn).plus(q.failed))
 }
 
 // Compensations of both sides, where both end withdrawn: by `join_withdrawn`.
 fn withdrawn_tally(joint: bool, x: Word, y: Word) -> Tally
     ensures { result ≡ both_t joint x y withdrawn }
 {
-    let unfailed = plus(y.done, y.withdrawn);
-    plus(
-        parallel_tally(joint, x.done, y.withdrawn),
-        parallel_tally(joint, x.withdrawn, unfailed),
-    )
+    let unfailed = y.done.plus(y.withdrawn);
+    Tally::parallel(joint, x.done, y.withdrawn).plus(Tally::parallel(joint, x.withdrawn, unfailed))
 }
 
 // Where both end failed: by `join_failed`.
 fn failed_tally(joint: bool, x: Word, y: Word) -> Tally
     ensures { result ≡ both_t joint x y failed }
 {
-    plus(
-        plus(
-            parallel_tally(joint, x.done, y.failed),
-            parallel_tally(joint, x.withdrawn, y.failed),
-        ),
-        beside_any(joint, x.failed, y),
-    )
+    Tally::parallel(joint, x.done, y.failed)
+        .plus(Tally::parallel(joint, x.withdrawn, y.failed))
+        .plus(beside_any(joint, x.failed, y))
 }
 
 fn both_empty(x: Tally, y: Tally) -> bool
@@ -480,124 +434,232 @@ fn both_empty(x: Tally, y: Tally) -> bool
     (x.many == 0) & (y.many == 0)
 }
 
-// Most often the first side can only fail, or none can: told first, since it leaves little to do. Where both end done, by `join_done`.
-pub fn parallel_word(joint: bool, x: Word, y: Word) -> Word
-    ensures { result ≡ cpar_w joint x y }
-{
-    let moves = sides(joint, x.moves, y.moves);
-    if both_empty(x.done, x.withdrawn) {
-        return word_of(
+impl Known for Word {
+    ghost of_skip = { skipp_w };
+
+    ghost of_throw = { throww_w };
+
+    ghost of_yield = { yieldd_w };
+
+    ghost of_sequence = { cseq_w };
+
+    ghost of_choice = { calt_w };
+
+    ghost of_parallel = { cpar_w };
+
+    fn skip() -> Word {
+        Word {
+            moves: 0,
+            done: Tally::skip(),
+            withdrawn: Tally::none(),
+            failed: Tally::none(),
+        }
+    }
+
+    fn throw() -> Word {
+        Word {
+            moves: 0,
+            done: Tally::none(),
+            withdrawn: Tally::none(),
+            failed: Tally::skip(),
+        }
+    }
+
+    fn yields() -> Word {
+        Word {
+            moves: 0,
+            done: Tally::skip(),
+            withdrawn: Tally::skip(),
+            failed: Tally::none(),
+        }
+    }
+
+    // PP;QQ whose first part runs.
+    fn sequence(x: Word, y: Word) -> Word {
+        let k = x.done;
+        let w = x.withdrawn.plus(y.withdrawn.sequence(k));
+        let f = x.failed.plus(y.failed.sequence(k));
+        Word {
+            moves: sum(x.moves, product(k.many, y.moves)),
+            done: y.done.sequence(k),
+            withdrawn: w,
+            failed: f,
+        }
+    }
+
+    fn choice(x: Word, y: Word) -> Word {
+        Word {
+            moves: sum(x.moves, y.moves),
+            done: x.done.plus(y.done),
+            withdrawn: x.withdrawn.plus(y.withdrawn),
+            failed: x.failed.plus(y.failed),
+        }
+    }
+
+    // Most often the first side can only fail, or none can: told first, since it leaves little to do. Where both end done, by `join_done`.
+    fn parallel(joint: bool, x: Word, y: Word) -> Word {
+        let moves = sides(joint, x.moves, y.moves);
+        if both_empty(x.done, x.withdrawn) {
+            return Word {
+                moves,
+                done: Tally::none(),
+                withdrawn: Tally::none(),
+                failed: beside_any(joint, x.failed, y),
+            };
+        }
+        let d = Tally::parallel(joint, x.done, y.done);
+        let w = withdrawn_tally(joint, x, y);
+        if both_empty(x.failed, y.failed) {
+            return Word {
+                moves,
+                done: d,
+                withdrawn: w,
+                failed: Tally::none(),
+            };
+        }
+        Word {
             moves,
-            no_tally(),
-            no_tally(),
-            beside_any(joint, x.failed, y),
-        );
+            done: d,
+            withdrawn: w,
+            failed: failed_tally(joint, x, y),
+        }
     }
-    let d = parallel_tally(joint, x.done, y.done);
-    let w = withdrawn_tally(joint, x, y);
-    if both_empty(x.failed, y.failed) {
-        return word_of(moves, d, w, no_tally());
+}
+
+impl Word {
+    pub fn by(self, w: Closing) -> Tally
+        ensures { result ≡ by_w self (closing w) }
+    {
+        match w {
+            Closing::Done => self.done,
+            Closing::Withdrawn => self.withdrawn,
+            Closing::Failed => self.failed,
+        }
     }
-    word_of(moves, d, w, failed_tally(joint, x, y))
-}
 
-pub fn skipp_word() -> Word
-    ensures { result ≡ skipp_w }
-{
-    word_of(0, skip_tally(), no_tally(), no_tally())
-}
+    pub fn pair(p: View, q: View) -> Word
+        ensures { result ≡ pair_w p q }
+    {
+        let skips = Tally::skip();
+        Word {
+            moves: p.moves,
+            done: Tally::one(q).when(p.done),
+            withdrawn: skips.when(p.withdraws),
+            failed: skips.when(p.fails),
+        }
+    }
 
-pub fn throww_word() -> Word
-    ensures { result ≡ throww_w }
-{
-    word_of(0, no_tally(), no_tally(), skip_tally())
-}
+    // PP;QQ whose first part has become the compensation seen as r.
+    pub fn held(self, r: View) -> Word
+        ensures { result ≡ held_w self r }
+    {
+        let k = Tally::one(r);
+        Word {
+            moves: self.moves,
+            done: self.done.sequence(k),
+            withdrawn: self.withdrawn.sequence(k),
+            failed: self.failed.sequence(k),
+        }
+    }
 
-pub fn yieldd_word() -> Word
-    ensures { result ≡ yieldd_w }
-{
-    word_of(0, skip_tally(), skip_tally(), no_tally())
+    // Compensations of the second side by y, where the first ends by x and both by u.
+    pub fn fitting(self, u: Closing, x: Closing, y: Closing) -> Tally
+        ensures { result ≡ fitting_t self (closing u) (closing x) (closing y) }
+    {
+        self.by(y).when(joins(u, x, y))
+    }
+
+    // All compensations of the second side that go with an ending x of the first.
+    pub fn partners(self, u: Closing, x: Closing) -> Tally
+        ensures { result ≡ partners_t self (closing u) (closing x) }
+    {
+        self.fitting(u, x, Closing::Done)
+            .plus(self.fitting(u, x, Closing::Withdrawn))
+            .plus(self.fitting(u, x, Closing::Failed))
+    }
 }
 
 // Weights -----------------------------------------------------------------------------------------------------------
 
-fn weight_of(own: u32, moves: u32, able: u32) -> Weight
-    ensures { result ≡ weighs own moves able }
-{
-    Weight { own, moves, able }
-}
-
-// Whether a compensation weighs by itself alone, so that weighing is counting.
-pub fn own_only(g: Weight) -> bool
-    ensures { result ≡ is_own g }
-{
-    (g.moves == 0) & (g.able == 0)
-}
-
-// What all of a tally weigh.
-pub fn weight_total(t: Tally, g: Weight) -> u32
-    ensures { result ≡ total t g }
-{
-    sum(
-        sum(product(g.own, t.many), product(g.moves, t.moves)),
-        product(g.able, t.able),
-    )
-}
-
-// What k weighs with all l;k, l of t.
-pub fn weight_after(t: Tally, g: Weight) -> Weight
-    ensures { result ≡ after_g t g }
-{
-    weight_of(
-        sum(product(g.own, t.many), product(g.moves, t.moves)),
-        product(g.moves, t.able),
-        product(g.able, t.able),
-    )
-}
-
-fn if_able(b: bool, n: u32) -> u32
-    ensures { result ≡ cond b n 0 }
-{
-    if b { n } else { 0 }
-}
-
-// What l weighs in l;k, where k has so many steps, and can end done or not.
-pub fn weight_inside(g: Weight, moves: u32, able: bool) -> Weight
-    ensures { result ≡ inside_g g moves able }
-{
-    weight_of(
-        g.own,
-        g.moves,
-        sum(product(g.moves, moves), if_able(able, g.able)),
-    )
-}
-
-// What p weighs with all q beside it, q of t. Those that can end done multiply, by `join_done`.
-pub fn weight_beside(joint: bool, t: Tally, g: Weight) -> Weight
-    ensures { result ≡ beside_g joint t g }
-{
-    let own = product(g.own, t.many);
-    let moves = product(g.moves, t.moves);
-    let able = product(g.able, t.able);
-    if joint {
-        weight_of(own, moves, able)
-    } else {
-        weight_of(sum(own, moves), product(g.moves, t.many), able)
+impl Weight {
+    // Whether a compensation weighs by itself alone, so that weighing is counting.
+    pub fn own_only(self) -> bool
+        ensures { result ≡ is_own self }
+    {
+        (self.moves == 0) & (self.able == 0)
     }
-}
 
-// What q weighs beside p, where p has so many steps, and can end done or not: both end done where both can, by `join_done`.
-pub fn weight_within(joint: bool, g: Weight, moves: u32, able: bool) -> Weight
-    ensures { result ≡ within_g joint g moves able }
-{
-    if own_only(g) {
-        return g;
+    // What all of a tally weigh.
+    pub fn total(self, t: Tally) -> u32
+        ensures { result ≡ total t self }
+    {
+        sum(
+            sum(product(self.own, t.many), product(self.moves, t.moves)),
+            product(self.able, t.able),
+        )
     }
-    let more = product(g.moves, moves);
-    let ends = if_able(able, g.able);
-    if joint {
-        weight_of(g.own, more, ends)
-    } else {
-        weight_of(sum(g.own, more), g.moves, ends)
+
+    // What k weighs with all l;k, l of t.
+    pub fn after(self, t: Tally) -> Weight
+        ensures { result ≡ after_g t self }
+    {
+        Weight {
+            own: sum(product(self.own, t.many), product(self.moves, t.moves)),
+            moves: product(self.moves, t.able),
+            able: product(self.able, t.able),
+        }
+    }
+
+    // What l weighs in l;k, where k has so many steps, and can end done or not.
+    pub fn inside(self, moves: u32, able: bool) -> Weight
+        ensures { result ≡ inside_g self moves able }
+    {
+        Weight {
+            own: self.own,
+            moves: self.moves,
+            able: sum(product(self.moves, moves), if able { self.able } else { 0 }),
+        }
+    }
+
+    // What p weighs with all q beside it, q of t. Those that can end done multiply, by `join_done`.
+    pub fn beside(self, joint: bool, t: Tally) -> Weight
+        ensures { result ≡ beside_g joint t self }
+    {
+        let own = product(self.own, t.many);
+        let moves = product(self.moves, t.moves);
+        let able = product(self.able, t.able);
+        if joint {
+            Weight { own, moves, able }
+        } else {
+            Weight {
+                own: sum(own, moves),
+                moves: product(self.moves, t.many),
+                able,
+            }
+        }
+    }
+
+    // What q weighs beside p, where p has so many steps, and can end done or not: both end done where both can, by `join_done`.
+    pub fn within(self, joint: bool, moves: u32, able: bool) -> Weight
+        ensures { result ≡ within_g joint self moves able }
+    {
+        if self.own_only() {
+            return self;
+        }
+        let more = product(self.moves, moves);
+        let ends = if able { self.able } else { 0 };
+        if joint {
+            Weight {
+                own: self.own,
+                moves: more,
+                able: ends,
+            }
+        } else {
+            Weight {
+                own: sum(self.own, more),
+                moves: self.moves,
+                able: ends,
+            }
+        }
     }
 }

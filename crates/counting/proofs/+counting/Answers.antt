@@ -27,7 +27,7 @@ count_run-note_word-requires-then-not-p t c = let spot = c.requires in omega (ar
 
 -- src/lib.rt:131:17
 pub count_run-returns-then-not-p : goal.count_run-returns-then-not-p
-count_run-returns-then-not-p t c = pair_stops c.requires c.args.a (sym c.course_at-runs.ensures ∙ c.in-Pair.is) c.count_std-p.ensures (not-true _ c.if-not-p.true) c.skip_view.ensures c.pair_word.ensures (c.note_word-then-not-p.ensures.value, (c.note_word-then-not-p.ensures.noted, c.note_word-then-not-p.ensures.kept))
+count_run-returns-then-not-p t c = pair_stops c.requires c.args.a (sym c.course_at-runs.ensures ∙ c.in-Pair.is) c.count_std-p.ensures (not-true _ c.if-not-p.true) c.skip.ensures c.pair.ensures (c.note_word-then-not-p.ensures.value, (c.note_word-then-not-p.ensures.noted, c.note_word-then-not-p.ensures.kept))
 
 -- src/lib.rt:133:17
 pub count_run-count_std-q-requires : goal.count_run-count_std-q-requires
@@ -76,19 +76,19 @@ count_run-note_word-requires-in-As t c = let spot = c.requires in omega (arith, 
 
 -- src/lib.rt:120:1
 pub count_run-returns-in-Basic : goal.count_run-returns-in-Basic
-count_run-returns-in-Basic t c = paired_counted c.requires c.args.a (sym c.course_at-runs.ensures ∙ c.in-Basic.is) c.basic_word.ensures (c.note_word.ensures.value, (c.note_word.ensures.noted, c.note_word.ensures.kept))
+count_run-returns-in-Basic t c = paired_counted c.requires c.args.a (sym c.course_at-runs.ensures ∙ c.in-Basic.is) c.basic.ensures (c.note_word.ensures.value, (c.note_word.ensures.noted, c.note_word.ensures.kept))
 
 -- src/lib.rt:120:1
 pub count_run-returns-else-not-p : goal.count_run-returns-else-not-p
-count_run-returns-else-not-p t c = pair_counted c.requires c.args.a (sym c.course_at-runs.ensures ∙ c.in-Pair.is) c.count_std-p.ensures c.count_std-q.ensures c.pair_word-in-Pair.ensures (c.note_word-in-Pair.ensures.value, (c.note_word-in-Pair.ensures.noted, c.note_word-in-Pair.ensures.kept))
+count_run-returns-else-not-p t c = pair_counted c.requires c.args.a (sym c.course_at-runs.ensures ∙ c.in-Pair.is) c.count_std-p.ensures c.count_std-q.ensures c.pair-in-Pair.ensures (c.note_word-in-Pair.ensures.value, (c.note_word-in-Pair.ensures.noted, c.note_word-in-Pair.ensures.kept))
 
 -- src/lib.rt:120:1
 pub count_run-returns-in-Both : goal.count_run-returns-in-Both
-count_run-returns-in-Both t c = runs_both_counted c.requires c.args.a (sym c.course_at-runs.ensures ∙ c.in-Both.is) c.count_run-p.ensures c.count_run-q.ensures c.both_word.ensures (c.note_word-in-Both.ensures.value, (c.note_word-in-Both.ensures.noted, c.note_word-in-Both.ensures.kept))
+count_run-returns-in-Both t c = runs_both_counted c.requires c.args.a (sym c.course_at-runs.ensures ∙ c.in-Both.is) c.count_run-p.ensures c.count_run-q.ensures c.both.ensures (c.note_word-in-Both.ensures.value, (c.note_word-in-Both.ensures.noted, c.note_word-in-Both.ensures.kept))
 
 -- src/lib.rt:120:1
 pub count_run-returns-in-Held : goal.count_run-returns-in-Held
-count_run-returns-in-Held t c = held_counted c.requires c.args.a (sym c.course_at-runs.ensures ∙ c.in-Held.is) c.count_std-k.ensures c.note_held.ensures c.count_run-q-in-Held.ensures c.held_word.ensures (c.note_word-in-Held.ensures.value, (c.note_word-in-Held.ensures.noted, c.note_word-in-Held.ensures.kept))
+count_run-returns-in-Held t c = held_counted c.requires c.args.a (sym c.course_at-runs.ensures ∙ c.in-Held.is) c.count_std-k.ensures c.note_held.ensures c.count_run-q-in-Held.ensures c.held.ensures (c.note_word-in-Held.ensures.value, (c.note_word-in-Held.ensures.noted, c.note_word-in-Held.ensures.kept))
 
 -- src/lib.rt:120:1
 pub count_run-returns-in-As : goal.count_run-returns-in-As
@@ -124,7 +124,7 @@ pub count_std-returns-in-Basic : goal.count_std-returns-in-Basic
 count_std-returns-in-Basic t c =
     let loop = c.loop-event in
     let stands = sym c.stand_at-stands.ensures ∙ c.in-Basic.is in
-    begun loop.invariant.0 loop.invariant.1.0 (basic_counted c.requires c.args.a loop.invariant.1.1 stands c.basic_view.ensures (c.note-in-Basic.ensures.value, c.note-in-Basic.ensures.noted))
+    begun loop.invariant.0 loop.invariant.1.0 (basic_counted c.requires c.args.a loop.invariant.1.1 stands c.basic.ensures (c.note-in-Basic.ensures.value, c.note-in-Basic.ensures.noted))
 
 -- src/lib.rt:98:21
 pub count_std-count_std-p-requires : goal.count_std-count_std-p-requires
@@ -151,7 +151,7 @@ pub count_std-returns-in-Both : goal.count_std-returns-in-Both
 count_std-returns-in-Both t c =
     let loop = c.loop-event in
     let stands = sym c.stand_at-stands.ensures ∙ c.in-Both.is in
-    begun loop.invariant.0 loop.invariant.1.0 (both_counted c.requires c.args.a loop.invariant.1.1 stands c.count_std-p.ensures c.count_std-q.ensures c.both_view.ensures (c.note-in-Both.ensures.value, c.note-in-Both.ensures.noted))
+    begun loop.invariant.0 loop.invariant.1.0 (both_counted c.requires c.args.a loop.invariant.1.1 stands c.count_std-p.ensures c.count_std-q.ensures c.both.ensures (c.note-in-Both.ensures.value, c.note-in-Both.ensures.noted))
 
 -- src/lib.rt:103:21
 pub count_std-count_std-p-requires-in-Handler : goal.count_std-count_std-p-requires-in-Handler
@@ -178,7 +178,7 @@ pub count_std-returns-in-Handler : goal.count_std-returns-in-Handler
 count_std-returns-in-Handler t c =
     let loop = c.loop-event in
     let stands = sym c.stand_at-stands.ensures ∙ c.in-Handler.is in
-    begun loop.invariant.0 loop.invariant.1.0 (handler_counted c.requires c.args.a loop.invariant.1.1 stands c.count_std-p-in-Handler.ensures c.count_std-q-in-Handler.ensures c.handler_view.ensures (c.note-in-Handler.ensures.value, c.note-in-Handler.ensures.noted))
+    begun loop.invariant.0 loop.invariant.1.0 (handler_counted c.requires c.args.a loop.invariant.1.1 stands c.count_std-p-in-Handler.ensures c.count_std-q-in-Handler.ensures c.handler.ensures (c.note-in-Handler.ensures.value, c.note-in-Handler.ensures.noted))
 
 -- src/lib.rt:108:21
 pub count_std-count_run-w-requires : goal.count_std-count_run-w-requires
@@ -197,7 +197,7 @@ pub count_std-returns-in-Block : goal.count_std-returns-in-Block
 count_std-returns-in-Block t c =
     let loop = c.loop-event in
     let stands = sym c.stand_at-stands.ensures ∙ c.in-Block.is in
-    begun loop.invariant.0 loop.invariant.1.0 (block_counted c.requires c.args.a loop.invariant.1.1 stands c.count_run-w.ensures c.block_view.ensures (c.note-in-Block.ensures.value, c.note-in-Block.ensures.noted))
+    begun loop.invariant.0 loop.invariant.1.0 (block_counted c.requires c.args.a loop.invariant.1.1 stands c.count_run-w.ensures c.block.ensures (c.note-in-Block.ensures.value, c.note-in-Block.ensures.noted))
 
 -- src/lib.rt:92:5
 pub count_std-loop-event-smaller : goal.count_std-loop-event-smaller

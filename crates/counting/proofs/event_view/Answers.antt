@@ -4,4 +4,4 @@ use Rattle.tallies.specs.Formulas.{ev_v}
 use Rattle.counting.proofs.event_view.Goals as goal
 
 pub returns : goal.returns
-returns c = c.event_view.ensures ∙ ap ev_v c.takes.ensures
+returns c = c.event.ensures ∙ ap ev_v c.takes.ensures

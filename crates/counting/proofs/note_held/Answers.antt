@@ -11,4 +11,4 @@ kept-as : {d d' : List ℕ} {i : ℕ} {x y : Word} → x ≡ y → Written d i x
 kept-as {d} {d'} {i} e h = subst (λ x. Written d i x d') e h
 
 pub returns : goal.returns
-returns c = kept-as (c.pair_word.ensures ∙ ap (λ v. pair_w v c.args.v) c.skip_view.ensures) c.keep.ensures
+returns c = kept-as (c.pair.ensures ∙ ap (λ v. pair_w v c.args.v) c.skip.ensures) c.keep.ensures

@@ -24,4 +24,4 @@ pub returns-else-cue-lt-DONE_CUE : goal.returns-else-cue-lt-DONE_CUE
 returns-else-cue-lt-DONE_CUE c =
     let a = c.args in
     let g = c.in-Running.is in
-    counted_closing a.ns.now a.t.now a.cue c.root_of-i.result c.root_of-i.ensures c.if-cue-lt-DONE_CUE.false (closing_high g c.requires.in_bounds.1) c.closing_of.result c.closing_of.ensures {v = c.count_run-w.result} {y = c.tally_by-y.result} c.count_run-w.ensures.seen c.tally_by-y.ensures g (c.count_run-w.ensures.long ∙ c.requires.d_len) c.count_run-w.ensures.right
+    counted_closing a.ns.now a.t.now a.cue c.root_of-i.result c.root_of-i.ensures c.if-cue-lt-DONE_CUE.false (closing_high g c.requires.in_bounds.1) c.closing_of.result c.closing_of.ensures {v = c.count_run-w.result} {y = c.by-y.result} c.count_run-w.ensures.seen c.by-y.ensures g (c.count_run-w.ensures.long ∙ c.requires.d_len) c.count_run-w.ensures.right

@@ -174,12 +174,12 @@ seek_parallel-second_ending-y-requires t c =
     second_row c.requires.wanted c.requires.weighed
 
 pub seek_parallel-choose-l-requires : goal.seek_parallel-choose-l-requires
-seek_parallel-choose-l-requires t c = let h = c.requires.wanted in let k = c.requires.weighed in (omega (arith, c.decreases, second_lower h), (same_room (second_spot h) c.choose-k.ensures.lent.long, (second_still h k c.choose-k.ensures.chosen.kept c.choose-k.ensures.counted.kept refl, par_second_room h k c.joint-joint.ensures refl refl c.first_ending-x.ensures c.beside.ensures c.choose-k.ensures.chosen c.weight_within-within.ensures c.second_ending-y.ensures)))
+seek_parallel-choose-l-requires t c = let h = c.requires.wanted in let k = c.requires.weighed in (omega (arith, c.decreases, second_lower h), (same_room (second_spot h) c.choose-k.ensures.lent.long, (second_still h k c.choose-k.ensures.chosen.kept c.choose-k.ensures.counted.kept refl, par_second_room h k c.joint-joint.ensures refl refl c.first_ending-x.ensures c.beside.ensures c.choose-k.ensures.chosen c.within-within.ensures c.second_ending-y.ensures)))
 
 pub seek_parallel-returns : goal.seek_parallel-returns
 seek_parallel-returns t c =
     let h = c.requires.wanted in let k = c.requires.weighed in record {
-      chosen = rw c.sides.ensures (par_chosen h k c.joint-joint.ensures refl refl c.first_ending-x.ensures c.beside.ensures c.choose-k.ensures.chosen c.weight_within-within.ensures c.second_ending-y.ensures c.choose-l.ensures.chosen);
+      chosen = rw c.sides.ensures (par_chosen h k c.joint-joint.ensures refl refl c.first_ending-x.ensures c.beside.ensures c.choose-k.ensures.chosen c.within-within.ensures c.second_ending-y.ensures c.choose-l.ensures.chosen);
       counted = par_undone h c.choose-k.ensures.chosen c.choose-l.ensures.chosen c.choose-k.ensures.counted c.choose-l.ensures.counted;
       lent = still_lent c.choose-k.ensures.lent c.choose-l.ensures.lent;
     }
@@ -216,12 +216,12 @@ seek_running-returns t c =
     }
 
 pub seek_second-seek_marked-l-requires : goal.seek_second-seek_marked-l-requires
-seek_second-seek_marked-l-requires t c = (omega (arith, c.decreases), (second_below c.requires.second_wanted c.weight_inside-inside.ensures, c.requires.weighed))
+seek_second-seek_marked-l-requires t c = (omega (arith, c.decreases), (second_below c.requires.second_wanted c.inside-inside.ensures, c.requires.weighed))
 
 pub seek_second-returns : goal.seek_second-returns
 seek_second-returns t c =
     record {
-      second_chosen = rw c.moves_before.ensures (second_chosen c.requires.second_wanted c.weight_inside-inside.ensures c.seek_marked-l.ensures.chosen);
+      second_chosen = rw c.moves_before.ensures (second_chosen c.requires.second_wanted c.inside-inside.ensures c.seek_marked-l.ensures.chosen);
       counted = second_undone c.requires.second_wanted c.requires.first_noted c.seek_marked-l.ensures.chosen c.seek_marked-l.ensures.counted;
       lent = c.seek_marked-l.ensures.lent;
     }

@@ -1,5 +1,5 @@
--- `steps::step_std`, `step_block`, `step_run`, `meet_std` and `meet_run` meet their contracts: a node hands its step down, the child makes
--- it, or both do, and so the node has made it. The measure is three times the node's number, and more for a node that may be a block or a
+-- `steps::step_std`, `step_block`, `step_run`, `step` and `meet` meet their contracts: a node hands its step down, the child makes
+-- it, or both do, and so the node has made it. The measure is four times the node's number, and more for a node that may be a block or a
 -- parallel whose sides meet. The loop's invariant: the step has come down to the node where it is (Reached). Assumes nothing.
 use Rattle.steps.specs.TurnLaws.{both_small, both_first_spot, both_first_turned, both_second_turned, handler_small, handler_first_spot, handler_first_turned, handler_second_turned, pair_turned, held_turned, only_turned, as_turned, block_small, block_ready, block_stands, block_stepped, inside_turned, event_stepped, no_step, no_run_step}
 use Rattle.steps.specs.MeetLaws.{stand_meets, run_meets, met_lower, met_within, met_some, first_ready, second_ready, met_kept, met_stepped}
@@ -9,64 +9,34 @@ use Rattle.states.specs.StageLaws.{still_lent}
 use Rattle.steps.specs.NodeLaws.{kept_under, same_tables, reached_self, reached_on}
 use Rattle.steps.proofs.+stepping.Goals as goal
 
-pub meet_run-count_at-n-requires : goal.meet_run-count_at-n-requires
-meet_run-count_at-n-requires t c = met_within c.requires.ready c.requires.meets
+pub meet-count_at-n-requires : goal.meet-count_at-n-requires
+meet-count_at-n-requires t c = met_within c.requires.ready c.requires.meets
 
-pub meet_run-nonzero_div-k : goal.meet_run-nonzero_div-k
-meet_run-nonzero_div-k t c = omega (arith, c.count_at-n.ensures, met_some c.requires.ready c.requires.meets)
+pub meet-nonzero_div-k : goal.meet-nonzero_div-k
+meet-nonzero_div-k t c = omega (arith, c.count_at-n.ensures, met_some c.requires.ready c.requires.meets)
 
-pub meet_run-step_run-requires : goal.meet_run-step_run-requires
-meet_run-step_run-requires t c = (omega (arith, c.decreases, (met_lower c.requires.ready c.requires.meets).0), rw c.count_at-n.ensures (first_ready c.requires.ready c.requires.meets))
+pub meet-step-requires : goal.meet-step-requires
+meet-step-requires t c = (omega (arith, c.decreases, (met_lower c.requires.ready c.requires.meets).0), rw c.count_at-n.ensures (first_ready c.requires.ready c.requires.meets))
 
-pub meet_run-nonzero_rem-k : goal.meet_run-nonzero_rem-k
-meet_run-nonzero_rem-k t c = omega (arith, c.count_at-n.ensures, met_some c.requires.ready c.requires.meets)
+pub meet-nonzero_rem-k : goal.meet-nonzero_rem-k
+meet-nonzero_rem-k t c = omega (arith, c.count_at-n.ensures, met_some c.requires.ready c.requires.meets)
 
-pub meet_run-step_run-requires-2 : goal.meet_run-step_run-requires-2
-meet_run-step_run-requires-2 t c =
+pub meet-step-requires-2 : goal.meet-step-requires-2
+meet-step-requires-2 t c =
     let h = c.requires.ready in
     let m = c.requires.meets in
     let n = c.count_at-n.ensures in
-    let x = rw n at c.step_run.ensures.stepped in
-    (omega (arith, c.decreases, (met_lower h m).1), rw n (second_ready h m x c.step_run.ensures.noted refl c.step_run.ensures.lent.long))
+    let x = rw n at c.step.ensures.stepped in
+    (omega (arith, c.decreases, (met_lower h m).1), rw n (second_ready h m x c.step.ensures.noted refl c.step.ensures.lent.long))
 
-pub meet_run-returns : goal.meet_run-returns
-meet_run-returns t c =
+pub meet-returns : goal.meet-returns
+meet-returns t c =
     let h = c.requires.ready in
     let m = c.requires.meets in
     let n = c.count_at-n.ensures in record {
-      stepped = met_stepped h m (rw n at c.step_run.ensures.stepped) (rw n at c.step_run-2.ensures.stepped);
-      noted = met_kept h m c.step_run.ensures.noted c.step_run-2.ensures.noted;
-      lent = still_lent c.step_run.ensures.lent c.step_run-2.ensures.lent;
-    }
-
-pub meet_std-count_at-n-requires : goal.meet_std-count_at-n-requires
-meet_std-count_at-n-requires t c = met_within c.requires.ready c.requires.meets
-
-pub meet_std-nonzero_div-k : goal.meet_std-nonzero_div-k
-meet_std-nonzero_div-k t c = omega (arith, c.count_at-n.ensures, met_some c.requires.ready c.requires.meets)
-
-pub meet_std-step_std-requires : goal.meet_std-step_std-requires
-meet_std-step_std-requires t c = (omega (arith, c.decreases, (met_lower c.requires.ready c.requires.meets).0), rw c.count_at-n.ensures (first_ready c.requires.ready c.requires.meets))
-
-pub meet_std-nonzero_rem-k : goal.meet_std-nonzero_rem-k
-meet_std-nonzero_rem-k t c = omega (arith, c.count_at-n.ensures, met_some c.requires.ready c.requires.meets)
-
-pub meet_std-step_std-requires-2 : goal.meet_std-step_std-requires-2
-meet_std-step_std-requires-2 t c =
-    let h = c.requires.ready in
-    let m = c.requires.meets in
-    let n = c.count_at-n.ensures in
-    let x = rw n at c.step_std.ensures.stepped in
-    (omega (arith, c.decreases, (met_lower h m).1), rw n (second_ready h m x c.step_std.ensures.noted refl c.step_std.ensures.lent.long))
-
-pub meet_std-returns : goal.meet_std-returns
-meet_std-returns t c =
-    let h = c.requires.ready in
-    let m = c.requires.meets in
-    let n = c.count_at-n.ensures in record {
-      stepped = met_stepped h m (rw n at c.step_std.ensures.stepped) (rw n at c.step_std-2.ensures.stepped);
-      noted = met_kept h m c.step_std.ensures.noted c.step_std-2.ensures.noted;
-      lent = still_lent c.step_std.ensures.lent c.step_std-2.ensures.lent;
+      stepped = met_stepped h m (rw n at c.step.ensures.stepped) (rw n at c.step-2.ensures.stepped);
+      noted = met_kept h m c.step.ensures.noted c.step-2.ensures.noted;
+      lent = still_lent c.step.ensures.lent c.step-2.ensures.lent;
     }
 
 pub step_block-count_at-requires : goal.step_block-count_at-requires
@@ -116,15 +86,15 @@ step_run-step_std-requires t c =
     let x = pair_turned c.requires (sym c.course_at-runs.ensures ∙ c.in-Pair.is) in
     (omega (arith, x.lower, c.decreases), x.ready)
 
-pub step_run-meet_run-requires : goal.step_run-meet_run-requires
-step_run-meet_run-requires t c = (omega (arith, c.decreases), (c.requires, run_meets (sym c.joint_by.ensures ∙ c.if-joint_by.true) (sym c.course_at-runs.ensures ∙ c.in-Both.is)))
+pub step_run-meet-requires : goal.step_run-meet-requires
+step_run-meet-requires t c = (omega (arith, c.decreases), (c.requires, run_meets (sym c.joint_by.ensures ∙ c.if-joint_by.true) (sym c.course_at-runs.ensures ∙ c.in-Both.is)))
 
 pub step_run-returns-then-joint_by : goal.step_run-returns-then-joint_by
 step_run-returns-then-joint_by t c =
     record {
-      stepped = c.meet_run.ensures.stepped;
-      noted = c.meet_run.ensures.noted;
-      lent = c.meet_run.ensures.lent;
+      stepped = c.meet.ensures.stepped;
+      noted = c.meet.ensures.noted;
+      lent = c.meet.ensures.lent;
     }
 
 pub step_run-turn_run-x-requires : goal.step_run-turn_run-x-requires
@@ -205,17 +175,17 @@ step_std-returns-in-Event t c =
 pub step_std-returns-in-Basic : goal.step_std-returns-in-Basic
 step_std-returns-in-Basic t c = absurd (no_step c.loop-s.invariant.1.1.ready (sym c.stand_at-stands.ensures ∙ c.in-Basic.is))
 
-pub step_std-meet_std-requires : goal.step_std-meet_std-requires
-step_std-meet_std-requires t c =
+pub step_std-meet-requires : goal.step_std-meet-requires
+step_std-meet-requires t c =
     let down = c.loop-s.invariant.1.1 in
     (omega (arith, c.decreases, down.low), (down.ready, stand_meets (sym c.joint_by.ensures ∙ c.if-joint_by.true) (sym c.stand_at-stands.ensures ∙ c.in-Both.is)))
 
 pub step_std-returns-then-joint_by : goal.step_std-returns-then-joint_by
 step_std-returns-then-joint_by t c =
     let down = c.loop-s.invariant.1.1 in record {
-      stepped = down.back _ c.meet_std.ensures.stepped;
-      noted = λ j n. (kept_under c.args.by.now.ns.now down.under c.meet_std.ensures.noted) j n ∙ same_tables _ c.loop-s.invariant.0 j;
-      lent = still_lent c.loop-s.invariant.1.0 c.meet_std.ensures.lent;
+      stepped = down.back _ c.meet.ensures.stepped;
+      noted = λ j n. (kept_under c.args.by.now.ns.now down.under c.meet.ensures.noted) j n ∙ same_tables _ c.loop-s.invariant.0 j;
+      lent = still_lent c.loop-s.invariant.1.0 c.meet.ensures.lent;
     }
 
 pub step_std-turn_two-x-requires : goal.step_std-turn_two-x-requires

@@ -1,5 +1,6 @@
 -- `steps::turn_run` meets its contract: each operator by its law; where PP;QQ goes on, one of PP's compensations is held. Assumes nothing.
 use Rattle.steps.specs.TurnLaws.{run_small, into_first, apart_turned, held_spot, held_weighed, held_number, first_kept, sequence_turned}
+use mathlib.Core.Logic.{inl, inr}
 use mathlib.Core.Path.{refl}
 use Rattle.states.specs.StageLaws.{still_lent}
 use Rattle.steps.proofs.turn_run.Goals as goal
@@ -42,16 +43,12 @@ returns-else-x c =
 
 pub returns-in-Choice : goal.returns-in-Choice
 returns-in-Choice c =
-    let d = c.in-Choice.is in let e = rw d at c.requires.stands in let f = rw d at c.turn_two-x.ensures in record {
-      turned = apart_turned c.requires.ready tt (rw d at c.requires.apart) e f;
-      noted = λ j n. refl;
-      lent = record { name = refl; long = c.turn_two-x.auto.t };
-    }
-
-pub returns-in-Parallel : goal.returns-in-Parallel
-returns-in-Parallel c =
-    let d = c.in-Parallel.is in let e = rw d at c.requires.stands in let f = rw d at c.turn_two-x.ensures in record {
-      turned = apart_turned c.requires.ready tt (rw d at c.requires.apart) e f;
+    let h = c.requires.ready in record {
+      turned =
+          elim c.in-Choice.is [
+            | inl d ↦ apart_turned h tt (rw d at c.requires.apart) (rw d at c.requires.stands) (rw d at c.turn_two-x.ensures)
+            | inr d ↦ apart_turned h tt (rw d.1 at c.requires.apart) (rw d.1 at c.requires.stands) (rw d.1 at c.turn_two-x.ensures)
+          ];
       noted = λ j n. refl;
       lent = record { name = refl; long = c.turn_two-x.auto.t };
     }

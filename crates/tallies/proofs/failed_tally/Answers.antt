@@ -8,7 +8,7 @@ returns c =
       c.plus-2.ensures,
       c.beside_any.ensures,
       c.plus.ensures,
-      c.parallel_tally-2.ensures,
-      c.parallel_tally.ensures,
+      c.parallel-2.ensures,
+      c.parallel.ensures,
       both_t_failed,
     )

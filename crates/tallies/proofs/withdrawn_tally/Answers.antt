@@ -6,8 +6,8 @@ pub returns : goal.returns
 returns c =
     simp (
       c.plus.ensures,
-      c.parallel_tally-2.ensures,
-      c.parallel_tally.ensures,
+      c.parallel-2.ensures,
+      c.parallel.ensures,
       c.plus-unfailed.ensures,
       both_t_withdrawn,
     )
