@@ -85,9 +85,13 @@ recalled m t n key = cond (eqb (pairs m) 0) (Err 0)
 
 -- What is remembered ------------------------------------------------------------------------------------------------------
 
--- the slot of a pair that has the smaller search
+-- what was seen and the key, in one number
+unfoldable pub mark_of : Slot → ℕ
+mark_of a = a.entered * 4294967296 + (a.reached * 65536 + a.key)
+
+-- the slot of a pair that has the smaller mark
 unfoldable pub lesser : List Slot → ℕ → ℕ
-lesser m p = cond (ltb (slot_at m (2 * p + 1)).entered (slot_at m (2 * p)).entered) (2 * p + 1) (2 * p)
+lesser m p = cond (ltb (mark_of (slot_at m (2 * p + 1))) (mark_of (slot_at m (2 * p)))) (2 * p + 1) (2 * p)
 
 -- whether a pair takes the state: it is there, and what is put fits
 unfoldable pub takes : List Slot → ℕ → List ℕ → ℕ → Sight → Bool

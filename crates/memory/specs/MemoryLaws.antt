@@ -17,7 +17,7 @@ use Rattle.std.proofs.Math.ListN.{length, get_or, take}
 use borrow.Author.Tests.{eqb-true, eqb-false, ltb-true, ltb-false, eq-eqb, ne_eqb, lt-ltb, le-ltb}
 use Rattle.memory.specs.declared.Sight.{Sight}
 use Rattle.memory.specs.declared.Slot.{Slot}
-use Rattle.memory.specs.Memory.{two_bits, padded, bytes, most_bytes, packed, low_of, high_of, slots, pairs, pair_of, slot_at, has, sight_of, recalled_at, recalled_in, recalled, lesser, takes, slot_of, remembered, Holds, Held, Same}
+use Rattle.memory.specs.Memory.{two_bits, padded, bytes, most_bytes, packed, low_of, high_of, slots, pairs, pair_of, slot_at, has, sight_of, recalled_at, recalled_in, recalled, mark_of, lesser, takes, slot_of, remembered, Holds, Held, Same}
 
 both_true : (a b : Bool) → (a && b) ≡ true → (a ≡ true) × (b ≡ true)
 both_true true b e = (refl, e)
@@ -302,7 +302,7 @@ module _ (m : List Slot) (t : List ℕ) (n key : ℕ) (x : Sight) where
 
 pub lesser_there : (m : List Slot) (p : ℕ) → p < pairs m → lesser m p < slots m
 unfolding lesser
-lesser_there m p h = by (ltb (slot_at m (2 * p + 1)).entered (slot_at m (2 * p)).entered) where
+lesser_there m p h = by (ltb (mark_of (slot_at m (2 * p + 1))) (mark_of (slot_at m (2 * p)))) where
   by : (b : Bool) → cond b (2 * p + 1) (2 * p) < length m
   by true = omega arith
   by false = omega arith

@@ -1,11 +1,11 @@
 // A memory of searches that found no end, in lent slots. A slot has a state, by its modes and a key, how many states the search from it
-// entered and how far that came. Slots come in pairs. A state has one pair, whose slot of the smaller search it takes: to forget is
+// entered and how far that came. Slots come in pairs. A state has one pair, whose slot with the smaller mark it takes: to forget is
 // always allowed. What fits no slot, a mode above 3 or a reach of 65,536, is not remembered. No key is 0, so empty slots remember nothing,
 // and neither does a slice without slots.
 #![tactic(auto)]
 
 ghost use Rattle.std.specs.Prelude.{◌≡◌, true, ◌+◌, ◌*◌, ◌<◌, ◌≤◌, length};
-ghost use Rattle.memory.specs.Memory.{two_bits, padded, bytes, most_bytes, packed, mixed, pair_of, pairs, has, sight_of, lesser, recalled_in, recalled, remembered};
+ghost use Rattle.memory.specs.Memory.{two_bits, padded, bytes, most_bytes, packed, mixed, pair_of, pairs, has, sight_of, mark_of, lesser, recalled_in, recalled, remembered};
 
 // What was seen of a state: how many states its search entered, and how far that came.
 #[derive(Clone, Copy)]
@@ -54,6 +54,14 @@ impl Slot {
             entered: self.entered,
             reached: u32::from(self.reached),
         }
+    }
+
+    // Which of two slots is smaller: by how many states were entered, then by how far that came, and by the key.
+    fn mark(&self) -> u64
+        ensures { result ≡ mark_of self.now }
+    {
+        u64::from(self.entered) * 4294967296
+            + (u64::from(self.reached) * 65536 + u64::from(self.key))
     }
 }
 
@@ -162,12 +170,12 @@ pub fn recall(slots: &[Slot], state: &[u8], key: u16) -> Result<Sight, usize>
     Err(among)
 }
 
-// The slot of a pair that has the smaller search, or none.
+// The slot of a pair that has the smaller mark: an empty one, or that of the smaller search.
 fn lesser(slots: &[Slot], pair: usize) -> usize
     requires { pair < pairs slots.now }
     ensures { (result ≡ lesser slots.now pair) × (result < length slots.now) }
 {
-    if slots[2 * pair + 1].entered < slots[2 * pair].entered {
+    if slots[2 * pair + 1].mark() < slots[2 * pair].mark() {
         2 * pair + 1
     } else {
         2 * pair

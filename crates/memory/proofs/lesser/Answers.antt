@@ -1,13 +1,13 @@
--- `memory::lesser` meets its contract: by which search is smaller. Assumes nothing.
+-- `memory::lesser` meets its contract: by which mark is smaller. Assumes nothing.
 use native.Mathlib.Omega.{arith}
 use borrow.Author.Tests.{lt-ltb, le-ltb}
 use Rattle.memory.specs.Memory.{lesser}
 use Rattle.memory.proofs.lesser.Goals as goal
 
-pub returns-then-slots-pair : goal.returns-then-slots-pair
+pub returns-then-mark : goal.returns-then-mark
 unfolding lesser
-returns-then-slots-pair c = (rw (lt-ltb _ _ c.if-slots-pair.true), omega arith)
+returns-then-mark c = let a = c.mark.ensures in let b = c.mark-2.ensures in (rw (lt-ltb _ _ (rw a at (rw b at c.if-mark.true))), omega arith)
 
-pub returns-else-slots-pair : goal.returns-else-slots-pair
+pub returns-else-mark : goal.returns-else-mark
 unfolding lesser
-returns-else-slots-pair c = (rw (le-ltb _ _ c.if-slots-pair.false), omega arith)
+returns-else-mark c = let a = c.mark.ensures in let b = c.mark-2.ensures in (rw (le-ltb _ _ (rw a at (rw b at c.if-mark.false))), omega arith)
