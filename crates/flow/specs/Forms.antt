@@ -1,10 +1,10 @@
 -- What the small functions of the checks go by: what is asked of a node without children and of one with them, a node's fields and what
 -- is refused of them, what the marks of taken children and the sorts of the nodes passed say, and what is known of the closings while the
 -- records are gone through. Definitions only. Assumes nothing.
-use Rattle.std.specs.Prelude.{ℕ, ◌+◌, ◌<◌, ◌≤◌, ◌≡◌, Bool, true, false, not, ◌&&◌, ◌||◌, cond, List, T, eqb, leb, length, get_or, set, drop, Option, Some, None}
-use Rattle.std.specs.Bool.{xor}
+use Rattle.std.specs.Prelude.{ℕ, ◌+◌, ◌<◌, ◌≤◌, ◌≡◌, Bool, true, false, not, ◌&&◌, ◌||◌, cond, List, eqb, leb, length, get_or, set, drop, Option, Some, None, IfSome}
+use Rattle.std.specs.Bool.{xor, then_some}
 use Rattle.flow.specs.declared.Form.{Form}
-use Rattle.flow.specs.declared.Fields.{Fields}
+use Rattle.flow.specs.declared.Children.{Children}
 use Rattle.flow.specs.Kinds.{node, is_standard, one_of, two_of}
 use Rattle.flow.specs.Records.{is_event_number}
 use Rattle.flow.specs.Refusals.{has_one, has_two, taken, too_many_closings, extra_closing}
@@ -16,42 +16,46 @@ leaf_form standard event = record { known = true; standard = standard; event = e
 abbrev pub branch_form : Bool → ℕ → Bool → Form
 branch_form standard kids inner = record { known = true; standard = standard; event = false; kids = kids; inner = inner }
 
--- the fields of a node, and which of them name a child
-abbrev pub fields : List ℕ → ℕ → Fields
-fields ns i = record { first = one_of ns i; second = two_of ns i; one = has_one ns i; two = has_two ns i }
+-- the children that the fields of a node name
+abbrev pub children : List ℕ → ℕ → Children
+children ns i = record { first = then_some (has_one ns i) (one_of ns i); second = then_some (has_two ns i) (two_of ns i) }
 
--- 5 to 8 of a node with such fields, by the sorts and the marks of the nodes below it
-abbrev pub field_fault : Bool → Fields → Bool
-field_fault event f =
-    (event && not (is_event_number f.first))
-    || ((not event && (not f.one && not (eqb f.first 0)))
-    || (not f.two && not (eqb f.second 0)))
+-- a test of a child, if there is one
+abbrev pub of_child : Option ℕ → (ℕ → Bool) → Bool
+of_child None test = false
+of_child (Some c) test = test c
 
-abbrev pub low_fault : ℕ → Fields → Bool
-low_fault i f = (f.one && leb i f.first) || (f.two && leb i f.second)
+-- 5 of such fields, and 6 to 8 of such children, by the sorts and the marks of the nodes below
+abbrev pub field_fault : Form → ℕ → ℕ → Bool
+field_fault asked x y =
+    (asked.event && not (is_event_number x))
+    || ((not asked.event && (eqb asked.kids 0 && not (eqb x 0)))
+    || (not (eqb asked.kids 2) && not (eqb y 0)))
 
-abbrev pub sort_fault : List Bool → Fields → Bool → Bool
-sort_fault sorts f inner =
-    (f.one && xor (get_or sorts f.first false) inner)
-    || (f.two && xor (get_or sorts f.second false) inner)
+abbrev pub low_fault : ℕ → Children → Bool
+low_fault i cs = of_child cs.first (leb i) || of_child cs.second (leb i)
 
-abbrev pub taken_fault : List Bool → Fields → Bool
-taken_fault marks f =
-    (f.one && get_or marks f.first false)
-    || ((f.two && get_or marks f.second false)
-    || (f.two && eqb f.first f.second))
+abbrev pub sort_fault : List Bool → Children → Bool → Bool
+sort_fault sorts cs inner = of_child cs.first (λ c. xor (get_or sorts c false) inner) || of_child cs.second (λ c. xor (get_or sorts c false) inner)
 
--- a mark is set, if it is one's
-abbrev pub with_child : List Bool → ℕ → Bool → List Bool
-with_child marks child used = cond used (set marks child true) marks
+abbrev pub taken_fault : List Bool → Children → Bool
+taken_fault marks cs =
+    of_child cs.first (λ c. get_or marks c false)
+    || (of_child cs.second (λ c. get_or marks c false)
+    || of_child cs.second (λ c. of_child cs.first (λ b. eqb b c)))
 
-abbrev pub with_children : List Bool → Fields → List Bool
-with_children marks f = with_child (with_child marks f.first f.one) f.second f.two
+-- a child is marked, if there is one
+abbrev pub with_child : List Bool → Option ℕ → List Bool
+with_child marks None = marks
+with_child marks (Some c) = set marks c true
 
--- a child that there is, is one of 64 nodes
-pub record Within (f : Fields) : Type 0 where
-  pub one : T f.one → f.first < 64
-  pub two : T f.two → f.second < 64
+abbrev pub with_children : List Bool → Children → List Bool
+with_children marks cs = with_child (with_child marks cs.first) cs.second
+
+-- each child is one of 64 nodes
+pub record Within (cs : Children) : Type 0 where
+  pub one : IfSome cs.first (λ c. c < 64)
+  pub two : IfSome cs.second (λ c. c < 64)
 
 -- the marks say which nodes are children of a node below i
 pub record Marks (ns : List ℕ) (i : ℕ) (marks : List Bool) : Type 0 where

@@ -4,11 +4,11 @@
 // the contracts cite are in specs/. Nothing is written here but marks of the function's own, and no lent slice is changed.
 #![tactic(auto)]
 
-ghost use Rattle.std.specs.Prelude.{◌≡◌, Ok, IfSome, true, false, cond, ◌&&◌, ◌+◌, ◌*◌, ◌-◌, ◌<◌, ◌≤◌, T, ltb, leb, length, get_or, set};
+ghost use Rattle.std.specs.Prelude.{◌≡◌, Ok, IfSome, true, false, cond, ◌&&◌, ◌+◌, ◌*◌, ◌-◌, ◌<◌, ◌≤◌, eqb, ltb, leb, length, get_or, set};
 ghost use Rattle.std.specs.Bool.{xor};
 ghost use Rattle.flow.specs.declared.Extent.TheVariants.{Whole, Beginning};
 ghost use Rattle.flow.specs.Kinds.{node_of, node, one_of, two_of, form, most_sets, operator_set, set_number};
-ghost use Rattle.flow.specs.Forms.{nth_closing, leaf_form, branch_form, fields, field_fault, low_fault, sort_fault, taken_fault, with_child, with_children, Within, Marks, Sorts};
+ghost use Rattle.flow.specs.Forms.{nth_closing, leaf_form, branch_form, children, of_child, field_fault, low_fault, sort_fault, taken_fault, with_child, with_children, Within, Marks, Sorts};
 ghost use Rattle.flow.specs.Records.{is_event_number, is_closing_number};
 ghost use Rattle.flow.specs.Refusals.{no_record, closings_wanted, node_grounds, child_grounds, count};
 ghost use Rattle.flow.specs.Checks.{refused, first, each, table_length_check, sets_check, table_check, nodes_check, values_check, closings_check, records_length_check, records_check};
@@ -76,13 +76,11 @@ pub struct Form {
     pub inner: bool,
 }
 
-// The two fields of a node, and whether they name one child, the first, or two.
+// The children that a node's fields name: none, one, which is the first, or two.
 #[derive(Clone, Copy)]
-struct Fields {
-    first: u16,
-    second: u16,
-    one: bool,
-    two: bool,
+struct Children {
+    first: Option<usize>,
+    second: Option<usize>,
 }
 
 pub const DONE: u16 = 61441;
@@ -340,17 +338,17 @@ fn refuse(number: u16, place: usize) -> Result<(), Refusal>
     })
 }
 
-// The fields of node i, of which this is asked.
-fn fields_at(nodes: &[u16], i: usize, asked: Form) -> Fields
+// The children of node i, of which this is asked.
+fn children_of(nodes: &[u16], i: usize, asked: Form) -> Children
     requires i_in_bounds { 3 * i + 2 < length nodes.now }
     requires asked_is { asked ≡ form (node nodes.now i) }
-    ensures { result ≡ fields nodes.now i }
+    ensures { result ≡ children nodes.now i }
 {
-    Fields {
-        first: first_at(nodes, i),
-        second: second_at(nodes, i),
-        one: asked.kids != 0,
-        two: asked.kids == 2,
+    let first = first_at(nodes, i) as usize;
+    let second = second_at(nodes, i) as usize;
+    Children {
+        first: (asked.kids != 0).then_some(first),
+        second: (asked.kids == 2).then_some(second),
     }
 }
 
@@ -361,73 +359,81 @@ fn no_such_set(set: u16, many: usize) -> bool
     (set < NO_SET) & (many <= set as usize)
 }
 
-// 5 of a node, of an event or not, with these fields.
-fn wrong_field(event: bool, f: Fields) -> bool
-    ensures { result ≡ field_fault event f }
+// 5 of a node with these fields, of which this is asked.
+fn wrong_field(asked: Form, first: u16, second: u16) -> bool
+    ensures { result ≡ field_fault asked first second }
 {
-    let no_event = event & !is_event(f.first);
-    let no_child = !event & (!f.one & (f.first != 0));
-    no_event | (no_child | (!f.two & (f.second != 0)))
+    let no_event = asked.event & !is_event(first);
+    let no_child = !asked.event & ((asked.kids == 0) & (first != 0));
+    no_event | (no_child | ((asked.kids != 2) & (second != 0)))
 }
 
-// 6 of node i with these fields.
-fn not_lower(i: usize, f: Fields) -> bool
-    ensures { result ≡ low_fault i f }
+// 6 of node i with these children.
+fn not_lower(i: usize, children: Children) -> bool
+    ensures { result ≡ low_fault i children }
 {
-    (f.one & (f.first as usize >= i)) | (f.two & (f.second as usize >= i))
-}
-
-// Whether a child, if there is one, is marked. A field that names none is looked up somewhere within: the marks are read without a jump.
-fn marked(marks: &[bool; 64], child: usize, used: bool) -> bool
-    requires { T used → child < 64 }
-    ensures { result ≡ used && get_or marks.now child false }
-{
-    used & marks[child % MOST_NODES]
+    children.first.is_some_and(|c| c >= i) | children.second.is_some_and(|c| c >= i)
 }
 
 // Whether a child, if there is one, is not of the sort asked for.
-fn sort_differs(sorts: &[bool; 64], child: usize, used: bool, standard: bool) -> bool
-    requires { T used → child < 64 }
-    ensures { result ≡ used && xor (get_or sorts.now child false) standard }
+fn sort_differs(sorts: &[bool; 64], child: Option<usize>, standard: bool) -> bool
+    requires { IfSome child (λ c. c < 64) }
+    ensures { result ≡ of_child child (λ c. xor (get_or sorts.now c false) standard) }
 {
-    used & (sorts[child % MOST_NODES] != standard)
+    child.is_some_and(|c| sorts[c] != standard)
 }
 
-// 7 of a node with these fields; the sorts are those of the nodes below it.
-fn wrong_sort(sorts: &[bool; 64], f: Fields, inner: bool) -> bool
-    requires { Within f }
-    ensures { result ≡ sort_fault sorts.now f inner }
+// 7 of a node with these children; the sorts are those of the nodes below it.
+fn wrong_sort(sorts: &[bool; 64], children: Children, inner: bool) -> bool
+    requires { Within children }
+    ensures { result ≡ sort_fault sorts.now children inner }
 {
-    sort_differs(sorts, f.first as usize, f.one, inner)
-        | sort_differs(sorts, f.second as usize, f.two, inner)
+    sort_differs(sorts, children.first, inner) | sort_differs(sorts, children.second, inner)
 }
 
-// 8 of a node with these fields; the marks are those of the nodes below it.
-fn child_taken(marks: &[bool; 64], f: Fields) -> bool
-    requires { Within f }
-    ensures { result ≡ taken_fault marks.now f }
+// Whether a child, if there is one, is marked.
+fn marked(marks: &[bool; 64], child: Option<usize>) -> bool
+    requires { IfSome child (λ c. c < 64) }
+    ensures { result ≡ of_child child (λ c. get_or marks.now c false) }
 {
-    let first = marked(marks, f.first as usize, f.one);
-    let second = marked(marks, f.second as usize, f.two);
-    first | (second | (f.two & (f.first == f.second)))
+    child.is_some_and(|c| marks[c])
+}
+
+// Whether the two children are the same.
+fn same_child(children: Children) -> bool
+    ensures { result ≡ of_child children.second (λ c. of_child children.first (λ b. eqb b c)) }
+{
+    match (children.first, children.second) {
+        (Some(first), Some(second)) => first == second,
+        _ => false,
+    }
+}
+
+// 8 of a node with these children; the marks are those of the nodes below it.
+fn child_taken(marks: &[bool; 64], children: Children) -> bool
+    requires { Within children }
+    ensures { result ≡ taken_fault marks.now children }
+{
+    marked(marks, children.first) | (marked(marks, children.second) | same_child(children))
 }
 
 // Marks a child, if there is one.
-fn mark(marks: &mut [bool; 64], child: usize, used: bool)
-    requires { T used → child < 64 }
-    ensures { marks.new ≡ with_child marks.old child used }
+fn mark(marks: &mut [bool; 64], child: Option<usize>)
+    requires { IfSome child (λ c. c < 64) }
+    ensures { marks.new ≡ with_child marks.old child }
 {
-    let at = child % MOST_NODES;
-    marks[at] = used | marks[at];
+    if let Some(c) = child {
+        marks[c] = true;
+    }
 }
 
-// Marks the children that these fields name.
-fn mark_children(marks: &mut [bool; 64], f: Fields)
-    requires { Within f }
-    ensures { marks.new ≡ with_children marks.old f }
+// Marks these children.
+fn mark_children(marks: &mut [bool; 64], children: Children)
+    requires { Within children }
+    ensures { marks.new ≡ with_children marks.old children }
 {
-    mark(marks, f.first as usize, f.one);
-    mark(marks, f.second as usize, f.two);
+    mark(marks, children.first);
+    mark(marks, children.second);
 }
 
 // 4 to 8 of node i, with 22. Marks and sorts are those of the nodes below it; if it is fine, it is added.
@@ -452,20 +458,20 @@ fn check_node(
     if no_such_set(set_number(decoded), many) {
         return refuse(NO_SUCH_SET, i);
     }
-    let f = fields_at(nodes, i, asked);
-    if wrong_field(asked.event, f) {
+    if wrong_field(asked, first_at(nodes, i), second_at(nodes, i)) {
         return refuse(WRONG_FIELD, i);
     }
-    if not_lower(i, f) {
+    let children = children_of(nodes, i, asked);
+    if not_lower(i, children) {
         return refuse(NOT_LOWER, i);
     }
-    if wrong_sort(sorts, f, asked.inner) {
+    if wrong_sort(sorts, children, asked.inner) {
         return refuse(WRONG_SORT, i);
     }
-    if child_taken(marks, f) {
+    if child_taken(marks, children) {
         return refuse(CHILD_TAKEN, i);
     }
-    mark_children(marks, f);
+    mark_children(marks, children);
     sorts[i] = asked.standard;
     Ok(())
 }

@@ -10,8 +10,8 @@ use Rattle.flow.specs.Kinds.{node, form, most_sets, set_number}
 use Rattle.flow.specs.Refusals.{unknown_kind, no_such_set, wrong_field, not_lower, wrong_sort, child_taken, node_grounds}
 use Rattle.flow.specs.Checks.{refused, first, answer, or_else_check}
 use Rattle.flow.specs.FirstRefusal.{IsFine}
-use Rattle.flow.specs.Forms.{fields, field_fault, low_fault, sort_fault, taken_fault, with_children, Within, Marks}
-use Rattle.flow.specs.Children.{field_by_fields, low_by_fields, within_by_lower, sort_by_sorts, taken_by_marks, marks_more, sorts_more}
+use Rattle.flow.specs.Forms.{children, field_fault, low_fault, sort_fault, taken_fault, with_children, Within, Marks}
+use Rattle.flow.specs.Children.{field_by_fields, low_by_children, within_by_lower, sort_by_sorts, taken_by_marks, marks_more, sorts_more}
 use Rattle.flow.proofs.check_node.Goals as goal
 
 -- no refusal is fine
@@ -41,8 +41,8 @@ returns-then-no_such_set c =
       children_noted = not-fine 22 c.args.i c.refuse-then-no_such_set.ensures;
     }
 
-pub fields_at-f-requires : goal.fields_at-f-requires
-fields_at-f-requires c =
+pub children_of-children-requires : goal.children_of-children-requires
+children_of-children-requires c =
     let asked : c.form_of-asked.result ≡ form (node c.args.nodes.now c.args.i) = c.form_of-asked.ensures ∙ ap form c.node_at-decoded.ensures in record {
       i_in_bounds = c.requires.i_in_bounds;
       asked_is = asked;
@@ -56,7 +56,7 @@ returns-then-wrong_field c =
     let of_22 : c.no_such_set.result ≡ no_such_set c.args.nodes.now c.args.i c.args.many = let many = c.args.many in
     c.no_such_set.ensures ∙ ap (λ (k : ℕ). ltb k most_sets && leb many k) (c.set_number.ensures ∙ ap set_number c.node_at-decoded.ensures) in
     let of_5 : c.wrong_field.result ≡ wrong_field c.args.nodes.now c.args.i = c.wrong_field.ensures
-    ∙ ap₂ field_fault (ap (λ (f : Form). f.event) (asked)) c.fields_at-f.ensures
+    ∙ (λ z. field_fault (asked z) (c.first_at.ensures z) (c.second_at.ensures z))
     ∙ field_by_fields c.args.nodes.now c.args.i in
     let e4 : unknown_kind c.args.nodes.now c.args.i ≡ false = sym (of_4) ∙ c.if-not-asked.false in
     let e22 : no_such_set c.args.nodes.now c.args.i c.args.many ≡ false = sym (of_22) ∙ c.if-no_such_set.false in
@@ -73,9 +73,9 @@ returns-then-not_lower c =
     let of_22 : c.no_such_set.result ≡ no_such_set c.args.nodes.now c.args.i c.args.many = let many = c.args.many in
     c.no_such_set.ensures ∙ ap (λ (k : ℕ). ltb k most_sets && leb many k) (c.set_number.ensures ∙ ap set_number c.node_at-decoded.ensures) in
     let of_5 : c.wrong_field.result ≡ wrong_field c.args.nodes.now c.args.i = c.wrong_field.ensures
-    ∙ ap₂ field_fault (ap (λ (f : Form). f.event) (asked)) c.fields_at-f.ensures
+    ∙ (λ z. field_fault (asked z) (c.first_at.ensures z) (c.second_at.ensures z))
     ∙ field_by_fields c.args.nodes.now c.args.i in
-    let of_6 : c.not_lower.result ≡ not_lower c.args.nodes.now c.args.i = c.not_lower.ensures ∙ ap (low_fault c.args.i) c.fields_at-f.ensures ∙ low_by_fields c.args.nodes.now c.args.i in
+    let of_6 : c.not_lower.result ≡ not_lower c.args.nodes.now c.args.i = c.not_lower.ensures ∙ ap (low_fault c.args.i) c.children_of-children.ensures ∙ low_by_children c.args.nodes.now c.args.i in
     let e4 : unknown_kind c.args.nodes.now c.args.i ≡ false = sym (of_4) ∙ c.if-not-asked.false in
     let e22 : no_such_set c.args.nodes.now c.args.i c.args.many ≡ false = sym (of_22) ∙ c.if-no_such_set.false in
     let e5 : wrong_field c.args.nodes.now c.args.i ≡ false = sym (of_5) ∙ c.if-wrong_field.false in
@@ -86,9 +86,9 @@ returns-then-not_lower c =
 
 pub wrong_sort-requires : goal.wrong_sort-requires
 wrong_sort-requires c =
-    let of_6 : c.not_lower.result ≡ not_lower c.args.nodes.now c.args.i = c.not_lower.ensures ∙ ap (low_fault c.args.i) c.fields_at-f.ensures ∙ low_by_fields c.args.nodes.now c.args.i in
+    let of_6 : c.not_lower.result ≡ not_lower c.args.nodes.now c.args.i = c.not_lower.ensures ∙ ap (low_fault c.args.i) c.children_of-children.ensures ∙ low_by_children c.args.nodes.now c.args.i in
     let lower : not_lower c.args.nodes.now c.args.i ≡ false = sym (of_6) ∙ c.if-not_lower.false in
-    let within : Within c.fields_at-f.result = subst Within (sym c.fields_at-f.ensures) (within_by_lower c.args.nodes.now c.args.i c.requires.i_bound (lower)) in
+    let within : Within c.children_of-children.result = subst Within (sym c.children_of-children.ensures) (within_by_lower c.args.nodes.now c.args.i c.requires.i_bound (lower)) in
     within
 
 pub returns-then-wrong_sort : goal.returns-then-wrong_sort
@@ -99,12 +99,12 @@ returns-then-wrong_sort c =
     let of_22 : c.no_such_set.result ≡ no_such_set c.args.nodes.now c.args.i c.args.many = let many = c.args.many in
     c.no_such_set.ensures ∙ ap (λ (k : ℕ). ltb k most_sets && leb many k) (c.set_number.ensures ∙ ap set_number c.node_at-decoded.ensures) in
     let of_5 : c.wrong_field.result ≡ wrong_field c.args.nodes.now c.args.i = c.wrong_field.ensures
-    ∙ ap₂ field_fault (ap (λ (f : Form). f.event) (asked)) c.fields_at-f.ensures
+    ∙ (λ z. field_fault (asked z) (c.first_at.ensures z) (c.second_at.ensures z))
     ∙ field_by_fields c.args.nodes.now c.args.i in
-    let of_6 : c.not_lower.result ≡ not_lower c.args.nodes.now c.args.i = c.not_lower.ensures ∙ ap (low_fault c.args.i) c.fields_at-f.ensures ∙ low_by_fields c.args.nodes.now c.args.i in
+    let of_6 : c.not_lower.result ≡ not_lower c.args.nodes.now c.args.i = c.not_lower.ensures ∙ ap (low_fault c.args.i) c.children_of-children.ensures ∙ low_by_children c.args.nodes.now c.args.i in
     let lower : not_lower c.args.nodes.now c.args.i ≡ false = sym (of_6) ∙ c.if-not_lower.false in
     let of_7 : c.wrong_sort.result ≡ wrong_sort c.args.nodes.now c.args.i = c.wrong_sort.ensures
-    ∙ ap₂ (sort_fault c.args.sorts.now) c.fields_at-f.ensures (ap (λ (f : Form). f.inner) (asked))
+    ∙ ap₂ (sort_fault c.args.sorts.now) c.children_of-children.ensures (ap (λ (f : Form). f.inner) (asked))
     ∙ sort_by_sorts c.args.nodes.now c.args.i c.args.sorts.now c.requires.marks.1 (lower) in
     let e4 : unknown_kind c.args.nodes.now c.args.i ≡ false = sym (of_4) ∙ c.if-not-asked.false in
     let e22 : no_such_set c.args.nodes.now c.args.i c.args.many ≡ false = sym (of_22) ∙ c.if-no_such_set.false in
@@ -117,9 +117,9 @@ returns-then-wrong_sort c =
 
 pub child_taken-requires : goal.child_taken-requires
 child_taken-requires c =
-    let of_6 : c.not_lower.result ≡ not_lower c.args.nodes.now c.args.i = c.not_lower.ensures ∙ ap (low_fault c.args.i) c.fields_at-f.ensures ∙ low_by_fields c.args.nodes.now c.args.i in
+    let of_6 : c.not_lower.result ≡ not_lower c.args.nodes.now c.args.i = c.not_lower.ensures ∙ ap (low_fault c.args.i) c.children_of-children.ensures ∙ low_by_children c.args.nodes.now c.args.i in
     let lower : not_lower c.args.nodes.now c.args.i ≡ false = sym (of_6) ∙ c.if-not_lower.false in
-    let within : Within c.fields_at-f.result = subst Within (sym c.fields_at-f.ensures) (within_by_lower c.args.nodes.now c.args.i c.requires.i_bound (lower)) in
+    let within : Within c.children_of-children.result = subst Within (sym c.children_of-children.ensures) (within_by_lower c.args.nodes.now c.args.i c.requires.i_bound (lower)) in
     within
 
 pub returns-then-child_taken : goal.returns-then-child_taken
@@ -130,15 +130,15 @@ returns-then-child_taken c =
     let of_22 : c.no_such_set.result ≡ no_such_set c.args.nodes.now c.args.i c.args.many = let many = c.args.many in
     c.no_such_set.ensures ∙ ap (λ (k : ℕ). ltb k most_sets && leb many k) (c.set_number.ensures ∙ ap set_number c.node_at-decoded.ensures) in
     let of_5 : c.wrong_field.result ≡ wrong_field c.args.nodes.now c.args.i = c.wrong_field.ensures
-    ∙ ap₂ field_fault (ap (λ (f : Form). f.event) (asked)) c.fields_at-f.ensures
+    ∙ (λ z. field_fault (asked z) (c.first_at.ensures z) (c.second_at.ensures z))
     ∙ field_by_fields c.args.nodes.now c.args.i in
-    let of_6 : c.not_lower.result ≡ not_lower c.args.nodes.now c.args.i = c.not_lower.ensures ∙ ap (low_fault c.args.i) c.fields_at-f.ensures ∙ low_by_fields c.args.nodes.now c.args.i in
+    let of_6 : c.not_lower.result ≡ not_lower c.args.nodes.now c.args.i = c.not_lower.ensures ∙ ap (low_fault c.args.i) c.children_of-children.ensures ∙ low_by_children c.args.nodes.now c.args.i in
     let lower : not_lower c.args.nodes.now c.args.i ≡ false = sym (of_6) ∙ c.if-not_lower.false in
     let of_7 : c.wrong_sort.result ≡ wrong_sort c.args.nodes.now c.args.i = c.wrong_sort.ensures
-    ∙ ap₂ (sort_fault c.args.sorts.now) c.fields_at-f.ensures (ap (λ (f : Form). f.inner) (asked))
+    ∙ ap₂ (sort_fault c.args.sorts.now) c.children_of-children.ensures (ap (λ (f : Form). f.inner) (asked))
     ∙ sort_by_sorts c.args.nodes.now c.args.i c.args.sorts.now c.requires.marks.1 (lower) in
     let of_8 : c.child_taken.result ≡ child_taken c.args.nodes.now c.args.i = c.child_taken.ensures
-    ∙ ap (taken_fault c.args.marks.now) c.fields_at-f.ensures
+    ∙ ap (taken_fault c.args.marks.now) c.children_of-children.ensures
     ∙ taken_by_marks c.args.nodes.now c.args.i c.args.marks.now c.requires.marks.0 c.requires.i_bound (lower) in
     let e4 : unknown_kind c.args.nodes.now c.args.i ≡ false = sym (of_4) ∙ c.if-not-asked.false in
     let e22 : no_such_set c.args.nodes.now c.args.i c.args.many ≡ false = sym (of_22) ∙ c.if-no_such_set.false in
@@ -152,9 +152,9 @@ returns-then-child_taken c =
 
 pub mark_children-requires : goal.mark_children-requires
 mark_children-requires c =
-    let of_6 : c.not_lower.result ≡ not_lower c.args.nodes.now c.args.i = c.not_lower.ensures ∙ ap (low_fault c.args.i) c.fields_at-f.ensures ∙ low_by_fields c.args.nodes.now c.args.i in
+    let of_6 : c.not_lower.result ≡ not_lower c.args.nodes.now c.args.i = c.not_lower.ensures ∙ ap (low_fault c.args.i) c.children_of-children.ensures ∙ low_by_children c.args.nodes.now c.args.i in
     let lower : not_lower c.args.nodes.now c.args.i ≡ false = sym (of_6) ∙ c.if-not_lower.false in
-    let within : Within c.fields_at-f.result = subst Within (sym c.fields_at-f.ensures) (within_by_lower c.args.nodes.now c.args.i c.requires.i_bound (lower)) in
+    let within : Within c.children_of-children.result = subst Within (sym c.children_of-children.ensures) (within_by_lower c.args.nodes.now c.args.i c.requires.i_bound (lower)) in
     within
 
 pub returns : goal.returns
@@ -165,15 +165,15 @@ returns c =
     let of_22 : c.no_such_set.result ≡ no_such_set c.args.nodes.now c.args.i c.args.many = let many = c.args.many in
     c.no_such_set.ensures ∙ ap (λ (k : ℕ). ltb k most_sets && leb many k) (c.set_number.ensures ∙ ap set_number c.node_at-decoded.ensures) in
     let of_5 : c.wrong_field.result ≡ wrong_field c.args.nodes.now c.args.i = c.wrong_field.ensures
-    ∙ ap₂ field_fault (ap (λ (f : Form). f.event) (asked)) c.fields_at-f.ensures
+    ∙ (λ z. field_fault (asked z) (c.first_at.ensures z) (c.second_at.ensures z))
     ∙ field_by_fields c.args.nodes.now c.args.i in
-    let of_6 : c.not_lower.result ≡ not_lower c.args.nodes.now c.args.i = c.not_lower.ensures ∙ ap (low_fault c.args.i) c.fields_at-f.ensures ∙ low_by_fields c.args.nodes.now c.args.i in
+    let of_6 : c.not_lower.result ≡ not_lower c.args.nodes.now c.args.i = c.not_lower.ensures ∙ ap (low_fault c.args.i) c.children_of-children.ensures ∙ low_by_children c.args.nodes.now c.args.i in
     let lower : not_lower c.args.nodes.now c.args.i ≡ false = sym (of_6) ∙ c.if-not_lower.false in
     let of_7 : c.wrong_sort.result ≡ wrong_sort c.args.nodes.now c.args.i = c.wrong_sort.ensures
-    ∙ ap₂ (sort_fault c.args.sorts.now) c.fields_at-f.ensures (ap (λ (f : Form). f.inner) (asked))
+    ∙ ap₂ (sort_fault c.args.sorts.now) c.children_of-children.ensures (ap (λ (f : Form). f.inner) (asked))
     ∙ sort_by_sorts c.args.nodes.now c.args.i c.args.sorts.now c.requires.marks.1 (lower) in
     let of_8 : c.child_taken.result ≡ child_taken c.args.nodes.now c.args.i = c.child_taken.ensures
-    ∙ ap (taken_fault c.args.marks.now) c.fields_at-f.ensures
+    ∙ ap (taken_fault c.args.marks.now) c.children_of-children.ensures
     ∙ taken_by_marks c.args.nodes.now c.args.i c.args.marks.now c.requires.marks.0 c.requires.i_bound (lower) in
     let e4 : unknown_kind c.args.nodes.now c.args.i ≡ false = sym (of_4) ∙ c.if-not-asked.false in
     let e22 : no_such_set c.args.nodes.now c.args.i c.args.many ≡ false = sym (of_22) ∙ c.if-no_such_set.false in
@@ -185,7 +185,7 @@ returns c =
     let i = c.args.i in
     let marks = marks_more ns i c.args.marks.now c.requires.marks.0 c.requires.i_bound e6 in
     let sorts = sorts_more ns i c.args.sorts.now c.requires.marks.1 c.requires.i_bound _ (ap (λ (f : Form). f.standard) (asked)) in
-    let m : c.mark_children.new.marks ≡ with_children c.args.marks.now (fields ns i) = c.mark_children.ensures ∙ ap (with_children c.args.marks.now) c.fields_at-f.ensures in record {
+    let m : c.mark_children.new.marks ≡ with_children c.args.marks.now (children ns i) = c.mark_children.ensures ∙ ap (with_children c.args.marks.now) c.children_of-children.ensures in record {
       value = rw (e4, e22, e5, e6, e7, e8);
       children_noted = λ f. (subst (Marks ns (i + 1)) (sym m) marks, sorts);
     }

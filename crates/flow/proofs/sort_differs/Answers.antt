@@ -1,15 +1,8 @@
--- `flow::sort_differs` meets its contract: a child that there is, is within. Assumes nothing.
-use Prim.Native.Nat.{ℕ, ◌%◌}
-use mathlib.Core.Path.{◌≡◌, ap}
-use mathlib.Core.Bool.{false, xor}
-use native.Mathlib.Omega.{arith}
-use lib.Dec.{T}
-use lib.ListN.{get_or}
-use Rattle.flow.specs.Tests.{then_same}
+-- `flow::sort_differs` meets its contract: two truth values differ as their `xor` says. Assumes nothing.
+use Rattle.std.proofs.Common.{rules}
+use mathlib.Core.Bool.{xor}
 use Rattle.flow.proofs.sort_differs.Goals as goal
 
 pub returns : goal.returns
 unfolding xor
-returns c =
-    let small : T c.args.used → c.args.child % 64 ≡ c.args.child = λ t. omega (arith, c.requires t) in
-    then_same c.args.used _ _ (λ t. ap (λ (k : ℕ). xor (get_or c.args.sorts.now k false) c.args.standard) (small t))
+returns c = search rules
