@@ -1,6 +1,6 @@
 -- Clean work bytes are exactly those that are promised, and the judge leaves them so, with names and without: whatever is refused, and
 -- whatever the flow. Assumes nothing.
-use Rattle.std.specs.Prelude.{ℕ, ◌+◌, ◌-◌, ◌≤◌, Bool, true, ◌↔◌, ◌≡◌, length, take, drop, replicate, Result, Ok, Err, ⊤}
+use Rattle.std.specs.Prelude.{ℕ, ◌+◌, ◌-◌, ◌≤◌, Bool, true, ◌↔◌, ◌≡◌, length, take, drop, replicate, Result, Ok, Err, ⊤, refl, Some, None}
 use Rattle.std.proofs.Common.{arith, sym, ◌∙◌, subst₂, length-append, take-append-drop, length-take-le, take_at, drop_at}
 use mathlib.Core.List.{List, ◌++◌}
 use Rattle.std.proofs.Math.Path.{ap, ap₂}
@@ -13,9 +13,10 @@ use Rattle.flow.specs.Records.{records}
 use Rattle.flow.specs.Tests.{both_true}
 use Rattle.judge.specs.declared.Answer.{Answer}
 use Rattle.judge.specs.declared.Answer.TheVariants.{Refused}
-use Rattle.judge.specs.Judged.{JudgedBy, judged_by, bytes_by, room_wanted, cleared, answer_of, unless_refused}
+use Rattle.judge.specs.Judged.{JudgedBy, judged, judged_named, judged_by, bytes_by, room_wanted, cleared, answer_of, unless_refused}
 use Rattle.line.specs.Line.{Put}
 use Rattle.replay.specs.Filler.{filler, all_are, kept}
+use Rattle.replay.specs.Lent.{lent_judged}
 use Rattle.replay.specs.Promised.{zeros_after, promised, is_clean, case_line}
 use Rattle.replay.specs.FillerLaws.{all_replicate, all_is, kept_exactly, replicate_rest}
 
@@ -86,3 +87,11 @@ case_clean c n {flow} {ns} {rs} {out = out} {out' = out'} {allowance = allowance
     subst₂ (λ (x : Answer) (y : Bool). Put (case_line x y) out 0 out' r)
     (j.answers ∙ ap (λ (k : ℕ). judged_by (c k) flow rs allowance) (ap length f ∙ length-replicate n filler))
     (always_clean flow ns rs allowance n f j) w
+
+-- what is judged is what the judge answers without names, or with the names that are lent
+module _ (sets ns rs : List ℕ) (room allowance : ℕ) where
+  pub lent_none : lent_judged None sets ns rs room allowance ≡ judged sets ns rs room allowance
+  lent_none = refl
+
+  pub lent_some : (s : List ℕ) → lent_judged (Some s) sets ns rs room allowance ≡ judged_named s sets ns rs room allowance
+  lent_some s = refl
