@@ -8,6 +8,7 @@ ghost use Rattle.replay.specs.Promised.{zeros_after, is_clean, case_line};
 
 use crate::{filler, promised, text};
 use judge::Answer;
+use line::Text;
 
 // The line of a call on so many node numbers and records, by its answer and the work bytes after it.
 fn write_case(answer: Answer, numbers: usize, records: usize, work: &[u8], out: &mut [u8]) -> usize
@@ -19,8 +20,10 @@ fn write_case(answer: Answer, numbers: usize, records: usize, work: &[u8], out: 
 {
     let zeros = promised::zeros_after(answer, numbers, records);
     let clean = promised::clean(zeros, work);
-    let end = line::write_text(program::line_for(answer), out);
-    text::put_note(clean, out, end)
+    let mut text = Text { room: out, end: 0 };
+    text.line_without_end(program::line_for(answer));
+    text::put_note(clean, &mut text);
+    text.end
 }
 
 // The judge on work bytes that are all filler, and the line of its case: the work bytes are always found clean.
