@@ -1,5 +1,6 @@
 -- Definitions.
 pub mod Line
+pub mod Room
 pub mod Texts
 pub mod Shown
 -- Theorems about them.

@@ -6,6 +6,7 @@ ghost use Rattle.std.specs.Prelude.{◌≡◌, ◌+◌, ◌*◌, ◌≤◌, ◌<
 ghost use Rattle.io.specs.Counts.{IsPrefixLen};
 ghost use Rattle.io.specs.Digits.{hex_digit_ascii};
 ghost use Rattle.line.specs.Line.{spelled, decimal, spaced, text_of, line_of, Put, LineWritten};
+ghost use Rattle.line.specs.Room.{HasRoom, Puts, SameRoom};
 ghost use Rattle.line.specs.Shown.{hex_byte, is_text, shown_byte, shown};
 
 // The verdict words.
@@ -40,77 +41,110 @@ pub struct Line {
     pub count: u32,
 }
 
-// Puts the text at an offset of the room, leaves the rest, and answers the offset behind it.
-pub fn put(text: &[u8], out: &mut [u8], at: usize) -> usize
-    requires { at + length text.now ≤ length out.old }
-    ensures { Put text.now out.old at out.new result }
-{
-    let end = at + text.len();
-    out[at..end].copy_from_slice(text);
-    end
+// Text at the front of lent bytes, whose rest stays; each method puts more behind it.
+#[derive(Drop)]
+pub struct Text<'a> {
+    pub room: &'a mut [u8],
+    pub end: usize,
 }
 
-// Puts the number in decimal at an offset of the room, leaves the rest, and answers the offset behind it.
-pub fn put_decimal(n: u32, out: &mut [u8], at: usize) -> usize
-    requires { at + 10 ≤ length out.old }
-    ensures put { Put (decimal n) out.old at out.new result }
-    ensures upper_bound { result ≤ at + 10 }
-{
-    let mut digits = [0u8; 20];
-    let k = io::decimal(u64::from(n), &mut digits);
-    put(&digits[..k], out, at)
-}
+impl Text<'_> {
+    pub fn put(&mut self, text: &[u8])
+        requires { HasRoom (length text.now) self.old }
+        ensures put { Puts text.now self.old self.new }
+        ensures same_room { SameRoom self.old self.new }
+    {
+        let from = self.end;
+        let end = from + text.len();
+        self.room[from..end].copy_from_slice(text);
+        self.end = end;
+    }
 
-// The same with a space before it.
-pub fn put_number(n: u32, out: &mut [u8], at: usize) -> usize
-    requires { at + 11 ≤ length out.old }
-    ensures put { Put (spaced n) out.old at out.new result }
-    ensures upper_bound { result ≤ at + 11 }
-{
-    let from = put(b" ", out, at);
-    put_decimal(n, out, from)
-}
+    // The number in decimal.
+    pub fn decimal(&mut self, n: u32)
+        requires { HasRoom 10 self.old }
+        ensures put { Puts (decimal n) self.old self.new }
+        ensures same_room { SameRoom self.old self.new }
+        ensures upper_bound { self.new.end ≤ self.old.end + 10 }
+    {
+        let mut digits = [0u8; 20];
+        let k = io::decimal(u64::from(n), &mut digits);
+        self.put(&digits[..k]);
+    }
 
-// Writes the line without its end at the start of the room, leaves the rest, and answers its length.
-pub fn write_text(line: Line, out: &mut [u8]) -> usize
-    requires { 42 ≤ length out.old }
-    ensures put { Put (text_of line) out.old 0 out.new result }
-    ensures upper_bound { result ≤ 42 }
-{
-    let word = line.word;
-    let a = put(word.text(), out, 0);
-    let b = put_number(u32::from(line.number), out, a);
-    let c = put_number(line.place, out, b);
-    put_number(line.count, out, c)
-}
+    // The same with a space before it.
+    pub fn number(&mut self, n: u32)
+        requires { HasRoom 11 self.old }
+        ensures put { Puts (spaced n) self.old self.new }
+        ensures same_room { SameRoom self.old self.new }
+        ensures upper_bound { self.new.end ≤ self.old.end + 11 }
+    {
+        self.put(b" ");
+        self.decimal(n);
+    }
 
-// The same with its end.
-pub fn put_line(line: Line, out: &mut [u8]) -> usize
-    requires { 43 ≤ length out.old }
-    ensures put { Put (line_of line) out.old 0 out.new result }
-    ensures upper_bound { result ≤ 43 }
-{
-    let end = write_text(line, out);
-    put(b"\n", out, end)
-}
+    // A line without its end.
+    pub fn line_without_end(&mut self, line: Line)
+        requires { HasRoom 42 self.old }
+        ensures put { Puts (text_of line) self.old self.new }
+        ensures same_room { SameRoom self.old self.new }
+        ensures upper_bound { self.new.end ≤ self.old.end + 42 }
+    {
+        let word = line.word;
+        self.put(word.text());
+        self.number(u32::from(line.number));
+        self.number(line.place);
+        self.number(line.count);
+    }
 
-// Writes the line at the start of the room, leaves the rest, and answers its length.
-pub fn write_line(line: Line, out: &mut [u8; 64]) -> usize
-    ensures line_written { LineWritten line out.old out.new result }
-    ensures prefix_len { IsPrefixLen result out.new }
-{
-    put_line(line, out)
-}
+    // The same with its end.
+    pub fn line(&mut self, line: Line)
+        requires { HasRoom 43 self.old }
+        ensures put { Puts (line_of line) self.old self.new }
+        ensures same_room { SameRoom self.old self.new }
+        ensures upper_bound { self.new.end ≤ self.old.end + 43 }
+    {
+        self.line_without_end(line);
+        self.put(b"\n");
+    }
 
-// Puts a byte as two digits at an offset of the room, leaves the rest, and answers the offset behind them.
-pub fn put_byte(byte: u8, out: &mut [u8], at: usize) -> usize
-    requires { at + 2 ≤ length out.old }
-    ensures put { Put (hex_byte byte) out.old at out.new result }
-    ensures upper_bound { result ≤ at + 2 }
-{
-    let mut digits = [0u8; 16];
-    let k = io::hex(u64::from(byte), 2, &mut digits);
-    put(&digits[..k], out, at)
+    // A byte as two hexadecimal digits.
+    pub fn hex(&mut self, byte: u8)
+        requires { HasRoom 2 self.old }
+        ensures put { Puts (hex_byte byte) self.old self.new }
+        ensures same_room { SameRoom self.old self.new }
+        ensures upper_bound { self.new.end ≤ self.old.end + 2 }
+    {
+        let mut digits = [0u8; 16];
+        let k = io::hex(u64::from(byte), 2, &mut digits);
+        self.put(&digits[..k]);
+    }
+
+    fn shown_byte(&mut self, byte: u8)
+        requires { HasRoom 4 self.old }
+        ensures put { Puts (shown_byte byte) self.old self.new }
+        ensures same_room { SameRoom self.old self.new }
+        ensures upper_bound { self.new.end ≤ self.old.end + 4 }
+    {
+        if is_text(byte) {
+            self.put(&[byte]);
+            return;
+        }
+        self.put(b"\\x");
+        self.hex(byte);
+    }
+
+    // A name as it is shown.
+    pub fn shown(&mut self, name: &[u8])
+        requires { HasRoom (4 * length name.now) self.old }
+        ensures put { Puts (shown name.now) self.old self.new }
+        ensures same_room { SameRoom self.old self.new }
+        ensures upper_bound { self.new.end ≤ self.old.end + 4 * length name.now }
+    {
+        for byte in name {
+            self.shown_byte(*byte);
+        }
+    }
 }
 
 // Whether a byte is shown as it is: text, and no backslash.
@@ -120,27 +154,12 @@ fn is_text(byte: u8) -> bool
     (b' '..=b'~').contains(&byte) && byte != b'\\'
 }
 
-fn put_shown_byte(byte: u8, out: &mut [u8], at: usize) -> usize
-    requires { at + 4 ≤ length out.old }
-    ensures put { Put (shown_byte byte) out.old at out.new result }
-    ensures upper_bound { result ≤ at + 4 }
+// Writes the line at the start of the room, leaves the rest, and answers its length.
+pub fn write_line(line: Line, out: &mut [u8; 64]) -> usize
+    ensures line_written { LineWritten line out.old out.new result }
+    ensures prefix_len { IsPrefixLen result out.new }
 {
-    if is_text(byte) {
-        return put(&[byte], out, at);
-    }
-    let from = put(b"\\x", out, at);
-    put_byte(byte, out, from)
-}
-
-// Puts a name as it is shown at an offset of the room, leaves the rest, and answers the offset behind it.
-pub fn put_shown(name: &[u8], out: &mut [u8], at: usize) -> usize
-    requires { at + 4 * length name.now ≤ length out.old }
-    ensures put { Put (shown name.now) out.old at out.new result }
-    ensures upper_bound { result ≤ at + 4 * length name.now }
-{
-    let mut end = at;
-    for byte in name {
-        end = put_shown_byte(*byte, out, end);
-    }
-    end
+    let mut text = Text { room: out, end: 0 };
+    text.line(line);
+    text.end
 }

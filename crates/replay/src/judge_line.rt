@@ -9,6 +9,7 @@ ghost use Rattle.replay.specs.Promised.{zeros_after, is_clean, case_line};
 use crate::lists::Lists;
 use crate::{filler, promised, text};
 use judge::Answer;
+use line::Text;
 
 // What the judge answers.
 fn answer(lists: Lists, work: &mut [u8], allowance: u32) -> Answer
@@ -34,8 +35,10 @@ fn write_case(answer: Answer, lists: Lists, work: &[u8], out: &mut [u8]) -> usiz
 {
     let zeros = promised::zeros_after(answer, lists);
     let clean = promised::clean(zeros, work);
-    let end = line::write_text(program::line_for(answer), out);
-    text::put_note(clean, out, end)
+    let mut text = Text { room: out, end: 0 };
+    text.line_without_end(program::line_for(answer));
+    text::put_note(clean, &mut text);
+    text.end
 }
 
 // The judge on work bytes that are all filler, and the line of its case: the work bytes are always found clean.

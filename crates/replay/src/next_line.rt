@@ -1,48 +1,53 @@
 // A call of `next` and its line, without names and with them: what is answered and the numbers that are listed, with `clean` behind them if
 // the list and the work bytes are as promised, else `dirty`.
-ghost use Rattle.std.specs.Prelude.{◌≡◌, ◌≤◌, length, option_copied};
+ghost use Rattle.std.specs.Prelude.{◌≡◌, ◌≤◌, length, option_copied, ◌+◌};
 ghost use Rattle.line.specs.Line.{Put};
 ghost use Rattle.replay.specs.Lent.{LentNext};
 ghost use Rattle.replay.specs.NextLine.{length_listed, next_zeros, next_clean, listed_text, undecided_text, next_text, next_line, Tellable, NextCaseOf};
+ghost use Rattle.line.specs.Room.{HasRoom, Puts, SameRoom};
 
 use crate::lists::Lists;
 use crate::{filler, promised, text};
 use ahead::answer::{Found, Next};
+use line::Text;
 
-fn put_listed(found: Found, list: &[u16], out: &mut [u8]) -> usize
+fn put_listed(found: Found, list: &[u16], text: &mut Text)
     requires length_bound { found.length ≤ 259 }
     requires length_in_bounds { found.length ≤ length list.now }
-    requires in_bounds { 2877 ≤ length out.old }
-    ensures put { Put (listed_text found list.now) out.old 0 out.new result }
-    ensures upper_bound { result ≤ 2877 }
+    requires room { HasRoom 2877 text.old }
+    ensures put { Puts (listed_text found list.now) text.old text.new }
+    ensures same_room { SameRoom text.old text.new }
+    ensures upper_bound { text.new.end ≤ text.old.end + 2877 }
 {
     let n = found.length as usize;
-    let a = line::put(b"listed", out, 0);
-    let b = line::put_number(found.length, out, a);
-    let c = line::put_number(found.count, out, b);
-    text::put_numbers(&list[..n], out, c)
+    text.put(b"listed");
+    text.number(found.length);
+    text.number(found.count);
+    text::put_numbers(&list[..n], text);
 }
 
-fn put_undecided(found: Found, out: &mut [u8]) -> usize
-    requires { 31 ≤ length out.old }
-    ensures put { Put (undecided_text found) out.old 0 out.new result }
-    ensures upper_bound { result ≤ 31 }
+fn put_undecided(found: Found, text: &mut Text)
+    requires { HasRoom 31 text.old }
+    ensures put { Puts (undecided_text found) text.old text.new }
+    ensures same_room { SameRoom text.old text.new }
+    ensures upper_bound { text.new.end ≤ text.old.end + 31 }
 {
-    let a = line::put(b"undecided", out, 0);
-    let b = line::put_number(found.length, out, a);
-    line::put_number(found.count, out, b)
+    text.put(b"undecided");
+    text.number(found.length);
+    text.number(found.count);
 }
 
-fn put_next(answer: Next, list: &[u16], out: &mut [u8]) -> usize
+fn put_next(answer: Next, list: &[u16], text: &mut Text)
     requires tellable { Tellable answer list.now }
-    requires in_bounds { 2877 ≤ length out.old }
-    ensures put { Put (next_text answer list.now) out.old 0 out.new result }
-    ensures upper_bound { result ≤ 2877 }
+    requires room { HasRoom 2877 text.old }
+    ensures put { Puts (next_text answer list.now) text.old text.new }
+    ensures same_room { SameRoom text.old text.new }
+    ensures upper_bound { text.new.end ≤ text.old.end + 2877 }
 {
     match answer {
-        Next::Listed(f) => put_listed(f, list, out),
-        Next::Undecided(f) => put_undecided(f, out),
-        Next::Refused(r) => text::put_refused(r, out),
+        Next::Listed(f) => put_listed(f, list, text),
+        Next::Undecided(f) => put_undecided(f, text),
+        Next::Refused(r) => text::put_refused(r, text),
     }
 }
 
@@ -80,8 +85,10 @@ fn write_case(answer: Next, list: &[u16], clean: bool, out: &mut [u8]) -> usize
     ensures put { Put (next_line answer list.now clean) out.old 0 out.new result }
     ensures upper_bound { result ≤ 2884 }
 {
-    let end = put_next(answer, list, out);
-    text::put_note(clean, out, end)
+    let mut text = Text { room: out, end: 0 };
+    put_next(answer, list, &mut text);
+    text::put_note(clean, &mut text);
+    text.end
 }
 
 // What `next` answers.

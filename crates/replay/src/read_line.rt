@@ -4,48 +4,52 @@ ghost use Rattle.std.specs.Prelude.{true, ◌≡◌, ◌+◌, ◌≤◌, length,
 ghost use Rattle.format.specs.Told.{at_front};
 ghost use Rattle.io.specs.Counts.{IsPrefixLen};
 ghost use Rattle.line.specs.Line.{Put};
+ghost use Rattle.line.specs.Room.{HasRoom, Puts, SameRoom};
 ghost use Rattle.reader.specs.Reading.{reading};
 ghost use Rattle.replay.specs.Filler.{number_filler};
 ghost use Rattle.replay.specs.ReadLine.{sets_text, counts_text, sets_place, read_text, read_line, nodes_taken, records_taken, tables_clean};
 
 use crate::{filler, text};
 use flow::Refusal;
+use line::Text;
 use reader::Counts;
 
-// The offset and count of the sets, at an offset of the room; leaves the rest, and answers the offset behind them. The sets stand in a
-// file that can be read, so their offset is a number that can be put.
-fn put_sets(counts: Counts, out: &mut [u8], at: usize) -> usize
+// The offset and count of the sets. The sets stand in a file that can be read, so their offset is a number that can be put.
+fn put_sets(counts: Counts, text: &mut Text)
     requires sets_at_bound { counts.sets_at ≤ 22408 }
-    requires at_in_bounds { at + 22 ≤ length out.old }
-    ensures put { Put (sets_text counts) out.old at out.new result }
-    ensures upper_bound { result ≤ at + 22 }
+    requires room { HasRoom 22 text.old }
+    ensures put { Puts (sets_text counts) text.old text.new }
+    ensures same_room { SameRoom text.old text.new }
+    ensures upper_bound { text.new.end ≤ text.old.end + 22 }
 {
-    let end = line::put_number(counts.sets_at as u32, out, at);
-    line::put_number(counts.sets as u32, out, end)
+    text.number(counts.sets_at as u32);
+    text.number(counts.sets as u32);
 }
 
-fn put_counts(counts: Counts, out: &mut [u8]) -> usize
+fn put_counts(counts: Counts, text: &mut Text)
     requires sets_at_bound { counts.sets_at ≤ 22408 }
-    requires in_bounds { 59 ≤ length out.old }
-    ensures put { Put (counts_text counts) out.old 0 out.new result }
-    ensures upper_bound { result ≤ 59 }
+    requires room { HasRoom 59 text.old }
+    ensures put { Puts (counts_text counts) text.old text.new }
+    ensures same_room { SameRoom text.old text.new }
+    ensures upper_bound { text.new.end ≤ text.old.end + 59 }
 {
-    let a = line::put(b"read", out, 0);
-    let b = line::put_number(counts.names as u32, out, a);
-    let c = line::put_number(counts.nodes as u32, out, b);
-    let d = line::put_number(counts.records as u32, out, c);
-    put_sets(counts, out, d)
+    text.put(b"read");
+    text.number(counts.names as u32);
+    text.number(counts.nodes as u32);
+    text.number(counts.records as u32);
+    put_sets(counts, text);
 }
 
-fn put_reading(answer: Result<Counts, Refusal>, out: &mut [u8]) -> usize
+fn put_reading(answer: Result<Counts, Refusal>, text: &mut Text)
     requires answer_bound { sets_place answer ≤ 22408 }
-    requires in_bounds { 59 ≤ length out.old }
-    ensures put { Put (read_text answer) out.old 0 out.new result }
-    ensures upper_bound { result ≤ 59 }
+    requires room { HasRoom 59 text.old }
+    ensures put { Puts (read_text answer) text.old text.new }
+    ensures same_room { SameRoom text.old text.new }
+    ensures upper_bound { text.new.end ≤ text.old.end + 59 }
 {
     match answer {
-        Ok(c) => put_counts(c, out),
-        Err(r) => text::put_refused(r, out),
+        Ok(c) => put_counts(c, text),
+        Err(r) => text::put_refused(r, text),
     }
 }
 
@@ -81,8 +85,10 @@ fn write_case(answer: Result<Counts, Refusal>, clean: bool, out: &mut [u8]) -> u
     ensures put { Put (read_line answer clean) out.old 0 out.new result }
     ensures upper_bound { result ≤ 66 }
 {
-    let end = put_reading(answer, out);
-    text::put_note(clean, out, end)
+    let mut text = Text { room: out, end: 0 };
+    put_reading(answer, &mut text);
+    text::put_note(clean, &mut text);
+    text.end
 }
 
 // The reader on tables that are all filler, and the line of its case: the tables are always found clean.

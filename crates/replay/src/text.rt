@@ -1,51 +1,53 @@
 // What the lines of several kinds of case have: a refusal, bytes in hexadecimal, numbers, and the word for what was lent.
 ghost use Rattle.std.specs.Prelude.{◌+◌, ◌*◌, ◌≤◌, length};
-ghost use Rattle.line.specs.Line.{Put};
+ghost use Rattle.line.specs.Room.{HasRoom, Puts, SameRoom};
 ghost use Rattle.replay.specs.Text.{noted, refused_text, hex_of, numbers_text};
 
 use flow::Refusal;
+use line::Text;
 
-// The word, the number and the place of a refusal, at the start of the room.
-pub fn put_refused(refusal: Refusal, out: &mut [u8]) -> usize
-    requires { 29 ≤ length out.old }
-    ensures put { Put (refused_text refusal) out.old 0 out.new result }
-    ensures upper_bound { result ≤ 29 }
+// The word, the number and the place of a refusal.
+pub fn put_refused(refusal: Refusal, text: &mut Text)
+    requires { HasRoom 29 text.old }
+    ensures put { Puts (refused_text refusal) text.old text.new }
+    ensures same_room { SameRoom text.old text.new }
+    ensures upper_bound { text.new.end ≤ text.old.end + 29 }
 {
-    let a = line::put(b"refused", out, 0);
-    let b = line::put_number(u32::from(refusal.number), out, a);
-    line::put_number(refusal.place, out, b)
+    text.put(b"refused");
+    text.number(u32::from(refusal.number));
+    text.number(refusal.place);
 }
 
-// The bytes, two digits each, at an offset of the room; leaves the rest, and answers the offset behind them.
-pub fn put_hex(bytes: &[u8], out: &mut [u8], at: usize) -> usize
-    requires { at + 2 * length bytes.now ≤ length out.old }
-    ensures put { Put (hex_of bytes.now) out.old at out.new result }
-    ensures upper_bound { result ≤ at + 2 * length bytes.now }
+// The bytes, two digits each.
+pub fn put_hex(bytes: &[u8], text: &mut Text)
+    requires { HasRoom (2 * length bytes.now) text.old }
+    ensures put { Puts (hex_of bytes.now) text.old text.new }
+    ensures same_room { SameRoom text.old text.new }
+    ensures upper_bound { text.new.end ≤ text.old.end + 2 * length bytes.now }
 {
-    let mut end = at;
     for byte in bytes {
-        end = line::put_byte(*byte, out, end);
+        text.hex(*byte);
     }
-    end
 }
 
-// The numbers, each with a space before it, at an offset of the room; leaves the rest, and answers the offset behind them.
-pub fn put_numbers(numbers: &[u16], out: &mut [u8], at: usize) -> usize
-    requires { at + 11 * length numbers.now ≤ length out.old }
-    ensures put { Put (numbers_text numbers.now) out.old at out.new result }
-    ensures upper_bound { result ≤ at + 11 * length numbers.now }
+// The numbers, each with a space before it.
+pub fn put_numbers(numbers: &[u16], text: &mut Text)
+    requires { HasRoom (11 * length numbers.now) text.old }
+    ensures put { Puts (numbers_text numbers.now) text.old text.new }
+    ensures same_room { SameRoom text.old text.new }
+    ensures upper_bound { text.new.end ≤ text.old.end + 11 * length numbers.now }
 {
-    let mut end = at;
     for number in numbers {
-        end = line::put_number(u32::from(*number), out, end);
+        text.number(u32::from(*number));
     }
-    end
 }
 
 // The word for what was lent, behind what the answer tells.
-pub fn put_note(clean: bool, out: &mut [u8], at: usize) -> usize
-    requires { at + 7 ≤ length out.old }
-    ensures { Put (noted clean) out.old at out.new result }
+pub fn put_note(clean: bool, text: &mut Text)
+    requires { HasRoom 7 text.old }
+    ensures put { Puts (noted clean) text.old text.new }
+    ensures same_room { SameRoom text.old text.new }
+    ensures upper_bound { text.new.end ≤ text.old.end + 7 }
 {
-    line::put(if clean { b" clean\n" } else { b" dirty\n" }, out, at)
+    text.put(if clean { b" clean\n" } else { b" dirty\n" });
 }

@@ -7,6 +7,6 @@ use Rattle.program.proofs.listing.put_answer.Goals as goal
 pub returns : goal.returns
 returns c =
     record {
-      put = rw c.line_for.ensures at c.put_line.ensures.put;
+      put = rw c.line_for.ensures at c.line.ensures.put;
       prefix_len = (omega arith, sym (length-take-le _ _ (omega arith)));
     }

@@ -10,7 +10,7 @@ pub returns : goal.returns
 unfolding list_text
 returns c =
     let few = c.requires.few in
-    let p = put_then c.put_lines-end.ensures.put (omega arith) c.put_count.ensures.put in
+    let p = put_then c.put_lines.ensures.put (omega arith) c.put_count.ensures.put in
     let l = put_length p (omega arith) in record {
       put = p;
       prefix_len = (omega arith, sym (length-take-le _ _ (omega arith)));

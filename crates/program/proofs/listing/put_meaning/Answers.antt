@@ -1,5 +1,5 @@
 -- `program::listing::put_meaning` meets its contract: the entry of an event, which stands behind those before it, or a closing's word. Assumes nothing.
-use native.Mathlib.Omega.{arith}
+use Rattle.std.proofs.Common.{rules, arith}
 use borrow.Author.Tests.{le-leb, lt-leb}
 use Rattle.flow.specs.Records.{most_events}
 use Rattle.program.specs.Listing.{meaning}
@@ -17,7 +17,7 @@ put_entry-requires c =
     record {
       in_bounds = rw c.behind_entries.ensures h.inside;
       good_entry = rw c.behind_entries.ensures h.good;
-      at_in_bounds = c.requires.at_in_bounds;
+      room = c.requires.room;
     }
 
 pub returns-then-number-le-MOST_EVENTS : goal.returns-then-number-le-MOST_EVENTS
@@ -25,6 +25,7 @@ unfolding meaning
 returns-then-number-le-MOST_EVENTS c =
     let h = entry_here c.args.names.now c.requires.whole c.args.number c.requires.showable.some (c.requires.showable.named c.if-number-le-MOST_EVENTS.true) in record {
       put = rw (le-leb c.args.number most_events c.if-number-le-MOST_EVENTS.true, h.is) (rw c.behind_entries.ensures at c.put_entry.ensures.put);
+      same_room = search rules;
       upper_bound = c.put_entry.ensures.upper_bound;
     }
 
@@ -32,6 +33,7 @@ pub returns : goal.returns
 unfolding meaning
 returns c =
     record {
-      put = rw (lt-leb c.args.number most_events c.if-number-le-MOST_EVENTS.false) (rw c.closing_word.ensures.word at c.put.ensures);
-      upper_bound = omega (arith, c.put.ensures.end, c.closing_word.ensures.short);
+      put = rw (lt-leb c.args.number most_events c.if-number-le-MOST_EVENTS.false) (rw c.closing_word.ensures.word at c.put.ensures.put);
+      same_room = search rules;
+      upper_bound = omega (arith, c.put.ensures.put.end, c.closing_word.ensures.short);
     }

@@ -1,5 +1,5 @@
 -- `replay::next_line::put_listed` meets its contract: its four texts, one after the other. Assumes nothing.
-use native.Mathlib.Omega.{arith}
+use Rattle.std.proofs.Common.{rules, arith}
 use mathlib.Core.Path.{sym}
 use lib.Seq.{length-take-le}
 use Rattle.line.specs.LineLaws.{put_then}
@@ -12,14 +12,15 @@ slice_bounds-put_numbers-end c = sym (length-take-le _ _ c.requires.length_in_bo
 pub put_numbers-requires : goal.put_numbers-requires
 put_numbers-requires c =
     let l = length-take-le c.args.found.length c.args.list.now c.requires.length_in_bounds in
-    omega (arith, c.put-a.ensures.end)
+    omega (arith, c.put.ensures.put.end)
 
 pub returns : goal.returns
 unfolding listed_text
 returns c =
-    let n0 = c.put-a.ensures in
+    let n0 = c.put.ensures.put in
     let e = n0.end in
     let l = length-take-le c.args.found.length c.args.list.now c.requires.length_in_bounds in record {
-      put = put_then n0 (omega arith) (put_then c.put_number-b.ensures.put (omega arith) (put_then c.put_number-c.ensures.put (omega arith) c.put_numbers.ensures.put));
+      put = put_then n0 (omega arith) (put_then c.number.ensures.put (omega arith) (put_then c.number-2.ensures.put (omega arith) c.put_numbers.ensures.put));
+      same_room = search rules;
       upper_bound = omega arith;
     }

@@ -1,5 +1,5 @@
 -- `replay::next_line::put_next` meets its contract, case by case. Assumes nothing.
-use native.Mathlib.Omega.{arith}
+use Rattle.std.proofs.Common.{rules, arith}
 use Rattle.replay.specs.NextLine.{length_listed, next_text}
 use Rattle.replay.proofs.next_line.put_next.Goals as goal
 
@@ -9,7 +9,7 @@ put_listed-requires c =
     let e = c.in-Listed.is in record {
       length_bound = rw e at c.requires.tellable.short;
       length_in_bounds = rw e at c.requires.tellable.there;
-      in_bounds = c.requires.in_bounds;
+      room = c.requires.room;
     }
 
 pub returns-in-Listed : goal.returns-in-Listed
@@ -17,6 +17,7 @@ unfolding next_text
 returns-in-Listed c =
     record {
       put = rw c.in-Listed.is c.put_listed.ensures.put;
+      same_room = search rules;
       upper_bound = c.put_listed.ensures.upper_bound;
     }
 
@@ -25,6 +26,7 @@ unfolding next_text
 returns-in-Undecided c =
     record {
       put = rw c.in-Undecided.is c.put_undecided.ensures.put;
+      same_room = search rules;
       upper_bound = omega arith;
     }
 
@@ -33,5 +35,6 @@ unfolding next_text
 returns-in-Refused c =
     record {
       put = rw c.in-Refused.is c.put_refused.ensures.put;
+      same_room = search rules;
       upper_bound = omega arith;
     }

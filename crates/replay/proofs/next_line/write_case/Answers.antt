@@ -1,5 +1,5 @@
 -- `replay::next_line::write_case` meets its contract: what the answer tells, and the word for what was lent behind it. Assumes nothing.
-use native.Mathlib.Omega.{arith}
+use Rattle.std.proofs.Common.{rules, arith}
 use Rattle.line.specs.LineLaws.{put_then}
 use Rattle.replay.specs.NextLine.{next_line}
 use Rattle.replay.specs.TextLaws.{noted_length}
@@ -8,7 +8,7 @@ use Rattle.replay.proofs.next_line.write_case.Goals as goal
 pub returns : goal.returns
 unfolding next_line
 returns c =
-    let n = c.put_note.ensures in record {
-      put = put_then c.put_next-end.ensures.put (omega arith) n;
-      upper_bound = omega (arith, n.end, noted_length c.args.clean);
+    let told = put_then c.put_next.ensures.put (omega arith) c.put_note.ensures.put in record {
+      put = search rules;
+      upper_bound = omega (arith, c.put_note.ensures.put.end, noted_length c.args.clean);
     }

@@ -1,5 +1,5 @@
 -- `replay::write_line::put_writing` meets its contract, case by case. Assumes nothing.
-use native.Mathlib.Omega.{arith}
+use Rattle.std.proofs.Common.{rules, arith}
 use Rattle.replay.specs.WriteLine.{length_written, write_text}
 use Rattle.replay.proofs.write_line.put_writing.Goals as goal
 
@@ -9,7 +9,7 @@ put_written-requires c =
     let e = c.in-Ok.is in record {
       length_bound = rw e at c.requires.printable.short;
       length_in_bounds = rw e at c.requires.printable.there;
-      in_bounds = c.requires.in_bounds;
+      room = c.requires.room;
     }
 
 pub returns-in-Ok : goal.returns-in-Ok
@@ -17,6 +17,7 @@ unfolding write_text
 returns-in-Ok c =
     record {
       put = rw c.in-Ok.is c.put_written.ensures.put;
+      same_room = search rules;
       upper_bound = c.put_written.ensures.upper_bound;
     }
 
@@ -25,5 +26,6 @@ unfolding write_text
 returns-in-Err c =
     record {
       put = rw c.in-Err.is c.put_refused.ensures.put;
+      same_room = search rules;
       upper_bound = omega arith;
     }

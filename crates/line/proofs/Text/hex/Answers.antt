@@ -1,9 +1,9 @@
--- `line::put_byte` meets its contract: of a byte there are two digits. Assumes nothing.
+-- `line::Text::hex` meets its contract: of a byte there are two digits. Assumes nothing.
 use Rattle.std.proofs.Common.{◌≡◌, ℕ, zero, suc, ◌*◌, ◌-◌, ◌/◌, ◌%◌, ◌^◌, ◌<◌, ◌≤◌, [], ◌∷◌, refl, ap, ◌∙◌, zero-lt-suc, arith}
 use Rattle.std.proofs.Math.Nat.{pow-succ', one-le-pow}
 use Rattle.io.specs.Digits.{last_digits, IsDigitCount, hex_digit_ascii}
 use Rattle.line.specs.Shown.{hex_byte}
-use Rattle.line.proofs.put_byte.Goals as goal
+use Rattle.line.proofs.Text.hex.Goals as goal
 
 two_digits : (n k : ℕ) → n < 256 → IsDigitCount 16 2 n k → k ≡ 2
 two_digits n zero h f = absurd (omega (arith, f.0))
@@ -28,9 +28,9 @@ returns-clause-put c =
     let d = c.hex-k in
     let few = two_digits _ _ (omega arith) d.ensures.len in
     let text = d.ensures.digits ∙ ap (λ (k : ℕ). last_digits 16 k c.from.result) few ∙ ap (last_digits 16 2) c.from.ensures ∙ last_two c.args.byte (omega arith) in
-    rw text at c.put.ensures
+    rw text at c.put.ensures.put
 
 pub returns-clause-upper_bound : goal.returns-clause-upper_bound
 returns-clause-upper_bound c =
     let d = c.hex-k in
-    omega (arith, c.put.ensures.end, d.ensures.in_bounds.1, two_digits _ _ (omega arith) d.ensures.len)
+    omega (arith, c.put.ensures.put.end, d.ensures.in_bounds.1, two_digits _ _ (omega arith) d.ensures.len)
