@@ -35,7 +35,8 @@ pub enum Simple {
     Yield,
 }
 
-// What joins two parts of either sort. A parallel has the number of its set of joint events, or `NO_SET`.
+// What joins two parts of either sort. A parallel has the number of its set of joint events, or `NO_SET`, as its kind has by the definition
+// `kinds` (specs/Kinds.antt).
 #[derive(Clone, Copy)]
 pub enum Operator {
     Sequence,
@@ -65,7 +66,7 @@ pub enum Node {
     Unknown,
 }
 
-// What is asked of a node's fields and children: whether there is such a kind, its sort, whether its first field is an event,
+// What is asked of a node's fields and children, of every node (`form`, specs/Kinds.antt): whether there is such a kind, its sort, whether its first field is an event,
 // how many children its fields name, and whether these are standard.
 #[derive(Clone, Copy)]
 pub struct Form {
@@ -107,7 +108,8 @@ pub const MOST_NODES: usize = 64;
 
 pub const MOST_RECORDS: usize = 256;
 
-// The refusals, by document 01's numbers. The public ones others give too: of a count in a flow file, and of room that is too short.
+// The refusals, by document 01's numbers: `Refusal` has the number that is printed and that theorems compare with the documents' figures, so an
+// enum would need a table of them beside it. The public ones others give too: of a count in a flow file, and of room that is too short.
 pub const NO_NODES: u16 = 1;
 
 const PART_OF_NODE: u16 = 2;

@@ -19,7 +19,7 @@ ghost use Rattle.matching.specs.Entries.{entry_place};
 ghost use Rattle.matching.specs.SectionTest.{is_whole};
 ghost use Rattle.matching.specs.Asks.{asks, takes_event, HeardMarks, AlsoMarked, has_step, ask_by};
 
-const MOST_EVENTS: u16 = 256;
+use flow::MOST_EVENTS;
 
 // Beside a closing, in place of another event: a number and no case, since a cue is one number by its definition (flow, Cues).
 const NO_EVENT: u16 = 65535;

@@ -68,7 +68,7 @@ pub fn judge_file(file: &[u8]) -> Answer
     }
 }
 
-// What the line tells of an answer.
+// What the line tells of an answer. No `From`: it would have to stand with one of the two types, and neither crate knows the other.
 pub fn line_for(answer: Answer) -> Line
     ensures { AnswerTold answer result }
 {

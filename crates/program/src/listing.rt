@@ -15,9 +15,6 @@ ghost use Rattle.program.specs.NextFile.{Showable, ListShowable};
 use judge::Answer;
 use line::Text;
 
-// The highest event.
-const MOST_EVENTS: u16 = 256;
-
 // The program's line for an answer.
 pub fn put_answer(answer: Answer, out: &mut [u8; 90000]) -> usize
     ensures put { Put (line_of (line_for answer)) out.old 0 out.new result }
@@ -67,7 +64,7 @@ fn put_meaning(names: &[u8], number: u16, text: &mut Text)
     ensures same_room { SameRoom text.old text.new }
     ensures upper_bound { text.new.end ≤ text.old.end + 321 }
 {
-    if number <= MOST_EVENTS {
+    if number <= flow::MOST_EVENTS {
         put_entry(names, matching::behind_entries(names, number - 1), text);
         return;
     }

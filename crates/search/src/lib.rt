@@ -32,7 +32,8 @@ pub struct Trip {
     pub left: u32,
 }
 
-// An ask whose record can follow. No cue is as low, and neither is 0, which asks nothing.
+// An ask whose record can follow. No cue is as low, and neither is 0, which asks nothing: numbers among cues, as `answered` and `Asking`
+// (specs/Searches.antt) have them.
 pub const FOLLOWS: u64 = 1;
 
 // The closing of a record's cue.

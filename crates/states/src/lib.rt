@@ -18,7 +18,7 @@ pub enum Sense {
     Undoing,
 }
 
-// What a part is live as: a standard part, or a compensable one that runs.
+// What a part is live as: a standard part, or a compensable one that runs, which is a role and no absence of one.
 #[derive(Clone, Copy)]
 pub enum Role {
     Plain(Sense),
@@ -78,7 +78,8 @@ pub struct Moving<'a> {
     pub c: [u32; 64],
 }
 
-// The modes of a node, by what it is. All parts of a flow that is drawn have the first.
+// The modes of a node, by what it is: bytes and no enum, since a state lies in the caller's work bytes (01). All parts of a flow that is drawn
+// have the first.
 pub const AS_DRAWN: u8 = 0;
 
 // An event has been taken.
