@@ -532,6 +532,7 @@ fn search_twice(
 }
 
 // Whether all runs were searched and none found the end.
+#[tactic(auto, unfolding(crate::specs::Searches::went_through, crate::specs::Visits::out_of))]
 fn went_through(out: Option<Trip>) -> bool
     ensures { result ≡ went_through (out_of out) }
 {
