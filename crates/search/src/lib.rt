@@ -32,8 +32,8 @@ pub struct Trip {
     pub left: u32,
 }
 
-// An ask whose record can follow. No cue is as low, and neither is 0, which asks nothing: numbers among cues, as `answered` and `Asking`
-// (specs/Searches.antt) have them.
+// An ask whose record can follow. No cue is as low, and neither is 0, which asks nothing. Asks are numbers beside cues, and no type of
+// their own: the definitions `answered` and `Asking` name them so.
 pub const FOLLOWS: u64 = 1;
 
 // The closing of a record's cue.
@@ -274,23 +274,20 @@ fn keep(out: Option<Trip>, left: u32, slots: &mut [Slot], pair: usize, state: &[
     requires left_within { LeftWithin left out }
     ensures { KeptOut (length state.now) key state.now left (out_of out) slots.old slots.new }
 {
-    if let Some(
-        Trip {
-            found: false,
-            far,
-            left: rest,
-        },
-    ) = out
-    {
+    let Some(trip) = out else {
+        return;
+    };
+    if !trip.found {
         let seen = Sight {
-            entered: left - rest,
-            reached: far,
+            entered: left - trip.left,
+            reached: trip.far,
         };
         memory::remember(slots, pair, state, key, seen);
     }
 }
 
-// Into this state, unless it is remembered, and on from it.
+// Into this state, unless it is remembered, and on from it. On the way down each argument but the table changes or is lent anew: a struct
+// of them would be built again at each call.
 #[cycle(visiting)]
 fn visit(
     ns: &[u16],
@@ -476,7 +473,7 @@ pub fn room_wanted(nodes: usize, records: usize) -> usize
 // A search of so many states at most goes without a memory: to clear one costs about as much.
 const FEW_STATES: u32 = 32;
 
-// With a memory.
+// With a memory, in a frame of its own.
 fn long_search(
     ns: &[u16],
     cues: &[u64],
@@ -527,6 +524,7 @@ fn search_twice(
 }
 
 // Whether all runs were searched and none found the end.
+#[tactic(auto, unfolding(crate::specs::Searches::went_through, crate::specs::Visits::out_of))]
 fn went_through(out: Option<Trip>) -> bool
     ensures { result ≡ went_through (out_of out) }
 {
@@ -562,6 +560,5 @@ pub fn search(ns: &[u16], cues: &[u64], work: &mut [u8], allowance: u32) -> Opti
     requires { SearchReady ns.now cues.now work.old }
     ensures { Searched ns.now cues.now allowance work.old result work.new }
 {
-    let mut none = [0u64; 1];
-    ask(ns, cues, work, &mut none[..0], allowance)
+    ask(ns, cues, work, &mut [], allowance)
 }
