@@ -22,8 +22,8 @@ use ahead::answer::Next;
 use flow::Refusal;
 use judge::{Answer, Reach};
 use line::{Line, VerdictWord};
-use writer::Size;
 use tables::Tables;
+use writer::Size;
 
 // "allows 1,000,000 states"
 const ALLOWANCE: u32 = 1000000;
