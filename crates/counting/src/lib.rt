@@ -13,7 +13,7 @@ ghost use Rattle.states.specs.Clauses.{Spot, Sets, scene, Counted};
 ghost use Rattle.counting.specs.Wholes.{by_simple, by_operator};
 
 use flow::{Operator, Simple};
-use states::{Course, Sense, Standing};
+use states::{Course, Noted, Sense, Standing};
 use tallies::{Known, Tally, View, Word};
 
 // A count is written, through a slice, which knows its length.
@@ -55,14 +55,14 @@ fn keep(d: &mut [u32; 576], i: usize, x: Word)
 }
 
 // Both, and what is seen is answered.
-fn note_word(c: &mut [u32; 64], d: &mut [u32; 576], i: usize, v: Word) -> Word
+fn note_word(noted: &mut Noted, i: usize, v: Word) -> Word
     requires { i < 64 }
     ensures value { result ≡ v }
-    ensures noted { Sets c.old i v.moves c.new }
-    ensures kept { Written d.old i v d.new }
+    ensures noted { Sets noted.old.c i v.moves noted.new.c }
+    ensures kept { Written noted.old.d i v noted.new.d }
 {
-    put_count(c, i, v.moves);
-    keep(d, i, v);
+    put_count(&mut noted.c, i, v.moves);
+    keep(&mut noted.d, i, v);
     v
 }
 
@@ -114,38 +114,30 @@ fn both<K: Known>(cue: u64, operator: Operator, p: K, q: K) -> K
 
 // What node i can do as a standard part. A part that is live in place of another is counted where it stands, without a call.
 #[cycle(counting)]
-pub fn count_std(
-    ns: &[u16],
-    t: &[u8],
-    a: u64,
-    c: &mut [u32; 64],
-    d: &mut [u32; 576],
-    i: usize,
-    sense: Sense,
-) -> View
+pub fn count_std(ns: &[u16], t: &[u8], a: u64, noted: &mut Noted, i: usize, sense: Sense) -> View
     requires { Spot ns.now t.now i }
-    ensures { Counted (scene ns.now t.now a) (Plain sense) i (notes c.old d.old) (notes c.new d.new) result }
+    ensures { Counted (scene ns.now t.now a) (Plain sense) i (notes noted.old.c noted.old.d) (notes noted.new.c noted.new.d) result }
 {
     let mut here = i;
     let mut live = sense;
     loop {
         let stands = states::stand_at(ns, t, here, live);
         match stands {
-            Standing::Event(event) => return note(c, i, event_view(a, event)),
-            Standing::Basic(simple) => return note(c, i, basic(simple)),
+            Standing::Event(event) => return note(&mut noted.c, i, event_view(a, event)),
+            Standing::Basic(simple) => return note(&mut noted.c, i, basic(simple)),
             Standing::Both(operator, two) => {
-                let p = count_std(ns, t, a, c, d, two.first, live);
-                let q = count_std(ns, t, a, c, d, two.second, live);
-                return note(c, i, both(a, operator, p, q));
+                let p = count_std(ns, t, a, noted, two.first, live);
+                let q = count_std(ns, t, a, noted, two.second, live);
+                return note(&mut noted.c, i, both(a, operator, p, q));
             }
             Standing::Handler(two) => {
-                let p = count_std(ns, t, a, c, d, two.first, live);
-                let q = count_std(ns, t, a, c, d, two.second, live);
-                return note(c, i, View::handler(p, q));
+                let p = count_std(ns, t, a, noted, two.first, live);
+                let q = count_std(ns, t, a, noted, two.second, live);
+                return note(&mut noted.c, i, View::handler(p, q));
             }
             Standing::Block(child) => {
-                let w = count_run(ns, t, a, c, d, child);
-                return note(c, i, View::block(w));
+                let w = count_run(ns, t, a, noted, child);
+                return note(&mut noted.c, i, View::block(w));
             }
             Standing::As(sub) => {
                 here = sub.node;
@@ -157,43 +149,36 @@ pub fn count_std(
 
 // What node i can do as a part that runs.
 #[cycle(counting)]
-pub fn count_run(
-    ns: &[u16],
-    t: &[u8],
-    a: u64,
-    c: &mut [u32; 64],
-    d: &mut [u32; 576],
-    i: usize,
-) -> Word
+pub fn count_run(ns: &[u16], t: &[u8], a: u64, noted: &mut Noted, i: usize) -> Word
     requires { Spot ns.now t.now i }
-    ensures { Counted (scene ns.now t.now a) Running i (notes c.old d.old) (notes c.new d.new) result }
+    ensures { Counted (scene ns.now t.now a) Running i (notes noted.old.c noted.old.d) (notes noted.new.c noted.new.d) result }
 {
     let runs = states::course_at(ns, t, i);
     match runs {
-        Course::Basic(simple) => note_word(c, d, i, basic(simple)),
+        Course::Basic(simple) => note_word(noted, i, basic(simple)),
         Course::Pair(two) => {
-            let p = count_std(ns, t, a, c, d, two.first, Sense::Drawn);
+            let p = count_std(ns, t, a, noted, two.first, Sense::Drawn);
             if !p.done {
                 // the second part is looked at only where the first can end done
-                return note_word(c, d, i, Word::pair(p, View::skip()));
+                return note_word(noted, i, Word::pair(p, View::skip()));
             }
-            let q = count_std(ns, t, a, c, d, two.second, Sense::Drawn);
-            note_word(c, d, i, Word::pair(p, q))
+            let q = count_std(ns, t, a, noted, two.second, Sense::Drawn);
+            note_word(noted, i, Word::pair(p, q))
         }
         Course::Both(operator, two) => {
-            let p = count_run(ns, t, a, c, d, two.first);
-            let q = count_run(ns, t, a, c, d, two.second);
-            note_word(c, d, i, both(a, operator, p, q))
+            let p = count_run(ns, t, a, noted, two.first);
+            let q = count_run(ns, t, a, noted, two.second);
+            note_word(noted, i, both(a, operator, p, q))
         }
         Course::Held(two) => {
-            let k = count_std(ns, t, a, c, d, two.first, Sense::Undoing);
-            note_held(d, two.first, k);
-            let q = count_run(ns, t, a, c, d, two.second);
-            note_word(c, d, i, q.held(k))
+            let k = count_std(ns, t, a, noted, two.first, Sense::Undoing);
+            note_held(&mut noted.d, two.first, k);
+            let q = count_run(ns, t, a, noted, two.second);
+            note_word(noted, i, q.held(k))
         }
         Course::As(child) => {
-            let w = count_run(ns, t, a, c, d, child);
-            note_word(c, d, i, w)
+            let w = count_run(ns, t, a, noted, child);
+            note_word(noted, i, w)
         }
     }
 }

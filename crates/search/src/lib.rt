@@ -20,7 +20,7 @@ ghost use Rattle.search.specs.Searches.{role_of, LeftWithin, SearchReady, Search
 ghost use Rattle.search.specs.Visits.{state, role_next, out_of, closing_of, ends_by, onward, VisitReady, Asking, key_of, saw_none, Truthful, KeptOut, quest, Began, Visited, Tried, Followed, Inner, ends, RightCounts, successor_count, SuccessorsCounted, Applied};
 
 use memory::{Sight, Slot};
-use states::{Basis, Moving, Role, Sense};
+use states::{Basis, Moving, Noted, Role, Sense};
 use tallies::{Closing, View, Weight};
 
 // What a search brings back, unless its allowance is used up: whether it found the end, how many records at most it followed, and what is
@@ -68,27 +68,20 @@ fn root_of(ns: &[u16]) -> usize
 
 // How many successors a state has by a record that does not end the search. What is known of its parts is left in c and d, for all of
 // them to be found by.
-fn successors(
-    ns: &[u16],
-    t: &[u8],
-    cue: u64,
-    c: &mut [u32; 64],
-    d: &mut [u32; 576],
-    role: Role,
-) -> u32
+fn successors(ns: &[u16], t: &[u8], cue: u64, noted: &mut Noted, role: Role) -> u32
     requires spot { Spot ns.now t.now (root ns.now) }
     requires in_bounds { (3 ≤ length ns.now) × Inner role cue }
-    requires d_len { length d.old ≡ 576 }
-    ensures { SuccessorsCounted ns.now role cue t.now c.new d.new result }
+    requires d_len { length noted.old.d ≡ 576 }
+    ensures { SuccessorsCounted ns.now role cue t.now noted.new.c noted.new.d result }
 {
     let i = root_of(ns);
     match role {
         Role::Plain(sense) => {
-            let v = counting::count_std(ns, t, cue, c, d, i, sense);
+            let v = counting::count_std(ns, t, cue, noted, i, sense);
             v.moves
         }
         Role::Running => {
-            let w = counting::count_run(ns, t, cue, c, d, i);
+            let w = counting::count_run(ns, t, cue, noted, i);
             if cue < flow::DONE_CUE {
                 w.moves
             } else {
@@ -100,16 +93,20 @@ fn successors(
 }
 
 // The modes become those of the k-th successor.
-fn apply(ns: &[u16], t: &mut [u8], cue: u64, c: &[u32; 64], d: &[u32], role: Role, k: u32)
+fn apply(ns: &[u16], t: &mut [u8], cue: u64, noted: &Noted, role: Role, k: u32)
     requires spot { Spot ns.now t.old (root ns.now) }
     requires in_bounds { (3 ≤ length ns.now) × Inner role cue }
-    requires right_counts { RightCounts ns.now role cue t.old c.now d.now }
+    requires right_counts { RightCounts ns.now role cue t.old noted.now.c noted.now.d }
     requires k_bound { k < successor_count ns.now role cue t.old }
     ensures { Applied ns.now role cue t.old k t.new }
 {
     let i = root_of(ns);
-    let by = Basis { ns, a: cue, d };
-    let mut s = Moving { t, c: *c };
+    let by = Basis {
+        ns,
+        a: cue,
+        d: &noted.d,
+    };
+    let mut s = Moving { t, c: noted.c };
     match role {
         Role::Plain(sense) => steps::step_std(&by, &mut s, i, sense, k),
         Role::Running => {
@@ -150,11 +147,10 @@ fn can_end(ns: &[u16], t: &[u8], cue: u64, role: Role) -> bool
     ensures { next (state ns.now role t.now) (cue_record cue) ≡ only result (over ∷ []) }
 {
     let i = root_of(ns);
-    let mut c = [0u32; 64];
-    let mut d = [0u32; 576];
+    let mut noted = states::NOTHING_NOTED;
     match role {
         Role::Plain(sense) => {
-            let v = counting::count_std(ns, t, cue, &mut c, &mut d, i, sense);
+            let v = counting::count_std(ns, t, cue, &mut noted, i, sense);
             ends_by(v, cue)
         }
         Role::Running => false,
@@ -194,9 +190,8 @@ fn follows(ns: &[u16], t: &[u8], cue: u64, role: Role) -> bool
     if ends(role, cue) {
         return can_end(ns, t, cue, role);
     }
-    let mut c = [0u32; 64];
-    let mut d = [0u32; 576];
-    successors(ns, t, cue, &mut c, &mut d, role) > 0
+    let mut noted = states::NOTHING_NOTED;
+    successors(ns, t, cue, &mut noted, role) > 0
 }
 
 // An ask whose record can follow in this state is answered; others stay.
@@ -369,10 +364,9 @@ fn visit_each(
     requires not_an_ending { ends role (get_or cues.now 0 0) ≡ false }
     ensures { Tried (quest ns.now cues.now work.old role asks.old left slots.old) work.new asks.new slots.new result }
 {
-    let mut c = [0u32; 64];
-    let mut d = [0u32; 576];
-    let many = successors(ns, work, cues[0], &mut c, &mut d, role);
-    try_each(ns, cues, work, role, asks, left, slots, &c, &d, many)
+    let mut noted = states::NOTHING_NOTED;
+    let many = successors(ns, work, cues[0], &mut noted, role);
+    try_each(ns, cues, work, role, asks, left, slots, &noted, many)
 }
 
 // The successors one after the other, until one finds the end.
@@ -385,22 +379,21 @@ fn try_each(
     asks: &mut [u64],
     left: u32,
     slots: &mut [Slot],
-    c: &[u32; 64],
-    d: &[u32],
+    noted: &Noted,
     many: u32,
 ) -> Option<Trip>
     requires visit_ready { VisitReady ns.now cues.now work.old role }
     requires truthful { Truthful ns.now cues.now asks.old slots.old }
     requires in_bounds { (1 ≤ length cues.now) × (left < most) }
     requires not_an_ending { ends role (get_or cues.now 0 0) ≡ false }
-    requires right_counts { RightCounts ns.now role (get_or cues.now 0 0) work.old c.now d.now }
+    requires right_counts { RightCounts ns.now role (get_or cues.now 0 0) work.old noted.now.c noted.now.d }
     requires many_is { many ≡ successor_count ns.now role (get_or cues.now 0 0) work.old }
     ensures { Tried (quest ns.now cues.now work.old role asks.old left slots.old) work.new asks.new slots.new result }
 {
     let mut far = 0;
     let mut rest = left;
     for k in 0..many {
-        let trip = follow(ns, cues, c, d, work, role, asks, k, rest, slots)?;
+        let trip = follow(ns, cues, noted, work, role, asks, k, rest, slots)?;
         // the record into the successor counts too
         far = far.max(trip.far + 1);
         rest = trip.left;
@@ -424,8 +417,7 @@ fn try_each(
 fn follow(
     ns: &[u16],
     cues: &[u64],
-    c: &[u32; 64],
-    d: &[u32],
+    noted: &Noted,
     work: &mut [u8],
     role: Role,
     asks: &mut [u64],
@@ -437,14 +429,14 @@ fn follow(
     requires truthful { Truthful ns.now cues.now asks.old slots.old }
     requires in_bounds { 1 ≤ length cues.now }
     requires not_an_ending { ends role (get_or cues.now 0 0) ≡ false }
-    requires right_counts { RightCounts ns.now role (get_or cues.now 0 0) work.old c.now d.now }
+    requires right_counts { RightCounts ns.now role (get_or cues.now 0 0) work.old noted.now.c noted.now.d }
     requires k_bound { k < successor_count ns.now role (get_or cues.now 0 0) work.old }
     ensures { Followed (quest ns.now cues.now work.old role asks.old left slots.old) work.new asks.new slots.new result k }
 {
     let n = ns.len() / 3;
     let w = 2 * n;
     work.copy_within(..n, w);
-    apply(ns, &mut work[w..], cues[0], c, d, role, k);
+    apply(ns, &mut work[w..], cues[0], noted, role, k);
     let after = role_after(role, cues[0]);
     visit(ns, &cues[1..], &mut work[w..], after, asks, left, slots)
 }

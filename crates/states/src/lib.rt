@@ -63,6 +63,18 @@ pub struct Picked {
     pub able: bool,
 }
 
+// What is counted of the parts of a state: a number of steps a node, and of those that run nine numbers a node.
+#[derive(Clone, Copy)]
+pub struct Noted {
+    pub c: [u32; 64],
+    pub d: [u32; 576],
+}
+
+pub const NOTHING_NOTED: Noted = Noted {
+    c: [0; 64],
+    d: [0; 576],
+};
+
 // What a choice or a step goes by: the table, the cue of the record, and what was counted of the parts that run.
 #[derive(Clone, Copy)]
 pub struct Basis<'a> {

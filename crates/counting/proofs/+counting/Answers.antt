@@ -2,7 +2,8 @@
 -- number being lower (`std_below`, `run_below`), and each return is a lemma of CountLaws, given what the code has learnt on its way
 -- there. The loop's invariant: the node that it has come to is live in place of the one that was asked for (StandIn), and nothing is
 -- counted yet. Assumes nothing.
-use mathlib.Core.Path.{refl, sym, ◌∙◌}
+use mathlib.Core.Path.{ap, refl, sym, ◌∙◌}
+use Rattle.states.specs.declared.Noted.{Noted}
 use native.Mathlib.Omega.{arith}
 use borrow.Author.Tests.{not-true}
 use Rattle.states.specs.ChildLaws.{lower_spot}
@@ -96,13 +97,13 @@ count_run-returns-in-As t c = runs_as_counted c.requires c.args.a (sym c.course_
 
 -- src/lib.rt:92:5
 pub count_std-loop-event-init : goal.count_std-loop-event-init
-count_std-loop-event-init t c = (refl, (refl, stand_in_self c.requires c.args.a))
+count_std-loop-event-init t c = (refl, stand_in_self c.requires c.args.a)
 
 -- src/lib.rt:93:13
 pub count_std-stand_at-stands-requires : goal.count_std-stand_at-stands-requires
 count_std-stand_at-stands-requires t c =
     let spot = c.requires in
-    still_spot spot c.args.a c.loop-event.invariant.1.1
+    still_spot spot c.args.a c.loop-event.invariant.1
 
 -- src/lib.rt:95:39
 pub count_std-note-requires : goal.count_std-note-requires
@@ -113,7 +114,7 @@ pub count_std-returns-in-Event : goal.count_std-returns-in-Event
 count_std-returns-in-Event t c =
     let loop = c.loop-event in
     let stands = sym c.stand_at-stands.ensures ∙ c.in-Event.is in
-    begun loop.invariant.0 loop.invariant.1.0 (event_counted c.requires c.args.a loop.invariant.1.1 stands c.event_view.ensures (c.note.ensures.value, c.note.ensures.noted))
+    begun (ap (λ (n : Noted). n.c) loop.invariant.0) (ap (λ (n : Noted). n.d) loop.invariant.0) (event_counted c.requires c.args.a loop.invariant.1 stands c.event_view.ensures (c.note.ensures.value, c.note.ensures.noted))
 
 -- src/lib.rt:96:40
 pub count_std-note-requires-in-Basic : goal.count_std-note-requires-in-Basic
@@ -124,12 +125,12 @@ pub count_std-returns-in-Basic : goal.count_std-returns-in-Basic
 count_std-returns-in-Basic t c =
     let loop = c.loop-event in
     let stands = sym c.stand_at-stands.ensures ∙ c.in-Basic.is in
-    begun loop.invariant.0 loop.invariant.1.0 (basic_counted c.requires c.args.a loop.invariant.1.1 stands c.basic.ensures (c.note-in-Basic.ensures.value, c.note-in-Basic.ensures.noted))
+    begun (ap (λ (n : Noted). n.c) loop.invariant.0) (ap (λ (n : Noted). n.d) loop.invariant.0) (basic_counted c.requires c.args.a loop.invariant.1 stands c.basic.ensures (c.note-in-Basic.ensures.value, c.note-in-Basic.ensures.noted))
 
 -- src/lib.rt:98:21
 pub count_std-count_std-p-requires : goal.count_std-count_std-p-requires
 count_std-count_std-p-requires t c =
-    let stand_in = c.loop-event.invariant.1.1 in
+    let stand_in = c.loop-event.invariant.1 in
     let low = (std_below c.requires c.args.a stand_in c.stand_at-stands.ensures c.in-Both.is).0 in
     let top = stand_in_low c.requires c.args.a stand_in in
     (omega (arith, c.decreases, low, top), lower_spot c.requires (omega (arith, low, top)))
@@ -137,7 +138,7 @@ count_std-count_std-p-requires t c =
 -- src/lib.rt:99:21
 pub count_std-count_std-q-requires : goal.count_std-count_std-q-requires
 count_std-count_std-q-requires t c =
-    let stand_in = c.loop-event.invariant.1.1 in
+    let stand_in = c.loop-event.invariant.1 in
     let low = (std_below c.requires c.args.a stand_in c.stand_at-stands.ensures c.in-Both.is).1 in
     let top = stand_in_low c.requires c.args.a stand_in in
     (omega (arith, c.decreases, low, top), lower_spot c.requires (omega (arith, low, top)))
@@ -151,12 +152,12 @@ pub count_std-returns-in-Both : goal.count_std-returns-in-Both
 count_std-returns-in-Both t c =
     let loop = c.loop-event in
     let stands = sym c.stand_at-stands.ensures ∙ c.in-Both.is in
-    begun loop.invariant.0 loop.invariant.1.0 (both_counted c.requires c.args.a loop.invariant.1.1 stands c.count_std-p.ensures c.count_std-q.ensures c.both.ensures (c.note-in-Both.ensures.value, c.note-in-Both.ensures.noted))
+    begun (ap (λ (n : Noted). n.c) loop.invariant.0) (ap (λ (n : Noted). n.d) loop.invariant.0) (both_counted c.requires c.args.a loop.invariant.1 stands c.count_std-p.ensures c.count_std-q.ensures c.both.ensures (c.note-in-Both.ensures.value, c.note-in-Both.ensures.noted))
 
 -- src/lib.rt:103:21
 pub count_std-count_std-p-requires-in-Handler : goal.count_std-count_std-p-requires-in-Handler
 count_std-count_std-p-requires-in-Handler t c =
-    let stand_in = c.loop-event.invariant.1.1 in
+    let stand_in = c.loop-event.invariant.1 in
     let low = (std_below c.requires c.args.a stand_in c.stand_at-stands.ensures c.in-Handler.is).0 in
     let top = stand_in_low c.requires c.args.a stand_in in
     (omega (arith, c.decreases, low, top), lower_spot c.requires (omega (arith, low, top)))
@@ -164,7 +165,7 @@ count_std-count_std-p-requires-in-Handler t c =
 -- src/lib.rt:104:21
 pub count_std-count_std-q-requires-in-Handler : goal.count_std-count_std-q-requires-in-Handler
 count_std-count_std-q-requires-in-Handler t c =
-    let stand_in = c.loop-event.invariant.1.1 in
+    let stand_in = c.loop-event.invariant.1 in
     let low = (std_below c.requires c.args.a stand_in c.stand_at-stands.ensures c.in-Handler.is).1 in
     let top = stand_in_low c.requires c.args.a stand_in in
     (omega (arith, c.decreases, low, top), lower_spot c.requires (omega (arith, low, top)))
@@ -178,12 +179,12 @@ pub count_std-returns-in-Handler : goal.count_std-returns-in-Handler
 count_std-returns-in-Handler t c =
     let loop = c.loop-event in
     let stands = sym c.stand_at-stands.ensures ∙ c.in-Handler.is in
-    begun loop.invariant.0 loop.invariant.1.0 (handler_counted c.requires c.args.a loop.invariant.1.1 stands c.count_std-p-in-Handler.ensures c.count_std-q-in-Handler.ensures c.handler.ensures (c.note-in-Handler.ensures.value, c.note-in-Handler.ensures.noted))
+    begun (ap (λ (n : Noted). n.c) loop.invariant.0) (ap (λ (n : Noted). n.d) loop.invariant.0) (handler_counted c.requires c.args.a loop.invariant.1 stands c.count_std-p-in-Handler.ensures c.count_std-q-in-Handler.ensures c.handler.ensures (c.note-in-Handler.ensures.value, c.note-in-Handler.ensures.noted))
 
 -- src/lib.rt:108:21
 pub count_std-count_run-w-requires : goal.count_std-count_run-w-requires
 count_std-count_run-w-requires t c =
-    let stand_in = c.loop-event.invariant.1.1 in
+    let stand_in = c.loop-event.invariant.1 in
     let low = std_below c.requires c.args.a stand_in c.stand_at-stands.ensures c.in-Block.is in
     let top = stand_in_low c.requires c.args.a stand_in in
     (omega (arith, c.decreases, low, top), lower_spot c.requires (omega (arith, low, top)))
@@ -197,14 +198,14 @@ pub count_std-returns-in-Block : goal.count_std-returns-in-Block
 count_std-returns-in-Block t c =
     let loop = c.loop-event in
     let stands = sym c.stand_at-stands.ensures ∙ c.in-Block.is in
-    begun loop.invariant.0 loop.invariant.1.0 (block_counted c.requires c.args.a loop.invariant.1.1 stands c.count_run-w.ensures c.block.ensures (c.note-in-Block.ensures.value, c.note-in-Block.ensures.noted))
+    begun (ap (λ (n : Noted). n.c) loop.invariant.0) (ap (λ (n : Noted). n.d) loop.invariant.0) (block_counted c.requires c.args.a loop.invariant.1 stands c.count_run-w.ensures c.block.ensures (c.note-in-Block.ensures.value, c.note-in-Block.ensures.noted))
 
 -- src/lib.rt:92:5
 pub count_std-loop-event-smaller : goal.count_std-loop-event-smaller
-count_std-loop-event-smaller t c = std_below c.requires c.args.a c.loop-event.invariant.1.1 c.stand_at-stands.ensures c.in-As.is
+count_std-loop-event-smaller t c = std_below c.requires c.args.a c.loop-event.invariant.1 c.stand_at-stands.ensures c.in-As.is
 
 -- src/lib.rt:92:5
 pub count_std-loop-event-preserved : goal.count_std-loop-event-preserved
 count_std-loop-event-preserved t c =
     let loop = c.loop-event in
-    (loop.invariant.0, (loop.invariant.1.0, stands_for c.requires c.args.a loop.invariant.1.1 (sym c.stand_at-stands.ensures ∙ c.in-As.is)))
+    (loop.invariant.0, stands_for c.requires c.args.a loop.invariant.1 (sym c.stand_at-stands.ensures ∙ c.in-As.is))

@@ -10,7 +10,7 @@ abbrev pub decreases-count_std : goal.decreases-count_std
 decreases-count_std l = l.i
 
 abbrev pub invariant-count_std-loop-event : goal.invariant-count_std-loop-event
-invariant-count_std-loop-event l = (l.c ≡ l.initial.c) × ((l.d ≡ l.initial.d) × StandIn (scene l.ns l.t l.a) l.initial.live l.i l.live l.here)
+invariant-count_std-loop-event l = (l.noted ≡ l.initial.noted) × StandIn (scene l.ns l.t l.a) l.initial.live l.i l.live l.here
 
 abbrev pub decreases-count_std-loop-event : goal.decreases-count_std-loop-event
 decreases-count_std-loop-event l = l.here

@@ -97,7 +97,7 @@ follow-bounds-cues-0 t c =
 
 pub follow-apply-requires : goal.follow-apply-requires
 follow-apply-requires t c =
-    let whole = apply_asked c.requires.visit_ready c.requires.in_bounds c.copy_within.new.self (copied c.args.work.now c.copy_within.new.self (count c.args.ns.now) c.copy_within.ensures.after) c.requires.not_an_ending c.args.c.now c.args.d.now c.args.k c.requires.right_counts c.requires.k_bound in record {
+    let whole = apply_asked c.requires.visit_ready c.requires.in_bounds c.copy_within.new.self (copied c.args.work.now c.copy_within.new.self (count c.args.ns.now) c.copy_within.ensures.after) c.requires.not_an_ending c.args.noted.now.c c.args.noted.now.d c.args.k c.requires.right_counts c.requires.k_bound in record {
       spot = whole.0;
       in_bounds = whole.1.0;
       right_counts = whole.1.1.0;
@@ -169,7 +169,7 @@ try_each-follow-requires t c =
             (
               c.requires.not_an_ending,
               (
-                right_still c.requires.visit_ready c.loop-k.work v.used (get_or a.cues.now 0 0) a.c.now a.d.now c.requires.right_counts,
+                right_still c.requires.visit_ready c.loop-k.work v.used (get_or a.cues.now 0 0) a.noted.now.c a.noted.now.d c.requires.right_counts,
                 count_still c.requires.visit_ready c.loop-k.work v.used c.loop-k.k (get_or a.cues.now 0 0) a.many c.loop-k-test.true c.requires.many_is,
               ),
             ),
@@ -287,9 +287,6 @@ visit_each-successors-many-requires t c =
       in_bounds = (c.requires.visit_ready.some, first_inner a.role (get_or a.cues.now 0 0) (first_low c.requires.visit_ready c.requires.in_bounds.0) c.requires.not_an_ending);
       d_len = refl;
     }
-
-pub visit_each-slice_bounds-try_each-end : goal.visit_each-slice_bounds-try_each-end
-visit_each-slice_bounds-try_each-end t c = sym c.successors-many.ensures.right.long
 
 pub visit_each-try_each-requires : goal.visit_each-try_each-requires
 visit_each-try_each-requires t c =
