@@ -2,10 +2,9 @@
 // count, with single spaces, and one line feed (specs/Line.antt); bytes in hexadecimal, and names as they are shown (specs/Shown.antt).
 #![tactic(auto)]
 
-ghost use Rattle.std.specs.Prelude.{◌≡◌, ◌+◌, ◌*◌, ◌≤◌, ◌<◌, length};
+ghost use Rattle.std.specs.Prelude.{◌≡◌, ◌+◌, ◌*◌, ◌≤◌, length};
 ghost use Rattle.io.specs.Counts.{IsPrefixLen};
-ghost use Rattle.io.specs.Digits.{hex_digit_ascii};
-ghost use Rattle.line.specs.Line.{spelled, decimal, spaced, text_of, line_of, Put, LineWritten};
+ghost use Rattle.line.specs.Line.{spelled, decimal, spaced, text_of, line_of, LineWritten};
 ghost use Rattle.line.specs.Room.{HasRoom, Puts, SameRoom};
 ghost use Rattle.line.specs.Shown.{hex_byte, is_text, shown_byte, shown};
 
