@@ -2,13 +2,16 @@
 // node takes its own event; `judge_named` is lent a names section too, and a node without a machine takes a record of any.
 #![tactic(auto)]
 
-ghost use Rattle.std.specs.Prelude.{◌≡◌, ◌≤◌, length};
+ghost use Rattle.std.specs.Prelude.{◌≡◌, ◌≤◌, map, length};
+ghost use Rattle.flow.specs.Cues.{cue_of, masked};
+ghost use Rattle.flow.specs.Legends.{in_set};
 ghost use Rattle.search.specs.Visits.{out_of};
 ghost use Rattle.search.specs.Searches.{LeftWithin, SearchReady};
 ghost use Rattle.judge.specs.Judged.{judge_check, named_judge_check, Judged, NamedJudged};
 ghost use Rattle.judge.specs.Settled.{answer_to, room_check, Answered};
 
 use flow::{Extent, Refusal};
+use matching::{Named, Names, Unnamed};
 use search::Trip;
 
 // How far the records were followed, and how many states were entered.
@@ -91,13 +94,24 @@ fn check_named(
     check_room(nodes, records, room)
 }
 
-// The search by these cues, and its answer.
-fn answer_by(nodes: &[u16], cues: &[u64], work: &mut [u8], allowance: u32) -> Answer
-    requires { SearchReady nodes.now cues.now work.old }
-    ensures { Answered nodes.now cues.now allowance work.old result work.new }
+// The search by the records' cues, and its answer.
+fn answer_by<N: Names>(
+    names: &N,
+    nodes: &[u16],
+    records: &[u16],
+    sets: &[u8],
+    work: &mut [u8],
+    allowance: u32,
+) -> Answer
+    requires records_bound { length records.now ≤ 256 }
+    requires ready { SearchReady nodes.now (map (cue_of (masked (in_set sets.now)) (N.beside names.now)) records.now) work.old }
+    ensures { Answered nodes.now (map (cue_of (masked (in_set sets.now)) (N.beside names.now)) records.now) allowance work.old result work.new }
 {
-    let out = search::search(nodes, cues, work, allowance);
-    answer_of(out, cues.len(), allowance)
+    let mut cues = [0u64; 256];
+    matching::write_cues(names, records, sets, &mut cues);
+    let n = records.len();
+    let out = search::search(nodes, &cues[..n], work, allowance);
+    answer_of(out, n, allowance)
 }
 
 // Judges a record list against a flow, whose joint events are in the lent sets, if there are any: a refusal by the documents' numbers, or
@@ -108,10 +122,7 @@ pub fn judge(nodes: &[u16], records: &[u16], sets: &[u8], work: &mut [u8], allow
     if let Err(refusal) = check_all(nodes, records, sets, work.len()) {
         return Answer::Refused(refusal);
     }
-    let mut cues = [0u64; 256];
-    matching::write_cues(&matching::Unnamed, records, sets, &mut cues);
-    let n = records.len();
-    answer_by(nodes, &cues[..n], work, allowance)
+    answer_by(&Unnamed, nodes, records, sets, work, allowance)
 }
 
 // The same with a names section: a refusal by the numbers and in the order of the writer, 14 last, or the verdict of the search in which
@@ -129,13 +140,6 @@ pub fn judge_named(
     if let Err(refusal) = check_named(names, nodes, records, sets, work.len()) {
         return Answer::Refused(refusal);
     }
-    let mut cues = [0u64; 256];
-    matching::write_cues(
-        &matching::Named { section: names },
-        records,
-        sets,
-        &mut cues,
-    );
-    let n = records.len();
-    answer_by(nodes, &cues[..n], work, allowance)
+    let names = Named { section: names };
+    answer_by(&names, nodes, records, sets, work, allowance)
 }

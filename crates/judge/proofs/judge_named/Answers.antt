@@ -1,5 +1,5 @@
 -- `judge::judge_named` meets its contract: the check's refusal, or what the search by the cues gives. Assumes nothing.
-use mathlib.Core.Path.{sym, ◌∙◌}
+use mathlib.Core.Path.{refl, sym, ◌∙◌}
 use native.Mathlib.Omega.{arith}
 use lib.ListN.{length}
 use lib.Seq.{length-take-le}
@@ -11,7 +11,7 @@ use Rattle.matching.specs.Others.{other}
 use Rattle.matching.specs.SectionTest.{by_whole}
 use Rattle.judge.specs.Judged.{named_flow}
 use Rattle.judge.specs.JudgedLaws.{judge_refuses, named_passed, named_lists, records_few}
-use Rattle.judge.specs.ByCues.{cues_front, named_ready, named_judged}
+use Rattle.judge.specs.ByCues.{named_ready, named_judged}
 use Rattle.judge.proofs.judge_named.Goals as goal
 
 pub returns-in-Err : goal.returns-in-Err
@@ -19,32 +19,19 @@ returns-in-Err c =
     let a = c.args in
     judge_refuses (named_flow a.names.now a.sets.now a.nodes.now) a.nodes.now a.records.now a.allowance a.work.now _ (sym c.check_named.ensures ∙ c.in-Err.is)
 
-pub invariant_of-write_cues : goal.invariant_of-write_cues
-invariant_of-write_cues c =
+pub invariant_of-names : goal.invariant_of-names
+invariant_of-names c =
     let a = c.args in
     record { whole = by_whole a.names.now (named_lists a.sets.now a.nodes.now a.records.now (length a.work.now) a.names.now (sym c.check_named.ensures ∙ c.in_default.is)).section }
 
-pub write_cues-requires : goal.write_cues-requires
-write_cues-requires c =
-    let a = c.args in
-    records_few Whole a.nodes.now a.records.now (named_passed a.sets.now a.nodes.now a.records.now (length a.work.now) a.names.now (sym c.check_named.ensures ∙ c.in_default.is)).records
-
-pub slice_bounds-cues-end : goal.slice_bounds-cues-end
-slice_bounds-cues-end c =
-    let a = c.args in
-    omega (arith, c.write_cues.auto.cues, records_few Whole a.nodes.now a.records.now (named_passed a.sets.now a.nodes.now a.records.now (length a.work.now) a.names.now (sym c.check_named.ensures ∙ c.in_default.is)).records)
-
-pub slice_bounds-answer_by-end : goal.slice_bounds-answer_by-end
-slice_bounds-answer_by-end c =
-    let a = c.args in
-    sym (length-take-le (length a.records.now) c.write_cues.new.cues (omega (arith, c.write_cues.auto.cues, records_few Whole a.nodes.now a.records.now (named_passed a.sets.now a.nodes.now a.records.now (length a.work.now) a.names.now (sym c.check_named.ensures ∙ c.in_default.is)).records)))
-
 pub answer_by-requires : goal.answer_by-requires
 answer_by-requires c =
-    let a = c.args in
-    named_ready a.sets.now a.nodes.now a.records.now a.work.now a.names.now (sym c.check_named.ensures ∙ c.in_default.is) (cues_front (cue_of (masked (in_set a.sets.now)) (other (entries_in a.names.now))) a.records.now _ _ c.write_cues.ensures)
+    let a = c.args in record {
+      records_bound = records_few Whole a.nodes.now a.records.now (named_passed a.sets.now a.nodes.now a.records.now (length a.work.now) a.names.now (sym c.check_named.ensures ∙ c.in_default.is)).records;
+      ready = named_ready a.sets.now a.nodes.now a.records.now a.work.now a.names.now (sym c.check_named.ensures ∙ c.in_default.is) refl;
+    }
 
 pub returns : goal.returns
 returns c =
     let a = c.args in
-    named_judged a.sets.now a.nodes.now a.records.now a.work.now a.names.now (sym c.check_named.ensures ∙ c.in_default.is) (cues_front (cue_of (masked (in_set a.sets.now)) (other (entries_in a.names.now))) a.records.now _ _ c.write_cues.ensures) c.answer_by.ensures
+    named_judged a.sets.now a.nodes.now a.records.now a.work.now a.names.now (sym c.check_named.ensures ∙ c.in_default.is) refl c.answer_by.ensures
