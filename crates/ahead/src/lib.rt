@@ -4,7 +4,10 @@
 
 pub mod answer;
 
-ghost use Rattle.std.specs.Prelude.{◌≡◌, ◌≤◌, length};
+ghost use Rattle.std.specs.Prelude.{◌≡◌, ◌≤◌, length, map};
+ghost use Rattle.flow.specs.Cues.{cue_of, masked};
+ghost use Rattle.flow.specs.Legends.{in_set};
+ghost use Rattle.matching.specs.Asks.{asks};
 ghost use Rattle.flow.specs.Records.{all_numbers};
 ghost use Rattle.format.specs.Told.{at_front};
 ghost use Rattle.ahead.specs.Outcome.{next_check, named_next_check, NextOf, NamedNextOf};
@@ -12,6 +15,7 @@ ghost use Rattle.ahead.specs.Answering.{next_room_check, picked, NextReady, Next
 
 use answer::{Found, Next};
 use flow::{Extent, Refusal};
+use matching::{Named, Names, Unnamed};
 
 // 14, with so many numbers and so many work bytes lent.
 fn check_next_room(
@@ -107,6 +111,28 @@ fn next_by(
     }
 }
 
+// The search by the records' cues and the asks of all numbers, and its answer.
+fn answer_by<N: Names>(
+    names: &N,
+    nodes: &[u16],
+    beginning: &[u16],
+    sets: &[u8],
+    list: &mut [u16],
+    work: &mut [u8],
+    allowance: u32,
+) -> Next
+    requires beginning_bound { length beginning.now ≤ 256 }
+    requires ready { NextReady nodes.now (map (cue_of (masked (in_set sets.now)) (N.beside names.now)) beginning.now) (asks (masked (in_set sets.now)) (N.beside names.now) nodes.now) list.old work.old }
+    ensures { NextAnswered nodes.now (map (cue_of (masked (in_set sets.now)) (N.beside names.now)) beginning.now) (asks (masked (in_set sets.now)) (N.beside names.now) nodes.now) allowance list.old work.old result list.new work.new }
+{
+    let mut cues = [0u64; 256];
+    matching::write_cues(names, beginning, sets, &mut cues);
+    let mut asks = [0u64; 259];
+    matching::write_asks(names, nodes, sets, &mut asks);
+    let n = beginning.len();
+    next_by(nodes, &cues[..n], &mut asks, list, work, allowance)
+}
+
 // Lists what can follow a beginning: a refusal by document 01's numbers, or the numbers of all events and closings that some run goes on by.
 // Of the list the numbers behind stay, and all if it is refused or undecided; the work bytes are left as by the judge.
 pub fn next(
@@ -122,12 +148,7 @@ pub fn next(
     if let Err(refusal) = check_next(nodes, beginning, sets, list.len(), work.len()) {
         return Next::Refused(refusal);
     }
-    let mut cues = [0u64; 256];
-    matching::write_cues(&matching::Unnamed, beginning, sets, &mut cues);
-    let mut asks = [0u64; 259];
-    matching::write_asks(&matching::Unnamed, nodes, sets, &mut asks);
-    let n = beginning.len();
-    next_by(nodes, &cues[..n], &mut asks, list, work, allowance)
+    answer_by(&Unnamed, nodes, beginning, sets, list, work, allowance)
 }
 
 // The same with a names section: a refusal by the numbers and in the order of the writer, without 10, and 14 last; and a node whose entry
@@ -146,11 +167,6 @@ pub fn next_named(
     if let Err(refusal) = check_next_named(names, nodes, beginning, sets, list.len(), work.len()) {
         return Next::Refused(refusal);
     }
-    let named = matching::Named { section: names };
-    let mut cues = [0u64; 256];
-    matching::write_cues(&named, beginning, sets, &mut cues);
-    let mut asks = [0u64; 259];
-    matching::write_asks(&named, nodes, sets, &mut asks);
-    let n = beginning.len();
-    next_by(nodes, &cues[..n], &mut asks, list, work, allowance)
+    let names = Named { section: names };
+    answer_by(&names, nodes, beginning, sets, list, work, allowance)
 }

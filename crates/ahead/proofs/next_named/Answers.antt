@@ -1,17 +1,10 @@
 -- `ahead::next_named` meets its contract: the check's refusal, or what the search by the cues and the asks gives. Assumes nothing.
-use mathlib.Core.Path.{sym, ◌∙◌}
-use native.Mathlib.Omega.{arith}
+use mathlib.Core.Path.{refl, sym, ◌∙◌}
 use lib.ListN.{length}
-use lib.Seq.{length-take-le}
 use Rattle.flow.specs.declared.Extent.TheVariants.{Beginning}
-use Rattle.flow.specs.Cues.{cue_of, masked}
-use Rattle.flow.specs.Legends.{in_set}
-use Rattle.format.specs.ListChecks.{entries_in}
-use Rattle.matching.specs.Others.{other}
 use Rattle.matching.specs.SectionTest.{by_whole}
 use Rattle.judge.specs.Judged.{named_flow}
 use Rattle.judge.specs.JudgedLaws.{records_few}
-use Rattle.judge.specs.ByCues.{cues_front}
 use Rattle.ahead.specs.CheckLaws.{named_next_lists, named_next_passed}
 use Rattle.ahead.proofs.ByAsks.{next_refuses, named_next_ready, named_next}
 use Rattle.ahead.proofs.next_named.Goals as goal
@@ -21,32 +14,19 @@ returns-in-Err c =
     let a = c.args in
     next_refuses (named_flow a.names.now a.sets.now a.nodes.now) a.nodes.now a.beginning.now a.allowance a.list.now a.work.now _ (sym c.check_next_named.ensures ∙ c.in-Err.is)
 
-pub invariant_of-named : goal.invariant_of-named
-invariant_of-named c =
+pub invariant_of-names : goal.invariant_of-names
+invariant_of-names c =
     let a = c.args in
     record { whole = by_whole a.names.now (named_next_lists a.names.now a.sets.now a.nodes.now a.beginning.now (length a.list.now) (length a.work.now) (sym c.check_next_named.ensures ∙ c.in_default.is)).section }
 
-pub write_cues-requires : goal.write_cues-requires
-write_cues-requires c =
-    let a = c.args in
-    records_few Beginning a.nodes.now a.beginning.now (named_next_passed a.names.now a.sets.now a.nodes.now a.beginning.now (length a.list.now) (length a.work.now) (sym c.check_next_named.ensures ∙ c.in_default.is)).0.records
-
-pub slice_bounds-cues-end : goal.slice_bounds-cues-end
-slice_bounds-cues-end c =
-    let a = c.args in
-    omega (arith, c.write_cues.auto.cues, records_few Beginning a.nodes.now a.beginning.now (named_next_passed a.names.now a.sets.now a.nodes.now a.beginning.now (length a.list.now) (length a.work.now) (sym c.check_next_named.ensures ∙ c.in_default.is)).0.records)
-
-pub slice_bounds-next_by-end : goal.slice_bounds-next_by-end
-slice_bounds-next_by-end c =
-    let a = c.args in
-    sym (length-take-le (length a.beginning.now) c.write_cues.new.cues (omega (arith, c.write_cues.auto.cues, records_few Beginning a.nodes.now a.beginning.now (named_next_passed a.names.now a.sets.now a.nodes.now a.beginning.now (length a.list.now) (length a.work.now) (sym c.check_next_named.ensures ∙ c.in_default.is)).0.records)))
-
-pub next_by-requires : goal.next_by-requires
-next_by-requires c =
-    let a = c.args in
-    named_next_ready a.sets.now a.nodes.now a.beginning.now a.list.now a.work.now a.names.now (sym c.check_next_named.ensures ∙ c.in_default.is) (cues_front (cue_of (masked (in_set a.sets.now)) (other (entries_in a.names.now))) a.beginning.now _ _ c.write_cues.ensures) c.write_asks.ensures
+pub answer_by-requires : goal.answer_by-requires
+answer_by-requires c =
+    let a = c.args in record {
+      beginning_bound = records_few Beginning a.nodes.now a.beginning.now (named_next_passed a.names.now a.sets.now a.nodes.now a.beginning.now (length a.list.now) (length a.work.now) (sym c.check_next_named.ensures ∙ c.in_default.is)).0.records;
+      ready = named_next_ready a.sets.now a.nodes.now a.beginning.now a.list.now a.work.now a.names.now (sym c.check_next_named.ensures ∙ c.in_default.is) refl refl;
+    }
 
 pub returns : goal.returns
 returns c =
     let a = c.args in
-    named_next a.sets.now a.nodes.now a.beginning.now a.list.now a.work.now a.names.now (sym c.check_next_named.ensures ∙ c.in_default.is) (cues_front (cue_of (masked (in_set a.sets.now)) (other (entries_in a.names.now))) a.beginning.now _ _ c.write_cues.ensures) c.write_asks.ensures c.next_by.ensures
+    named_next a.sets.now a.nodes.now a.beginning.now a.list.now a.work.now a.names.now (sym c.check_next_named.ensures ∙ c.in_default.is) refl refl c.answer_by.ensures

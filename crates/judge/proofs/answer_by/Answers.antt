@@ -2,7 +2,6 @@
 use Prim.Native.Nat.{ℕ}
 use mathlib.Core.List.{List}
 use mathlib.Core.Path.{ap, sym, ◌∙◌}
-use Rattle.std.specs.Prelude.{length, map}
 use Rattle.std.proofs.Common.{subst}
 use Rattle.std.proofs.lemmas.List.{length-map}
 use Rattle.flow.specs.Cues.{cue_of, masked}
@@ -20,7 +19,7 @@ search-out-requires g c =
     subst (λ (xs : List ℕ). SearchReady a.nodes.now xs a.work.now) (sym front) c.requires.ready
 
 pub answer_of-requires : goal.answer_of-requires
-answer_of-requires g c = record { left_within = searched_within c.search-out.ensures; records_bound = c.requires.records_bound; }
+answer_of-requires g c = record { left_within = searched_within c.search-out.ensures; records_bound = c.requires.records_bound }
 
 pub returns : goal.returns
 returns g c =

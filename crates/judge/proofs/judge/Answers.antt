@@ -1,11 +1,7 @@
 -- `judge::judge` meets its contract: the check's refusal, or what the search by the cues gives. Assumes nothing.
 use mathlib.Core.Path.{refl, sym, ◌∙◌}
-use native.Mathlib.Omega.{arith}
 use lib.ListN.{length}
-use lib.Seq.{length-take-le}
 use Rattle.flow.specs.declared.Extent.TheVariants.{Whole}
-use Rattle.flow.specs.Cues.{cue_of, itself, masked}
-use Rattle.flow.specs.Legends.{in_set}
 use Rattle.flow.specs.Drawn.{flow_of}
 use Rattle.judge.specs.JudgedLaws.{judge_refuses, judge_passed, records_few}
 use Rattle.judge.specs.ByCues.{plain_ready, plain_judged}

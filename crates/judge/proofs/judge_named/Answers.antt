@@ -1,13 +1,7 @@
 -- `judge::judge_named` meets its contract: the check's refusal, or what the search by the cues gives. Assumes nothing.
 use mathlib.Core.Path.{refl, sym, ◌∙◌}
-use native.Mathlib.Omega.{arith}
 use lib.ListN.{length}
-use lib.Seq.{length-take-le}
 use Rattle.flow.specs.declared.Extent.TheVariants.{Whole}
-use Rattle.flow.specs.Cues.{cue_of, masked}
-use Rattle.flow.specs.Legends.{in_set}
-use Rattle.format.specs.ListChecks.{entries_in}
-use Rattle.matching.specs.Others.{other}
 use Rattle.matching.specs.SectionTest.{by_whole}
 use Rattle.judge.specs.Judged.{named_flow}
 use Rattle.judge.specs.JudgedLaws.{judge_refuses, named_passed, named_lists, records_few}
