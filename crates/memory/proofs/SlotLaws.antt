@@ -88,6 +88,11 @@ module _ (m : List Slot) (p : ℕ) (t₀ : List ℕ) (n key₀ : ℕ) (x₀ : Si
       unfit true b d f e = rw (← f) e
       unfit false b d f e = refl
 
+  -- and what is taken fits
+  pub taken_near : takes m p t₀ n x₀ ≡ true → x₀.reached < 65536
+  unfolding takes
+  taken_near e = (near_taken (ltb p (pairs m) && two_bits t₀ n) x₀.reached e).1
+
   pub held_after : n ≤ 64 → (key : ℕ) (t : List ℕ) (x : Sight) → Held (remembered m p t₀ n key₀ x₀) n key t x → Held m n key t x ⊎ (Same n key t key₀ t₀ × (x ≡ x₀))
   held_after few key t x = remembered_held m p t₀ n key₀ x₀ few refl
 
