@@ -40,9 +40,9 @@ module _ (ns : List ℕ) (i : ℕ) where
   unfolding wrong_field
   field_by_fields = refl
 
-  pub low_by_children : low_fault i (children ns i) ≡ not_lower ns i
+  pub low_by_fields : low_fault i (children ns i) ≡ not_lower ns i
   unfolding not_lower
-  low_by_children = ap₂ (λ (a b : Bool). a || b) (tested (has_one ns i) (one_of ns i) (leb i)) (tested (has_two ns i) (two_of ns i) (leb i))
+  low_by_fields = ap₂ (λ (a b : Bool). a || b) (tested (has_one ns i) (one_of ns i) (leb i)) (tested (has_two ns i) (two_of ns i) (leb i))
 
   -- lower children are among the nodes
   pub within_by_lower : i < 64 → not_lower ns i ≡ false → Within (children ns i)

@@ -203,8 +203,8 @@ unfolding or_else_check
 or_else_fine b e = sym (ap (λ (x : Result ⊤ Refusal). or_else_check x b) e)
 
 -- what `?` hands on is the refusal that came
-pub handed_on : (x r : Result ⊤ Refusal) {e : Refusal} → x ≡ Err e → IsErrAnd r (λ y. y ≡ e) → r ≡ x
-handed_on x r p q = let (y, is, same) = err_from_is_err_and r q in is ∙ ap Err same ∙ sym p
+pub refusal_handed : {A : Type 0} (i : Result A Refusal) {r : Refusal} → IsErrAnd i (λ q. q ≡ r) → i ≡ Err r
+refusal_handed i h = let p = err_from_is_err_and i h in p.1 ∙ ap Err p.2
 
 pub table_parts : (sets ns : List ℕ) → table_check sets ns ≡ or_else_check (table_length_check ns) (or_else_check (sets_check sets) (nodes_check (set_count sets) ns))
 unfolding table_check table_length_check sets_check nodes_check

@@ -7,7 +7,7 @@ use Rattle.flow.specs.declared.Form.{Form}
 use Rattle.flow.specs.declared.Children.{Children}
 use Rattle.flow.specs.Kinds.{node, is_standard, one_of, two_of}
 use Rattle.flow.specs.Records.{is_event_number}
-use Rattle.flow.specs.Refusals.{has_one, has_two, taken, too_many_closings, extra_closing}
+use Rattle.flow.specs.Refusals.{has_one, has_two, taken, closed, after_closings, too_many_closings, extra_closing}
 
 -- of the kinds without children, and of those with them
 abbrev pub leaf_form : Bool → Bool → Form
@@ -71,8 +71,15 @@ pub record Sorts (ns : List ℕ) (i : ℕ) (sorts : List Bool) : Type 0 where
 abbrev pub nth_closing : List ℕ → ℕ → Option ℕ
 nth_closing rs n = cond (too_many_closings rs n) (Some (extra_closing rs n)) None
 
--- i records are passed, and the one looked for is behind `left` of the other closings
-pub record Passed (rs : List ℕ) (n i left : ℕ) : Type 0 where
+-- i records are passed, and `left` closings of the wanted ones are to come
+pub record Passed (rs : List ℕ) (wanted i left : ℕ) : Type 0 where
   pub within : i ≤ length rs
-  pub many : too_many_closings (drop i rs) left ≡ too_many_closings rs n
-  pub place : i + extra_closing (drop i rs) left ≡ extra_closing rs n
+  pub some : 1 ≤ left
+  pub closes : closed (drop i rs) left ≡ closed rs wanted
+  pub place : i + after_closings (drop i rs) left ≡ after_closings rs wanted
+
+-- i records are passed, and `left` closings may come before the one that is looked for, or that is too many in a beginning
+pub record PassedOpen (rs : List ℕ) (allowed i left : ℕ) : Type 0 where
+  pub within : i ≤ length rs
+  pub many : too_many_closings (drop i rs) left ≡ too_many_closings rs allowed
+  pub place : i + extra_closing (drop i rs) left ≡ extra_closing rs allowed

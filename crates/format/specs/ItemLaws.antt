@@ -5,8 +5,8 @@ use Rattle.std.proofs.Math.Path.{refl, ap, sym}
 use borrow.Author.Tests.{leb-true, leb-false, lt-ltb, le-ltb}
 use Rattle.std.proofs.Math.ListN.{get_or}
 use Rattle.std.specs.Result.{IsErrAnd}
-use Rattle.std.proofs.lemmas.Result.{err_from_is_err_and}
 use Rattle.flow.specs.declared.Refusal.{Refusal}
+use Rattle.flow.specs.FirstRefusal.{refusal_handed}
 use Rattle.format.specs.declared.Got.{Got}
 use Rattle.format.specs.declared.Range.{Range}
 use Rattle.format.specs.Format.{Entry}
@@ -58,14 +58,10 @@ bad_found f (bad n p) {r} e =
     let e' : refusal_of n p ≡ r = cc in
     ap (λ (r' : Refusal). bad r'.number r'.place) e'
 
--- what a `?` hands on is the refusal that it found
-pub handed : {A : Type 0} (i : Result A Refusal) {r : Refusal} → IsErrAnd i (λ q. q ≡ r) → i ≡ Err r
-handed i h = let p = err_from_is_err_and i h in p.1 ∙ ap Err p.2
-
 -- a refusal is handed on as it is
 pub handed_on : {A B : Type 0} (f : A → ℕ) (x : Ran A) (g : B → ℕ) (y : Ran B) {i : Result Got Refusal} {r : Refusal}
     → ((n p : ℕ) → x ≡ bad n p → y ≡ bad n p) → Err r ≡ as_item f x → IsErrAnd i (λ q. q ≡ r) → i ≡ as_item g y
-handed_on f x g y {i} {r} k e h = handed i h ∙ item_bad g y refl (k r.number r.place (bad_found f x e))
+handed_on f x g y {i} {r} k e h = refusal_handed i h ∙ item_bad g y refl (k r.number r.place (bad_found f x e))
 
 -- an item whose value is the number itself
 pub has_number : (x : Ran ℕ) {g : Got} → Ok g ≡ as_item (λ n. n) x → x ≡ got g.value g.next.at
@@ -147,9 +143,9 @@ module _ (s : List ℕ) (at : ℕ) (g : Range) (p : Plan ℕ) where
       by_number (bad k q) a = got_not_bad e (ranged_bad a)
 
   -- what the plan finds is held to its range as the plan is
-  pub item_ranged : {h : Got} → Ok h ≡ as_item (λ n. n) (run s at p) → item_in_range g at h ≡ as_item (λ n. n) (run s at (ranged g p))
+  pub value_ranged : {h : Got} → Ok h ≡ as_item (λ n. n) (run s at p) → item_in_range g at h ≡ as_item (λ n. n) (run s at (ranged g p))
   unfolding item_in_range
-  item_ranged {h} e = by_least (le_or_lt g.least h.value)
+  value_ranged {h} e = by_least (le_or_lt g.least h.value)
     where
       a : run s at p ≡ got h.value h.next.at
       a = has_number (run s at p) e

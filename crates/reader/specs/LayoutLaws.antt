@@ -7,12 +7,13 @@ use native.Mathlib.Omega.{arith}
 use Rattle.std.proofs.Math.ListN.{length-append}
 use Rattle.flow.specs.declared.Refusal.{Refusal}
 use Rattle.flow.specs.Legends.{set_count}
+use Rattle.flow.specs.FirstRefusal.{refusal_handed}
 use Rattle.format.specs.Format.{Entry, names_section, numbers_section, sets_section, File, encode}
 use Rattle.format.specs.Plan.{Plan, done, ◌>>=◌, Ran, got, bad, run}
 use Rattle.format.specs.Sections.{names, section, joint_sets, node_count, record_count, layout}
 use Rattle.format.specs.Items.{refusal_of, numbers_at}
 use Rattle.format.specs.Plans.{bind_bad, bind_got}
-use Rattle.format.specs.ItemLaws.{got_value, got_next, got_not_bad, handed}
+use Rattle.format.specs.ItemLaws.{got_value, got_next, got_not_bad}
 use Rattle.format.specs.RunLaws.{SetsThere, sets_there, sets_end}
 use Rattle.format.specs.SectionLaws.{SectionThere, section_there, section_end, names_there, names_end}
 use Rattle.reader.specs.declared.Counts.{Counts}
@@ -190,7 +191,7 @@ found_runs s {from} {mid} {last} a b c d = record { from = from; mid = mid; last
 
 -- a refusal that is handed on
 pub lays_refusal : (s : List ℕ) {l : Result Offsets Refusal} {r : Refusal} → IsErrAnd l (λ q. q ≡ r) → run s 0 layout ≡ bad r.number r.place → Lays s l
-lays_refusal s {l} h e = subst (Lays s) (sym (handed l h)) (lays_bad e)
+lays_refusal s {l} h e = subst (Lays s) (sym (refusal_handed l h)) (lays_bad e)
 
 module _ (s : List ℕ) {f : File} {end : ℕ} (runs : LayoutRuns s f end) where
   pub lays_too_long : {r : Refusal} → r ≡ refusal_of 21 end → end < length s → Lays s (Err r)

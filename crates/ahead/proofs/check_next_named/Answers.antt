@@ -1,6 +1,6 @@
 -- `ahead::check_next_named` meets its contract: the lists by the reader's own checks, then 14. Assumes nothing.
 use mathlib.Core.Path.{sym, ◌∙◌}
-use Rattle.flow.specs.FirstRefusal.{handed_on}
+use Rattle.flow.specs.FirstRefusal.{refusal_handed}
 use Rattle.flow.specs.declared.Extent.TheVariants.{Beginning}
 use Rattle.format.specs.ListLaws.{lists_passed}
 use Rattle.flow.specs.FineTable.{fine_table}
@@ -11,7 +11,7 @@ use Rattle.ahead.proofs.check_next_named.Goals as goal
 pub returns-in_err-check_lists : goal.returns-in_err-check_lists
 returns-in_err-check_lists c =
     let a = c.args in
-    handed_on _ _ c.in_err-check_lists.was c.from_residual.ensures.1 ∙ next_lists_refuse a.sets.now a.nodes.now a.beginning.now a.numbers a.room a.names.now c.check_lists.ensures c.in_err-check_lists.was
+    refusal_handed _ c.from_residual.ensures.1 ∙ sym c.in_err-check_lists.was ∙ next_lists_refuse a.sets.now a.nodes.now a.beginning.now a.numbers a.room a.names.now c.check_lists.ensures c.in_err-check_lists.was
 
 pub check_next_room-requires : goal.check_next_room-requires
 check_next_room-requires c =

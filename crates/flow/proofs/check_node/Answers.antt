@@ -11,7 +11,7 @@ use Rattle.flow.specs.Refusals.{unknown_kind, no_such_set, wrong_field, not_lowe
 use Rattle.flow.specs.Checks.{refused, first, answer, or_else_check}
 use Rattle.flow.specs.FirstRefusal.{IsFine}
 use Rattle.flow.specs.Forms.{children, field_fault, low_fault, sort_fault, taken_fault, with_children, Within, Marks}
-use Rattle.flow.specs.Children.{field_by_fields, low_by_children, within_by_lower, sort_by_sorts, taken_by_marks, marks_more, sorts_more}
+use Rattle.flow.specs.Children.{field_by_fields, low_by_fields, within_by_lower, sort_by_sorts, taken_by_marks, marks_more, sorts_more}
 use Rattle.flow.proofs.check_node.Goals as goal
 
 -- no refusal is fine
@@ -75,7 +75,7 @@ returns-then-not_lower c =
     let of_5 : c.wrong_field.result ≡ wrong_field c.args.nodes.now c.args.i = c.wrong_field.ensures
     ∙ (λ z. field_fault (asked z) (c.first_at.ensures z) (c.second_at.ensures z))
     ∙ field_by_fields c.args.nodes.now c.args.i in
-    let of_6 : c.not_lower.result ≡ not_lower c.args.nodes.now c.args.i = c.not_lower.ensures ∙ ap (low_fault c.args.i) c.children_of-children.ensures ∙ low_by_children c.args.nodes.now c.args.i in
+    let of_6 : c.not_lower.result ≡ not_lower c.args.nodes.now c.args.i = c.not_lower.ensures ∙ ap (low_fault c.args.i) c.children_of-children.ensures ∙ low_by_fields c.args.nodes.now c.args.i in
     let e4 : unknown_kind c.args.nodes.now c.args.i ≡ false = sym (of_4) ∙ c.if-not-asked.false in
     let e22 : no_such_set c.args.nodes.now c.args.i c.args.many ≡ false = sym (of_22) ∙ c.if-no_such_set.false in
     let e5 : wrong_field c.args.nodes.now c.args.i ≡ false = sym (of_5) ∙ c.if-wrong_field.false in
@@ -86,7 +86,7 @@ returns-then-not_lower c =
 
 pub wrong_sort-requires : goal.wrong_sort-requires
 wrong_sort-requires c =
-    let of_6 : c.not_lower.result ≡ not_lower c.args.nodes.now c.args.i = c.not_lower.ensures ∙ ap (low_fault c.args.i) c.children_of-children.ensures ∙ low_by_children c.args.nodes.now c.args.i in
+    let of_6 : c.not_lower.result ≡ not_lower c.args.nodes.now c.args.i = c.not_lower.ensures ∙ ap (low_fault c.args.i) c.children_of-children.ensures ∙ low_by_fields c.args.nodes.now c.args.i in
     let lower : not_lower c.args.nodes.now c.args.i ≡ false = sym (of_6) ∙ c.if-not_lower.false in
     let within : Within c.children_of-children.result = subst Within (sym c.children_of-children.ensures) (within_by_lower c.args.nodes.now c.args.i c.requires.i_bound (lower)) in
     within
@@ -101,7 +101,7 @@ returns-then-wrong_sort c =
     let of_5 : c.wrong_field.result ≡ wrong_field c.args.nodes.now c.args.i = c.wrong_field.ensures
     ∙ (λ z. field_fault (asked z) (c.first_at.ensures z) (c.second_at.ensures z))
     ∙ field_by_fields c.args.nodes.now c.args.i in
-    let of_6 : c.not_lower.result ≡ not_lower c.args.nodes.now c.args.i = c.not_lower.ensures ∙ ap (low_fault c.args.i) c.children_of-children.ensures ∙ low_by_children c.args.nodes.now c.args.i in
+    let of_6 : c.not_lower.result ≡ not_lower c.args.nodes.now c.args.i = c.not_lower.ensures ∙ ap (low_fault c.args.i) c.children_of-children.ensures ∙ low_by_fields c.args.nodes.now c.args.i in
     let lower : not_lower c.args.nodes.now c.args.i ≡ false = sym (of_6) ∙ c.if-not_lower.false in
     let of_7 : c.wrong_sort.result ≡ wrong_sort c.args.nodes.now c.args.i = c.wrong_sort.ensures
     ∙ ap₂ (sort_fault c.args.sorts.now) c.children_of-children.ensures (ap (λ (f : Form). f.inner) (asked))
@@ -117,7 +117,7 @@ returns-then-wrong_sort c =
 
 pub child_taken-requires : goal.child_taken-requires
 child_taken-requires c =
-    let of_6 : c.not_lower.result ≡ not_lower c.args.nodes.now c.args.i = c.not_lower.ensures ∙ ap (low_fault c.args.i) c.children_of-children.ensures ∙ low_by_children c.args.nodes.now c.args.i in
+    let of_6 : c.not_lower.result ≡ not_lower c.args.nodes.now c.args.i = c.not_lower.ensures ∙ ap (low_fault c.args.i) c.children_of-children.ensures ∙ low_by_fields c.args.nodes.now c.args.i in
     let lower : not_lower c.args.nodes.now c.args.i ≡ false = sym (of_6) ∙ c.if-not_lower.false in
     let within : Within c.children_of-children.result = subst Within (sym c.children_of-children.ensures) (within_by_lower c.args.nodes.now c.args.i c.requires.i_bound (lower)) in
     within
@@ -132,7 +132,7 @@ returns-then-child_taken c =
     let of_5 : c.wrong_field.result ≡ wrong_field c.args.nodes.now c.args.i = c.wrong_field.ensures
     ∙ (λ z. field_fault (asked z) (c.first_at.ensures z) (c.second_at.ensures z))
     ∙ field_by_fields c.args.nodes.now c.args.i in
-    let of_6 : c.not_lower.result ≡ not_lower c.args.nodes.now c.args.i = c.not_lower.ensures ∙ ap (low_fault c.args.i) c.children_of-children.ensures ∙ low_by_children c.args.nodes.now c.args.i in
+    let of_6 : c.not_lower.result ≡ not_lower c.args.nodes.now c.args.i = c.not_lower.ensures ∙ ap (low_fault c.args.i) c.children_of-children.ensures ∙ low_by_fields c.args.nodes.now c.args.i in
     let lower : not_lower c.args.nodes.now c.args.i ≡ false = sym (of_6) ∙ c.if-not_lower.false in
     let of_7 : c.wrong_sort.result ≡ wrong_sort c.args.nodes.now c.args.i = c.wrong_sort.ensures
     ∙ ap₂ (sort_fault c.args.sorts.now) c.children_of-children.ensures (ap (λ (f : Form). f.inner) (asked))
@@ -152,7 +152,7 @@ returns-then-child_taken c =
 
 pub mark_children-requires : goal.mark_children-requires
 mark_children-requires c =
-    let of_6 : c.not_lower.result ≡ not_lower c.args.nodes.now c.args.i = c.not_lower.ensures ∙ ap (low_fault c.args.i) c.children_of-children.ensures ∙ low_by_children c.args.nodes.now c.args.i in
+    let of_6 : c.not_lower.result ≡ not_lower c.args.nodes.now c.args.i = c.not_lower.ensures ∙ ap (low_fault c.args.i) c.children_of-children.ensures ∙ low_by_fields c.args.nodes.now c.args.i in
     let lower : not_lower c.args.nodes.now c.args.i ≡ false = sym (of_6) ∙ c.if-not_lower.false in
     let within : Within c.children_of-children.result = subst Within (sym c.children_of-children.ensures) (within_by_lower c.args.nodes.now c.args.i c.requires.i_bound (lower)) in
     within
@@ -167,7 +167,7 @@ returns c =
     let of_5 : c.wrong_field.result ≡ wrong_field c.args.nodes.now c.args.i = c.wrong_field.ensures
     ∙ (λ z. field_fault (asked z) (c.first_at.ensures z) (c.second_at.ensures z))
     ∙ field_by_fields c.args.nodes.now c.args.i in
-    let of_6 : c.not_lower.result ≡ not_lower c.args.nodes.now c.args.i = c.not_lower.ensures ∙ ap (low_fault c.args.i) c.children_of-children.ensures ∙ low_by_children c.args.nodes.now c.args.i in
+    let of_6 : c.not_lower.result ≡ not_lower c.args.nodes.now c.args.i = c.not_lower.ensures ∙ ap (low_fault c.args.i) c.children_of-children.ensures ∙ low_by_fields c.args.nodes.now c.args.i in
     let lower : not_lower c.args.nodes.now c.args.i ≡ false = sym (of_6) ∙ c.if-not_lower.false in
     let of_7 : c.wrong_sort.result ≡ wrong_sort c.args.nodes.now c.args.i = c.wrong_sort.ensures
     ∙ ap₂ (sort_fault c.args.sorts.now) c.children_of-children.ensures (ap (λ (f : Form). f.inner) (asked))

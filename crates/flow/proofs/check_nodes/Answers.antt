@@ -4,7 +4,7 @@ use mathlib.Core.Path.{ap, ◌≡◌, sym, ◌∙◌}
 use native.Mathlib.Omega.{arith}
 use Rattle.std.specs.Prelude.{Result, Ok, ⊤}
 use Rattle.flow.specs.declared.Refusal.{Refusal}
-use Rattle.flow.specs.FirstRefusal.{handed_on, each_start, each_held, each_passed, each_over, first_append}
+use Rattle.flow.specs.FirstRefusal.{refusal_handed, each_start, each_held, each_passed, each_over, first_append}
 use Rattle.flow.specs.Children.{marks_none, sorts_none}
 use Rattle.flow.specs.Refusals.{count, node_grounds, child_grounds}
 use Rattle.flow.specs.Checks.{or_else_check, first, each, nodes_check}
@@ -36,7 +36,7 @@ returns-in_err-check_node c =
     let h : l.i < count ns = c.loop-i-test.true in
     let w = c.in_err-check_node.was in
     let e = sym c.check_node.ensures.value ∙ w in
-    handed_on _ _ w c.from_residual.ensures.1 ∙ w ∙ sym (ap (λ (x : Result ⊤ Refusal). or_else_check x (first (each (child_grounds ns) 0 (count ns - 1)))) (each_held (node_grounds many ns) l.i (count ns) h _ e)) ∙ l.invariant.1.1
+    refusal_handed _ c.from_residual.ensures.1 ∙ sym (ap (λ (x : Result ⊤ Refusal). or_else_check x (first (each (child_grounds ns) 0 (count ns - 1)))) (each_held (node_grounds many ns) l.i (count ns) h _ e)) ∙ l.invariant.1.1
 
 pub loop-i-preserved : goal.loop-i-preserved
 loop-i-preserved c =

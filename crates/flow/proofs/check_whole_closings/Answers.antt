@@ -3,7 +3,8 @@ use mathlib.Core.Path.{sym, ap, ◌∙◌}
 use native.Mathlib.Omega.{arith}
 use Prim.Native.Nat.{ℕ, ◌-◌}
 use Rattle.flow.specs.Forms.{nth_closing}
-use Rattle.flow.specs.Closings.{wanted_some, closed_fine, closed_early, closed_late}
+use Rattle.flow.specs.Closings.{wanted_some}
+use Rattle.flow.proofs.NthClosing.{found_last, found_early, none_last}
 use Rattle.flow.specs.Refusals.{closings_allowed}
 use Rattle.flow.proofs.check_whole_closings.Goals as goal
 
@@ -24,18 +25,18 @@ unfolding closings_allowed
 returns-then-i-records c =
     let rs = c.args.records.now in
     let found = ap (λ (k : ℕ). nth_closing rs (k - 1)) (sym c.closings_wanted.ensures) ∙ sym c.nth_closing.ensures.value ∙ c.in-Some.is in
-    sym (closed_fine c.args.nodes.now rs c.in-Some.i found c.if-i-records.true)
+    sym (found_last c.args.nodes.now rs c.in-Some.i found c.if-i-records.true)
 
 pub returns-else-i-records : goal.returns-else-i-records
 unfolding closings_allowed
 returns-else-i-records c =
     let rs = c.args.records.now in
     let found = ap (λ (k : ℕ). nth_closing rs (k - 1)) (sym c.closings_wanted.ensures) ∙ sym c.nth_closing.ensures.value ∙ c.in-Some.is in
-    c.refuse.ensures ∙ sym (closed_early c.args.nodes.now rs c.in-Some.i found c.if-i-records.false)
+    c.refuse.ensures ∙ sym (found_early c.args.nodes.now rs c.in-Some.i found c.if-i-records.false)
 
 pub returns-in-None : goal.returns-in-None
 unfolding closings_allowed
 returns-in-None c =
     let rs = c.args.records.now in
     let none = ap (λ (k : ℕ). nth_closing rs (k - 1)) (sym c.closings_wanted.ensures) ∙ sym c.nth_closing.ensures.value ∙ c.in-None.is in
-    c.refuse-in-None.ensures ∙ sym (closed_late c.args.nodes.now rs none)
+    c.refuse-in-None.ensures ∙ sym (none_last c.args.nodes.now rs none)

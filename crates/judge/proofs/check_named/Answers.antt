@@ -1,6 +1,6 @@
 -- `judge::check_named` meets its contract: the lists by the reader's own checks, then 14. Assumes nothing.
 use mathlib.Core.Path.{sym, ◌∙◌}
-use Rattle.flow.specs.FirstRefusal.{handed_on}
+use Rattle.flow.specs.FirstRefusal.{refusal_handed}
 use Rattle.flow.specs.declared.Extent.TheVariants.{Whole}
 use Rattle.flow.specs.FineTable.{fine_table}
 use Rattle.format.specs.ListLaws.{lists_passed}
@@ -10,7 +10,7 @@ use Rattle.judge.proofs.check_named.Goals as goal
 pub returns-in_err-check_lists : goal.returns-in_err-check_lists
 returns-in_err-check_lists c =
     let a = c.args in
-    handed_on _ _ c.in_err-check_lists.was c.from_residual.ensures.1 ∙ lists_refuse a.sets.now a.nodes.now a.records.now a.room a.names.now c.check_lists.ensures c.in_err-check_lists.was
+    refusal_handed _ c.from_residual.ensures.1 ∙ sym c.in_err-check_lists.was ∙ lists_refuse a.sets.now a.nodes.now a.records.now a.room a.names.now c.check_lists.ensures c.in_err-check_lists.was
 
 pub check_room-requires : goal.check_room-requires
 check_room-requires c =

@@ -7,7 +7,7 @@ use native.Mathlib.Omega.{arith}
 use lib.ListN.{length}
 use Rattle.std.specs.Prelude.{Err}
 use Rattle.format.specs.Items.{at_front, numbers_at}
-use Rattle.format.specs.ItemLaws.{handed}
+use Rattle.flow.specs.FirstRefusal.{refusal_handed}
 use Rattle.reader.specs.LayoutLaws.{placed_inside}
 use Rattle.reader.specs.ReaderLaws.{lays_placed, lays_refused, reading_short, reading_laid, read_as, read_refused, read_faulty, read_fine}
 use Rattle.reader.proofs.read.Goals as goal
@@ -24,7 +24,7 @@ returns-in_err-o c =
     let s = c.args.file.now in
     let ns = c.args.nodes.now in
     let rs = c.args.records.now in
-    read_refused s ns rs (handed _ c.from_residual.ensures.1) (reading_laid s (length ns) (length rs) (omega arith) (omega arith)
+    read_refused s ns rs (refusal_handed _ c.from_residual.ensures.1) (reading_laid s (length ns) (length rs) (omega arith) (omega arith)
     ∙ lays_refused s c.in_err-o.ensures refl)
 
 pub check_numbers-requires : goal.check_numbers-requires
@@ -38,7 +38,7 @@ returns-in_err-check_numbers c =
     let ns = c.args.nodes.now in
     let rs = c.args.records.now in
     let p = lays_placed _ c.in_ok-o.ensures refl in
-    read_refused s ns rs (handed _ c.from_residual-in_err-check_numbers.ensures.1) (read_faulty s ns rs p.1 (omega arith) (omega arith) c.check_numbers.ensures c.in_err-check_numbers.was)
+    read_refused s ns rs (refusal_handed _ c.from_residual-in_err-check_numbers.ensures.1) (read_faulty s ns rs p.1 (omega arith) (omega arith) c.check_numbers.ensures c.in_err-check_numbers.was)
 
 pub fill-requires : goal.fill-requires
 fill-requires c =

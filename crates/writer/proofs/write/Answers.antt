@@ -5,7 +5,7 @@ use native.Mathlib.Omega.{arith}
 use lib.ListN.{length}
 use Rattle.std.specs.Prelude.{Err}
 use Rattle.std.proofs.Common.{subst}
-use Rattle.format.specs.ItemLaws.{handed}
+use Rattle.flow.specs.FirstRefusal.{refusal_handed}
 use Rattle.format.specs.Lengths.{sets_length_most}
 use Rattle.writer.specs.Writing.{lists_bytes, WrittenAs}
 use Rattle.writer.proofs.Fronts.{lists_length}
@@ -16,7 +16,7 @@ pub returns-in_err-check_lists : goal.returns-in_err-check_lists
 returns-in_err-check_lists c =
     let a = c.args in
     let refused = refused_as _ _ _ _ _ (lists_refused _ _ _ _ _ (sym c.check_lists.ensures ∙ c.in_err-check_lists.was)) in
-    subst (WrittenAs a.names.now a.nodes.now a.records.now a.sets.now a.file.now a.file.now) (sym (handed _ c.from_residual.ensures.1)) refused
+    subst (WrittenAs a.names.now a.nodes.now a.records.now a.sets.now a.file.now a.file.now) (sym (refusal_handed _ c.from_residual.ensures.1)) refused
 
 pub overflow_add-end-3 : goal.overflow_add-end-3
 overflow_add-end-3 c =
