@@ -84,6 +84,7 @@ struct Children {
     second: Option<usize>,
 }
 
+// The closings as records: 01's numbers, which stand in lent lists.
 pub const DONE: u16 = 61441;
 
 pub const WITHDRAWN: u16 = 61442;
@@ -273,7 +274,8 @@ fn set_number(node: Node) -> u16
     }
 }
 
-// A node's three numbers.
+// A node's three numbers. That node i is there is asked by each function that goes to it: tables are lent slices, and a struct around one would
+// still be asked for the node.
 fn kind_at(nodes: &[u16], i: usize) -> u16
     requires { 3 * i + 2 < length nodes.now }
     ensures { result ≡ get_or nodes.now (3 * i) 0 }
@@ -377,7 +379,7 @@ fn not_lower(i: usize, children: Children) -> bool
     children.first.is_some_and(|c| c >= i) | children.second.is_some_and(|c| c >= i)
 }
 
-// Whether a child, if there is one, is not of the sort asked for.
+// Whether a child, if there is one, is not of the sort asked for. That children are within is known once 6 is passed, and not of all `Children`.
 fn sort_differs(sorts: &[bool; 64], child: Option<usize>, standard: bool) -> bool
     requires { IfSome child (λ c. c < 64) }
     ensures { result ≡ of_child child (λ c. xor (get_or sorts.now c false) standard) }
@@ -491,7 +493,7 @@ fn check_children(nodes: &[u16], marks: &[bool; 64]) -> Result<(), Refusal>
     }
 }
 
-// 4 to 9, with 22, of at most 64 whole nodes, where so many sets are present.
+// 4 to 9, with 22, of at most 64 whole nodes (how many there are is asked where places are told, as of records: lists are lent slices), where so many sets are present.
 pub fn check_nodes(nodes: &[u16], many: usize) -> Result<(), Refusal>
     requires { length nodes.now ≤ 192 }
     ensures { result ≡ nodes_check many nodes.now }

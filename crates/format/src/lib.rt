@@ -36,7 +36,7 @@ const MOST_NAMES: u16 = 256;
 
 const MOST_BYTES: u16 = 40;
 
-// A place in the file, in bytes.
+// A place in the file, in bytes. How far it may be is asked where an item is read, and differs: the items behind have to be told, too.
 #[derive(Clone, Copy)]
 pub struct Cursor {
     pub at: usize,

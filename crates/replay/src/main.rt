@@ -84,7 +84,7 @@ impl Function {
     }
 }
 
-// The most that a case asks for.
+// The most that a case asks for, and so the size of what is lent to it: there is no allocation.
 const MOST_NUMBERS: usize = 400;
 
 const MOST_SETS: usize = 600;

@@ -39,7 +39,7 @@ fn count_at(c: &[u32; 64], i: usize) -> u32
     c[i]
 }
 
-// The first of two live parts makes a step: a choice is made.
+// The first of two live parts makes a step: a choice is made. The node is asked to be within, as a slice is lent and no struct.
 fn enter_first(t: &mut [u8], i: usize, operator: Operator)
     requires { i < length t.old }
     ensures { Sets t.old i (first_mode operator (modes t.old i)) t.new }

@@ -45,7 +45,7 @@ fn put_section(numbers: &[u16], each: usize, room: &mut [u8])
     put_numbers(numbers, &mut room[2..]);
 }
 
-// How long the section of the sets is: nothing without sets.
+// How long the section of the sets is: nothing without sets. Their length is asked of the lent slice, as 23 has told it.
 fn sets_room(sets: &[u8]) -> usize
     requires { length sets.now ≤ 512 }
     ensures { result ≡ length (sets_section sets.now) }

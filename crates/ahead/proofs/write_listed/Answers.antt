@@ -8,17 +8,8 @@ use Rattle.ahead.proofs.write_listed.Goals.{then-ask-eq-FOLLOWS, else-ask-eq-FOL
 pub loop-place-init : goal.loop-place-init
 loop-place-init c = listed_none _ _
 
-pub nth_number-requires : goal.nth_number-requires
-nth_number-requires c = omega arith
-
-pub offset_bounds-list-n : goal.offset_bounds-list-n
-offset_bounds-list-n c = omega arith
-
 pub bounds-list-n : goal.bounds-list-n
 bounds-list-n c = omega (arith, c.loop-place.invariant.size)
-
-pub overflow_add-n : goal.overflow_add-n
-overflow_add-n c = omega arith
 
 pub loop-place-preserved : goal.loop-place-preserved
 loop-place-preserved c =
@@ -28,9 +19,6 @@ loop-place-preserved c =
       | then-ask-eq-FOLLOWS w ↦ rw (w.list-is, w.n-is) (listed_yes qs list c.requires.0 c.loop-place.invariant c.requires.1 (omega arith) w.if-ask-eq-FOLLOWS.true w.nth_number.ensures)
       | else-ask-eq-FOLLOWS w ↦ rw (w.list-is, w.n-is) (listed_no qs list c.requires.0 c.loop-place.invariant (omega arith) w.if-ask-eq-FOLLOWS.false)
     ]
-
-pub overflow_cast-result : goal.overflow_cast-result
-overflow_cast-result c = omega arith
 
 pub shape_of-list : goal.shape_of-list
 shape_of-list c = c.loop-place.invariant.size

@@ -77,9 +77,6 @@ follow-copy_within-requires t c =
     let o = two_stretches c.requires.visit_ready c.requires.in_bounds in
     omega arith
 
-pub follow-overflow_mul-w : goal.follow-overflow_mul-w
-follow-overflow_mul-w t c = omega arith
-
 pub follow-slice_bounds-apply-count : goal.follow-slice_bounds-apply-count
 follow-slice_bounds-apply-count t c =
     let o = copied_room c.requires.visit_ready c.requires.in_bounds c.copy_within.new.self (copied c.args.work.now c.copy_within.new.self (count c.args.ns.now) c.copy_within.ensures.after) in
