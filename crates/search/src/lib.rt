@@ -58,6 +58,16 @@ fn ends_by(v: View, cue: u64) -> bool
     }
 }
 
+// A state, as its root has it: the table, the modes, and what the root is live as.
+#[derive(Clone, Copy)]
+struct Root<'a> {
+    ns: &'a [u16],
+    t: &'a [u8],
+    role: Role,
+    ghost some: { 3 ≤ length ns.now },
+    ghost spot: { Spot ns.now t.now (root ns.now) },
+}
+
 // The last node is the root.
 fn root_of(ns: &[u16]) -> usize
     requires { 3 ≤ length ns.now }
@@ -68,12 +78,12 @@ fn root_of(ns: &[u16]) -> usize
 
 // How many successors a state has by a record that does not end the search. What is known of its parts is left in c and d, for all of
 // them to be found by.
-fn successors(ns: &[u16], t: &[u8], cue: u64, noted: &mut Noted, role: Role) -> u32
-    requires spot { Spot ns.now t.now (root ns.now) }
-    requires in_bounds { (3 ≤ length ns.now) × Inner role cue }
+fn successors(here: Root<'_>, cue: u64, noted: &mut Noted) -> u32
+    requires inner { Inner here.role cue }
     requires d_len { length noted.old.d ≡ 576 }
-    ensures { SuccessorsCounted ns.now role cue t.now noted.new.c noted.new.d result }
+    ensures { let s = here.entry in SuccessorsCounted s.ns.now s.role cue s.t.now noted.new.c noted.new.d result }
 {
+    let Root { ns, t, role } = here;
     let i = root_of(ns);
     match role {
         Role::Plain(sense) => {
@@ -141,11 +151,11 @@ fn role_after(role: Role, cue: u64) -> Role
 }
 
 // Whether the root can end by the last record.
-fn can_end(ns: &[u16], t: &[u8], cue: u64, role: Role) -> bool
-    requires spot { Spot ns.now t.now (root ns.now) }
-    requires in_bounds { (3 ≤ length ns.now) × Fits (state ns.now role t.now) (cue_records (cue ∷ [])) }
-    ensures { next (state ns.now role t.now) (cue_record cue) ≡ only result (over ∷ []) }
+fn can_end(here: Root<'_>, cue: u64) -> bool
+    requires { Fits (state here.ns.now here.role here.t.now) (cue_records (cue ∷ [])) }
+    ensures { let s = here.entry in next (state s.ns.now s.role s.t.now) (cue_record cue) ≡ only result (over ∷ []) }
 {
+    let Root { ns, t, role } = here;
     let i = root_of(ns);
     let mut noted = states::NOTHING_NOTED;
     match role {
@@ -158,12 +168,11 @@ fn can_end(ns: &[u16], t: &[u8], cue: u64, role: Role) -> bool
 }
 
 // The last record, a closing: nothing left, if the root can end so.
-fn finish(ns: &[u16], t: &[u8], cue: u64, role: Role, left: u32) -> Option<Trip>
-    requires spot { Spot ns.now t.now (root ns.now) }
-    requires in_bounds { (3 ≤ length ns.now) × Fits (state ns.now role t.now) (cue_records (cue ∷ [])) }
-    ensures { out_of result ≡ onward (state ns.now role t.now) cue [] left }
+fn finish(here: Root<'_>, cue: u64, left: u32) -> Option<Trip>
+    requires { Fits (state here.ns.now here.role here.t.now) (cue_records (cue ∷ [])) }
+    ensures { let s = here.entry in out_of result ≡ onward (state s.ns.now s.role s.t.now) cue [] left }
 {
-    if !can_end(ns, t, cue, role) {
+    if !can_end(here, cue) {
         return Some(Trip {
             found: false,
             far: 0,
@@ -182,53 +191,45 @@ fn finish(ns: &[u16], t: &[u8], cue: u64, role: Role, left: u32) -> Option<Trip>
 }
 
 // Whether the record of a cue can follow in this state.
-fn follows(ns: &[u16], t: &[u8], cue: u64, role: Role) -> bool
-    requires spot { Spot ns.now t.now (root ns.now) }
-    requires in_bounds { (3 ≤ length ns.now) × (cue ≤ failed_cue) }
-    ensures { result ≡ may_follow [] (state ns.now role t.now) (cue_record cue) }
+fn follows(here: Root<'_>, cue: u64) -> bool
+    requires { cue ≤ failed_cue }
+    ensures { let s = here.entry in result ≡ may_follow [] (state s.ns.now s.role s.t.now) (cue_record cue) }
 {
-    if ends(role, cue) {
-        return can_end(ns, t, cue, role);
+    if ends(here.role, cue) {
+        return can_end(here, cue);
     }
     let mut noted = states::NOTHING_NOTED;
-    successors(ns, t, cue, &mut noted, role) > 0
+    successors(here, cue, &mut noted) > 0
 }
 
 // An ask whose record can follow in this state is answered; others stay.
-fn answer(ns: &[u16], t: &[u8], cue: u64, role: Role) -> u64
-    requires spot { Spot ns.now t.now (root ns.now) }
-    requires in_bounds { (3 ≤ length ns.now) × (cue ≤ failed_cue) }
-    ensures { result ≡ answered (state ns.now role t.now) [] cue }
+fn answer(here: Root<'_>, cue: u64) -> u64
+    requires { cue ≤ failed_cue }
+    ensures { let s = here.entry in result ≡ answered (state s.ns.now s.role s.t.now) [] cue }
 {
     if cue <= FOLLOWS {
         return cue;
     }
-    if follows(ns, t, cue, role) {
-        FOLLOWS
-    } else {
-        cue
-    }
+    if follows(here, cue) { FOLLOWS } else { cue }
 }
 
 // The asks are answered by this state, where the records end. What is answered already is not tried again.
-fn gather(ns: &[u16], t: &[u8], role: Role, asks: &mut [u64])
-    requires spot { Spot ns.now t.now (root ns.now) }
-    requires in_bounds { (3 ≤ length ns.now) × Asking asks.old }
-    ensures { asks.new ≡ map (answered (state ns.now role t.now) []) asks.old }
+fn gather(here: Root<'_>, asks: &mut [u64])
+    requires { Asking asks.old }
+    ensures { let s = here.entry in asks.new ≡ map (answered (state s.ns.now s.role s.t.now) []) asks.old }
 {
     for ask in asks.iter_mut() {
-        *ask = answer(ns, t, *ask, role);
+        *ask = answer(here, *ask);
     }
 }
 
 // The records end here: what is asked is answered, and there is no more to follow.
-fn arrive(ns: &[u16], t: &[u8], role: Role, asks: &mut [u64], left: u32) -> Option<Trip>
-    requires spot { Spot ns.now t.now (root ns.now) }
-    requires in_bounds { (3 ≤ length ns.now) × Asking asks.old }
+fn arrive(here: Root<'_>, asks: &mut [u64], left: u32) -> Option<Trip>
+    requires { Asking asks.old }
     ensures value { result ≡ Some (record { found = false; far = 0; left = left }) }
-    ensures asked { asks.new ≡ map (answered (state ns.now role t.now) []) asks.old }
+    ensures asked { let s = here.entry in asks.new ≡ map (answered (state s.ns.now s.role s.t.now) []) asks.old }
 {
-    gather(ns, t, role, asks);
+    gather(here, asks);
     Some(Trip {
         found: false,
         far: 0,
@@ -328,10 +329,10 @@ fn enter(
         return None;
     }
     if cues.len() == 0 {
-        return arrive(ns, work, role, asks, left - 1);
+        return arrive(Root { ns, t: work, role }, asks, left - 1);
     }
     if ends(role, cues[0]) {
-        finish(ns, work, cues[0], role, left - 1)
+        finish(Root { ns, t: work, role }, cues[0], left - 1)
     } else {
         visit_each(ns, cues, work, role, asks, left - 1, slots)
     }
@@ -365,7 +366,7 @@ fn visit_each(
     ensures { Tried (quest ns.now cues.now work.old role asks.old left slots.old) work.new asks.new slots.new result }
 {
     let mut noted = states::NOTHING_NOTED;
-    let many = successors(ns, work, cues[0], &mut noted, role);
+    let many = successors(Root { ns, t: work, role }, cues[0], &mut noted);
     try_each(ns, cues, work, role, asks, left, slots, &noted, many)
 }
 

@@ -26,12 +26,12 @@ enter-returns-then-left-eq0 t c =
 pub enter-overflow_sub-left : goal.enter-overflow_sub-left
 enter-overflow_sub-left t c = omega (arith, c.if-left-eq0.false)
 
+pub enter-invariant_of-arrive : goal.enter-invariant_of-arrive
+enter-invariant_of-arrive t c = record { some = c.requires.visit_ready.some; spot = ready_spot c.requires.visit_ready }
+
 pub enter-arrive-requires : goal.enter-arrive-requires
 enter-arrive-requires t c =
-    record {
-      spot = ready_spot c.requires.visit_ready;
-      in_bounds = (c.requires.visit_ready.some, c.requires.truthful.asking);
-    }
+    c.requires.truthful.asking
 
 pub enter-returns-then-cues-eq0 : goal.enter-returns-then-cues-eq0
 enter-returns-then-cues-eq0 t c =
@@ -47,12 +47,13 @@ enter-bounds-cues-0-then-ends t c = omega (arith, c.if-cues-eq0.false)
 pub enter-overflow_sub-left-then-ends : goal.enter-overflow_sub-left-then-ends
 enter-overflow_sub-left-then-ends t c = omega (arith, c.if-left-eq0.false)
 
+pub enter-invariant_of-finish : goal.enter-invariant_of-finish
+enter-invariant_of-finish t c = record { some = c.requires.visit_ready.some; spot = ready_spot c.requires.visit_ready }
+
 pub enter-finish-requires : goal.enter-finish-requires
 enter-finish-requires t c =
-    let r = c.requires.visit_ready in record {
-      spot = ready_spot r;
-      in_bounds = (r.some, ends_fits c.args.ns.now c.args.work.now (get_or c.args.cues.now 0 0) (first_low r (omega (arith, c.if-cues-eq0.false))) c.args.role (sym c.ends.ensures ∙ c.if-ends.true));
-    }
+    let r = c.requires.visit_ready in
+    ends_fits c.args.ns.now c.args.work.now (get_or c.args.cues.now 0 0) (first_low r (omega (arith, c.if-cues-eq0.false))) c.args.role (sym c.ends.ensures ∙ c.if-ends.true)
 
 pub enter-overflow_sub-left-else-ends : goal.enter-overflow_sub-left-else-ends
 enter-overflow_sub-left-else-ends t c = omega (arith, c.if-left-eq0.false)
@@ -277,11 +278,13 @@ visit_each-bounds-cues-0 t c =
     let q = c.requires.in_bounds.0 in
     omega arith
 
+pub visit_each-invariant_of-successors : goal.visit_each-invariant_of-successors
+visit_each-invariant_of-successors t c = record { some = c.requires.visit_ready.some; spot = ready_spot c.requires.visit_ready }
+
 pub visit_each-successors-many-requires : goal.visit_each-successors-many-requires
 visit_each-successors-many-requires t c =
     let a = c.args in record {
-      spot = ready_spot c.requires.visit_ready;
-      in_bounds = (c.requires.visit_ready.some, first_inner a.role (get_or a.cues.now 0 0) (first_low c.requires.visit_ready c.requires.in_bounds.0) c.requires.not_an_ending);
+      inner = first_inner a.role (get_or a.cues.now 0 0) (first_low c.requires.visit_ready c.requires.in_bounds.0) c.requires.not_an_ending;
       d_len = refl;
     }
 

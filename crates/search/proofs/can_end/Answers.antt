@@ -4,14 +4,14 @@ use Rattle.search.proofs.OneRecord.{std_ends, never_running}
 use Rattle.search.proofs.can_end.Goals as goal
 
 pub count_std-v-requires : goal.count_std-v-requires
-count_std-v-requires c = rw c.root_of-i.ensures c.requires.spot
+count_std-v-requires c = rw c.root_of-i.ensures c.args.here.spot
 
 pub returns-in-Plain : goal.returns-in-Plain
 returns-in-Plain c =
     let a = c.args in
-    std_ends a.ns.now a.t.now a.cue c.root_of-i.result c.root_of-i.ensures a.role c.requires.in_bounds.1 c.ends_by.ensures _ c.in-Plain.is c.count_std-v.ensures
+    std_ends a.here.ns.now a.here.t.now a.cue c.root_of-i.result c.root_of-i.ensures a.here.role c.requires c.ends_by.ensures _ c.in-Plain.is c.count_std-v.ensures
 
 pub returns-in-Running : goal.returns-in-Running
 returns-in-Running c =
     let a = c.args in
-    absurd (never_running a.ns.now a.t.now a.cue c.root_of-i.result c.root_of-i.ensures a.role c.requires.in_bounds.1 c.in-Running.is)
+    absurd (never_running a.here.ns.now a.here.t.now a.cue c.root_of-i.result c.root_of-i.ensures a.here.role c.requires c.in-Running.is)

@@ -7,25 +7,22 @@ use Rattle.search.proofs.follows.Goals as goal
 
 pub can_end-requires : goal.can_end-requires
 can_end-requires c =
-    let a = c.args in record {
-      spot = c.requires.spot;
-      in_bounds = (c.requires.in_bounds.0, ends_fits a.ns.now a.t.now a.cue c.requires.in_bounds.1 a.role (sym c.ends.ensures ∙ c.if-ends.true));
-    }
+    let a = c.args in
+    ends_fits a.here.ns.now a.here.t.now a.cue c.requires a.here.role (sym c.ends.ensures ∙ c.if-ends.true)
 
 pub returns-then-ends : goal.returns-then-ends
 returns-then-ends c =
     let a = c.args in
-    end_follows (state a.ns.now a.role a.t.now) a.cue c.can_end.ensures
+    end_follows (state a.here.ns.now a.here.role a.here.t.now) a.cue c.can_end.ensures
 
 pub successors-requires : goal.successors-requires
 successors-requires c =
     let a = c.args in record {
-      spot = c.requires.spot;
-      in_bounds = (c.requires.in_bounds.0, first_inner a.role a.cue c.requires.in_bounds.1 (sym c.ends.ensures ∙ c.if-ends.false));
+      inner = first_inner a.here.role a.cue c.requires (sym c.ends.ensures ∙ c.if-ends.false);
       d_len = refl;
     }
 
 pub returns : goal.returns
 returns c =
     let a = c.args in
-    count_follows a.ns.now a.role a.cue a.t.now c.successors.ensures.many
+    count_follows a.here.ns.now a.here.role a.cue a.here.t.now c.successors.ensures.many

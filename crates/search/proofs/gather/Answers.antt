@@ -39,19 +39,17 @@ module _ (f : ℕ → ℕ) (d l : List ℕ) (i r : ℕ) (e : l ≡ changed f i d
 pub answer-requires : goal.answer-requires
 answer-requires c =
     let a = c.args in
-    let was = ask_was (answered (state a.ns.now a.role a.t.now) []) a.asks.now c.loop-ask.asks c.loop-ask.ask-index 0 c.loop-ask.invariant in record {
-      spot = c.requires.spot;
-      in_bounds = (c.requires.in_bounds.0, subst (λ x. x ≤ failed_cue) (sym was) (c.requires.in_bounds.1 c.loop-ask.ask-index));
-    }
+    let was = ask_was (answered (state a.here.ns.now a.here.role a.here.t.now) []) a.asks.now c.loop-ask.asks c.loop-ask.ask-index 0 c.loop-ask.invariant in
+    subst (λ x. x ≤ failed_cue) (sym was) (c.requires c.loop-ask.ask-index)
 
 pub loop-ask-preserved : goal.loop-ask-preserved
 loop-ask-preserved c =
     let a = c.args in
-    ask_done (answered (state a.ns.now a.role a.t.now) []) a.asks.now c.loop-ask.asks c.loop-ask.ask-index c.answer.result c.loop-ask.invariant c.loop-ask-test.true c.answer.ensures
+    ask_done (answered (state a.here.ns.now a.here.role a.here.t.now) []) a.asks.now c.loop-ask.asks c.loop-ask.ask-index c.answer.result c.loop-ask.invariant c.loop-ask-test.true c.answer.ensures
 
 pub returns : goal.returns
 returns c =
     let a = c.args in
-    let f : ℕ → ℕ = answered (state a.ns.now a.role a.t.now) [] in
+    let f : ℕ → ℕ = answered (state a.here.ns.now a.here.role a.here.t.now) [] in
     let e : c.loop-ask.ask-index ≡ length a.asks.now = omega arith in
     c.loop-ask.invariant ∙ ap (λ i. changed f i a.asks.now) e ∙ changed-all f a.asks.now

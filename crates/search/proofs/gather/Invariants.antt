@@ -11,4 +11,4 @@ abbrev pub changed : (ℕ → ℕ) → ℕ → List ℕ → List ℕ
 changed f i d = map f (take i d) ++ drop i d
 
 abbrev pub invariant-loop-ask : goal.invariant-loop-ask
-invariant-loop-ask l = l.asks ≡ changed (answered (state l.ns l.role l.t) []) l.ask-index l.initial.asks
+invariant-loop-ask l = l.asks ≡ changed (answered (state l.here.ns.now l.here.role l.here.t.now) []) l.ask-index l.initial.asks
