@@ -17,7 +17,7 @@ use answer::{Found, Next};
 use flow::{Extent, Refusal};
 use matching::{Named, Names, Unnamed};
 
-// 14, with so many numbers and so many work bytes lent.
+// 14, with so many numbers and so many work bytes lent. What an entry point is lent is handed on as it is, here and below.
 fn check_next_room(
     nodes: &[u16],
     beginning: &[u16],

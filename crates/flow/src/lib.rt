@@ -169,7 +169,7 @@ fn branch(standard: bool, kids: u8, inner: bool) -> Form
     }
 }
 
-// The table of the standard kinds without a set, by a node's three numbers; no other number comes here, so the last needs no arm of its
+// The table of the standard kinds without a set, by a node's three numbers, as they stand in a lent table; no other number comes here, so the last needs no arm of its
 // own. Single numbers are compiled to a jump, where ranges are a chain of tests.
 fn standard_of(kind: u16, first: u16, second: u16) -> Node
     requires { (1 ≤ kind) × (kind ≤ 9) }

@@ -36,7 +36,8 @@ const MOST_NAMES: u16 = 256;
 
 const MOST_BYTES: u16 = 40;
 
-// A place in the file, in bytes. How far it may be is asked where an item is read, and differs: the items behind have to be told, too.
+// A place in the file, in bytes. An item read answers a value with its cursor (01), so the file is handed on
+// beside it. How far it may be is asked where an item is read, and differs: the items behind have to be told, too.
 #[derive(Clone, Copy)]
 pub struct Cursor {
     pub at: usize,

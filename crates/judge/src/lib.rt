@@ -57,7 +57,7 @@ fn answer_of(out: Option<Trip>, records: usize, allowance: u32) -> Answer
     }
 }
 
-// 14, with so many work bytes lent.
+// 14, with so many work bytes lent. What an entry point is lent is handed on as it is, here and below.
 fn check_room(nodes: &[u16], records: &[u16], room: usize) -> Result<(), Refusal>
     requires { (length nodes.now ≤ 192) × (length records.now ≤ 256) }
     ensures { result ≡ room_check nodes.now records.now room }

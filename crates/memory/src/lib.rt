@@ -14,7 +14,15 @@ pub struct Sight {
     pub reached: u32,
 }
 
-// A state, by its modes in two words, two bits each, and its key; and what was seen of it.
+// A state, by its modes in two words, two bits each, and its key.
+#[derive(Clone, Copy)]
+struct Packed {
+    low: u64,
+    high: u64,
+    key: u16,
+}
+
+// Such a state, and what was seen of it.
 #[derive(Clone, Copy)]
 pub struct Slot {
     low: u64,
@@ -40,10 +48,10 @@ pub const SLOTS: usize = 7168;
 
 impl Slot {
     // Whether this state is in it.
-    fn has(&self, low: u64, high: u64, key: u16) -> bool
-        ensures { result ≡ has self.now low high key }
+    fn has(&self, state: Packed) -> bool
+        ensures { result ≡ has self.now state.low state.high state.key }
     {
-        (self.key == key) & ((self.low == low) & (self.high == high))
+        (self.key == state.key) & ((self.low == state.low) & (self.high == state.high))
     }
 
     // What was seen of the state that is in it.
@@ -122,32 +130,34 @@ fn pack(state: &[u8], at: usize) -> u64
 }
 
 // Both words and the key in one number. The rest by a prime brings every bit of a mode into the digits that choose a pair.
-fn mixed(low: u64, high: u64, key: u16) -> u64
-    ensures { result ≡ mixed low high key }
+fn mixed(state: Packed) -> u64
+    ensures { result ≡ mixed state.low state.high state.key }
 {
-    low % 3141592661 * 1054435769 + high % 3141592661 * 640364487 + u64::from(key) * 1000000007
+    state.low % 3141592661 * 1054435769
+        + state.high % 3141592661 * 640364487
+        + u64::from(state.key) * 1000000007
 }
 
 // The pair of a state, by the middle digits of a square: by a sum alone, modes that differ at several nodes would meet.
-fn pair_of(low: u64, high: u64, key: u16) -> usize
-    ensures { result ≡ pair_of low high key }
+fn pair_of(state: Packed) -> usize
+    ensures { result ≡ pair_of state.low state.high state.key }
 {
-    let x = mixed(low, high, key) / 65536 % 4294967296;
+    let x = mixed(state) / 65536 % 4294967296;
     (x * x / 16777216 % PAIRS) as usize
 }
 
 // What the pair of the state has of it.
-fn recall_in(slots: &[Slot], low: u64, high: u64, key: u16) -> Result<Sight, usize>
-    ensures { result ≡ recalled_in slots.now low high key (pair_of low high key) }
+fn recall_in(slots: &[Slot], state: Packed) -> Result<Sight, usize>
+    ensures { result ≡ recalled_in slots.now state.low state.high state.key (pair_of state.low state.high state.key) }
 {
-    let pair = pair_of(low, high, key);
+    let pair = pair_of(state);
     if pair >= slots.len() / 2 {
         return Err(pair);
     }
-    if slots[2 * pair].has(low, high, key) {
+    if slots[2 * pair].has(state) {
         return Ok(slots[2 * pair].sight());
     }
-    if slots[2 * pair + 1].has(low, high, key) {
+    if slots[2 * pair + 1].has(state) {
         return Ok(slots[2 * pair + 1].sight());
     }
     Err(pair)
@@ -163,7 +173,9 @@ pub fn recall(slots: &[Slot], state: &[u8], key: u16) -> Result<Sight, usize>
         return Err(0);
     }
     if fits(state) {
-        return recall_in(slots, pack(state, 0), pack(state, 32), key);
+        let low = pack(state, 0);
+        let high = pack(state, 32);
+        return recall_in(slots, Packed { low, high, key });
     }
     Err(among)
 }

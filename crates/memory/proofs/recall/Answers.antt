@@ -14,7 +14,7 @@ returns-then-fits c =
     let a = c.args in
     recalled_fit a.slots.now a.state.now (length a.state.now) a.key c.if-among-eq0.false
     (sym c.fits.ensures ∙ c.if-fits.true)
-    c.pack.ensures c.pack-then-fits.ensures c.recall_in.ensures
+    c.pack-low.ensures c.pack-high.ensures c.recall_in.ensures
 
 pub returns : goal.returns
 returns c =
