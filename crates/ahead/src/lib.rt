@@ -111,7 +111,8 @@ fn next_by(
     }
 }
 
-// The search by the records' cues and the asks of all numbers, and its answer. There is no allocation, so there is room for the cues of 256 records.
+// The search by the records' cues and the asks of all numbers, and its answer. There is no allocation, so there is room for the cues of 256
+// records.
 fn answer_by<N: Names>(
     names: &N,
     nodes: &[u16],
@@ -151,8 +152,8 @@ pub fn next(
     answer_by(&Unnamed, nodes, beginning, sets, list, work, allowance)
 }
 
-// The same with a names section, an entry point of its own as README has it: a refusal by the numbers and in the order of the writer, without 10, and 14 last; and a node whose entry
-// has no machine takes a record of any entry with the same step name.
+// The same with a names section, an entry point of its own as README has it: a refusal by the numbers and in the order of the writer,
+// without 10, and 14 last; and a node whose entry has no machine takes a record of any entry with the same step name.
 pub fn next_named(
     names: &[u8],
     nodes: &[u16],

@@ -24,8 +24,8 @@ pub fn put_count(c: &mut [u32], i: usize, n: u32)
     c[i] = n;
 }
 
-// A node's number of steps is noted, and what is seen of it answered. That a node's number is below 64 follows from its place in a tree, which
-// only the cycle below knows of.
+// A node's number of steps is noted, and what is seen of it answered. That a node's number is below 64 follows from its place in a tree,
+// which only the cycle below knows of.
 fn note(c: &mut [u32; 64], i: usize, v: View) -> View
     requires { i < 64 }
     ensures value { result ≡ v }

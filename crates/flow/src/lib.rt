@@ -66,8 +66,8 @@ pub enum Node {
     Unknown,
 }
 
-// What is asked of a node's fields and children, of every node (`form`, specs/Kinds.antt): whether there is such a kind, its sort, whether its first field is an event,
-// how many children its fields name, and whether these are standard.
+// What is asked of a node's fields and children, of every node (`form`, specs/Kinds.antt): whether there is such a kind, its sort, whether
+// its first field is an event, how many children its fields name, and whether these are standard.
 #[derive(Clone, Copy)]
 pub struct Form {
     pub known: bool,
@@ -109,8 +109,9 @@ pub const MOST_NODES: usize = 64;
 
 pub const MOST_RECORDS: usize = 256;
 
-// The refusals, by document 01's numbers: `Refusal` has the number that is printed and that theorems compare with the documents' figures, so an
-// enum would need a table of them beside it. The public ones others give too: of a count in a flow file, and of room that is too short.
+// The refusals, by document 01's numbers: `Refusal` has the number that is printed and that theorems compare with the documents' figures,
+// so an enum would need a table of them beside it. The public ones others give too: of a count in a flow file, and of room that is too
+// short.
 pub const NO_NODES: u16 = 1;
 
 const PART_OF_NODE: u16 = 2;
@@ -169,8 +170,8 @@ fn branch(standard: bool, kids: u8, inner: bool) -> Form
     }
 }
 
-// The table of the standard kinds without a set, by a node's three numbers, as they stand in a lent table; no other number comes here, so the last needs no arm of its
-// own. Single numbers are compiled to a jump, where ranges are a chain of tests.
+// The table of the standard kinds without a set, by a node's three numbers, as they stand in a lent table; no other number comes here, so
+// the last needs no arm of its own. Single numbers are compiled to a jump, where ranges are a chain of tests.
 fn standard_of(kind: u16, first: u16, second: u16) -> Node
     requires { (1 ≤ kind) × (kind ≤ 9) }
     ensures { result ≡ node_of kind first second }
@@ -274,8 +275,8 @@ fn set_number(node: Node) -> u16
     }
 }
 
-// A node's three numbers. That node i is there is asked by each function that goes to it: tables are lent slices, and a struct around one would
-// still be asked for the node.
+// A node's three numbers. That node i is there is asked by each function that goes to it: tables are lent slices, and a struct around one
+// would still be asked for the node.
 fn kind_at(nodes: &[u16], i: usize) -> u16
     requires { 3 * i + 2 < length nodes.now }
     ensures { result ≡ get_or nodes.now (3 * i) 0 }
@@ -379,7 +380,8 @@ fn not_lower(i: usize, children: Children) -> bool
     children.first.is_some_and(|c| c >= i) | children.second.is_some_and(|c| c >= i)
 }
 
-// Whether a child, if there is one, is not of the sort asked for. That children are within is known once 6 is passed, and not of all `Children`.
+// Whether a child, if there is one, is not of the sort asked for. That children are within is known once 6 is passed, and not of all
+// `Children`.
 fn sort_differs(sorts: &[bool; 64], child: Option<usize>, standard: bool) -> bool
     requires { IfSome child (λ c. c < 64) }
     ensures { result ≡ of_child child (λ c. xor (get_or sorts.now c false) standard) }
@@ -493,7 +495,8 @@ fn check_children(nodes: &[u16], marks: &[bool; 64]) -> Result<(), Refusal>
     }
 }
 
-// 4 to 9, with 22, of at most 64 whole nodes (how many there are is asked where places are told, as of records: lists are lent slices), where so many sets are present.
+// 4 to 9, with 22, of at most 64 whole nodes (how many there are is asked where places are told, as of records: lists are lent slices),
+// where so many sets are present.
 pub fn check_nodes(nodes: &[u16], many: usize) -> Result<(), Refusal>
     requires { length nodes.now ≤ 192 }
     ensures { result ≡ nodes_check many nodes.now }

@@ -125,8 +125,8 @@ pub fn judge(nodes: &[u16], records: &[u16], sets: &[u8], work: &mut [u8], allow
     answer_by(&Unnamed, nodes, records, sets, work, allowance)
 }
 
-// The same with a names section, an entry point of its own as README has it: a refusal by the numbers and in the order of the writer, 14 last, or the verdict of the search in which
-// a node whose entry has no machine takes a record of any entry with the same step name.
+// The same with a names section, an entry point of its own as README has it: a refusal by the numbers and in the order of the writer, 14
+// last, or the verdict of the search in which a node whose entry has no machine takes a record of any entry with the same step name.
 pub fn judge_named(
     names: &[u8],
     nodes: &[u16],

@@ -91,7 +91,8 @@ impl Iterator for Entries<'_> {
     }
 }
 
-// Whether the entry at an offset has no machine. That it is there is asked, since it may be any of the section's, as the iterator's items are.
+// Whether the entry at an offset has no machine. That it is there is asked, since it may be any of the section's, as the iterator's items
+// are.
 fn without_machine(names: &[u8], at: usize) -> bool
     requires { entry_end names.now at ≤ length names.now }
     ensures { result ≡ no_machine (entry_at names.now at) }

@@ -80,8 +80,8 @@ fn fits(state: &[u8]) -> bool
     state.iter().fold(true, |all, mode| all & (*mode < 4))
 }
 
-// Four modes, one a byte. Of a state it is asked that it has at most 64 modes, here and below, and that they have two bits each, which a lent slice
-// does not say of itself.
+// Four modes, one a byte. Of a state it is asked that it has at most 64 modes, here and below, and that they have two bits each, which a
+// lent slice does not say of itself.
 fn four(state: &[u8], at: usize) -> u64
     requires { (length state.now ≤ 64) × (at + 4 ≤ length state.now) }
     ensures { (result ≡ bytes (padded state.now (length state.now)) at 4) × (result < 4294967296) }

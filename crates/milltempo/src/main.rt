@@ -1,5 +1,6 @@
-// Judges the flow file on standard input and prints one line: verdict word, refusal number or 0, place, count. 22,409 bytes are
-// one more than the longest file that is not refused by 21; there is no allocation. A read or a write that fails ends it with its error, and exit status 1.
+// Judges the flow file on standard input and prints one line: verdict word, refusal number or 0, place, count. 22,409 bytes are one more
+// than the longest file that is not refused by 21; there is no allocation. A read or a write that fails ends it with its error, and exit
+// status 1.
 #![tactic(auto)]
 
 use std::io;

@@ -144,8 +144,8 @@ fn so_many(first: u16, records: u16) -> usize
     usize::from(records)
 }
 
-// Writes what may follow a beginning, in a list for every number (there is no allocation), by these names and sets, at the start of the room, leaves the rest, and answers the text's length. There is
-// room for every number and for the largest flow.
+// Writes what may follow a beginning, in a list for every number (there is no allocation), by these names and sets, at the start of the
+// room, leaves the rest, and answers the text's length. There is room for every number and for the largest flow.
 fn next_tables(
     names: &[u8],
     nodes: &[u16],

@@ -1,5 +1,5 @@
-// What a file holds, read once for whatever is done with it: its counts, and its nodes and records at the front of two tables, which have room
-// for the largest file, since there is no allocation.
+// What a file holds, read once for whatever is done with it: its counts, and its nodes and records at the front of two tables, which have
+// room for the largest file, since there is no allocation.
 ghost use Rattle.std.specs.Prelude.{◌≡◌, ◌*◌, ◌≤◌, take};
 
 use flow::Refusal;

@@ -1,4 +1,5 @@
-// What the judge and `next` promise of the work bytes: how many are to be zero, and whether they are, and the others filler as before the call.
+// What the judge and `next` promise of the work bytes: how many are to be zero, and whether they are, and the others filler as before the
+// call.
 ghost use Rattle.std.specs.Prelude.{◌≡◌, ◌≤◌, ◌/◌, length};
 ghost use Rattle.judge.specs.Judged.{room_of};
 ghost use Rattle.replay.specs.Promised.{zeros_after, is_clean};

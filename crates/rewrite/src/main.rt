@@ -1,6 +1,6 @@
 // Reads the flow file on standard input and writes it again, through reader and writer, to standard output; or prints the line of its
-// refusal on standard error. 22,409 bytes are one more than the longest file that is not refused by 21, so a copy always has room; there is no allocation.
-// A read or a write that fails ends it with its error, and exit status 1.
+// refusal on standard error. 22,409 bytes are one more than the longest file that is not refused by 21, so a copy always has room; there is
+// no allocation. A read or a write that fails ends it with its error, and exit status 1.
 #![tactic(auto)]
 
 use judge::Answer;

@@ -85,8 +85,8 @@ fn ending_at(x: u32, y: u32, j: u32) -> Fall
     }
 }
 
-// What is kept of the compensations of node i's running part by w. Functions on weights take the table and the node: with the word handed on in
-// their stead, flows that are undone took 6 percent longer.
+// What is kept of the compensations of node i's running part by w. Functions on weights take the table and the node: with the word handed
+// on in their stead, flows that are undone took 6 percent longer.
 fn tally_at(d: &[u32], i: usize, w: Closing) -> Tally
     requires { 9 * i + 8 < length d.now }
     ensures { result ≡ by_w (row d.now i) (closing w) }

@@ -90,8 +90,8 @@ pub struct Moving<'a> {
     pub c: [u32; 64],
 }
 
-// The modes of a node, by what it is: bytes and no enum, since a state lies in the caller's work bytes (01). All parts of a flow that is drawn
-// have the first.
+// The modes of a node, by what it is: bytes and no enum, since a state lies in the caller's work bytes (01). All parts of a flow that is
+// drawn have the first.
 pub const AS_DRAWN: u8 = 0;
 
 // An event has been taken.
