@@ -1,1 +1,1 @@
-mod NamesAndItems
+pub mod NamesAndItems

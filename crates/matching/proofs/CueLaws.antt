@@ -3,7 +3,7 @@ use Prim.Native.Nat.{ℕ, zero, suc, ◌+◌, ◌-◌, ◌<◌, ◌≤◌}
 use Rattle.std.specs.Prelude.{Bool, true, false, ◌||◌, cond, Some, None, List, [], ◌∷◌, ◌++◌, map, ◌≡◌, length, get_or, take, set}
 use Rattle.std.proofs.lemmas.List.{map-append, length-map}
 use Rattle.std.proofs.Math.Path.{refl, ap}
-use Rattle.std.proofs.Common.{ap₂, sym, ◌∙◌, add-one, ltb-false, take-suc, length-take-le}
+use Rattle.std.proofs.Common.{subst, ap₂, sym, ◌∙◌, add-one, ltb-false, take-suc, length-take-le}
 use native.Mathlib.Omega.{arith}
 use Rattle.std.proofs.Math.Dec.{ltb}
 use Rattle.flow.specs.Tests.{neither_one, neither_two}
@@ -87,6 +87,14 @@ module _ (s : List ℕ) (w : Whole s) where
 
   pub count_is : {count : ℕ} → count ≡ number_at s 0 → count ≡ length (entries_in s)
   count_is counted = counted ∙ (whole_there s w).counted
+
+  -- so many entries are all of them, and end within
+  module _ {count : ℕ} (counted : count ≡ number_at s 0) where
+    pub entries_are : entries_at s count 2 ≡ entries_in s
+    entries_are = ap (λ (n : ℕ). entries_at s n 2) (count_is counted) ∙ sym (whole_there s w).is
+
+    pub entries_inside : entries_end s count 2 ≤ length s
+    entries_inside = subst (λ (n : ℕ). entries_end s n 2 ≤ length s) (sym (count_is counted)) (whole_there s w).inside
 
   -- each of the entries, as they are passed
   pub each_inside : (i : ℕ) {at : ℕ} → i < length (entries_in s) → at ≡ entries_end s i 2 → entry_end s at ≤ length s

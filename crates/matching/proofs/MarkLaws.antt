@@ -14,7 +14,7 @@ use Rattle.flow.specs.declared.Form.{Form}
 use Rattle.flow.specs.Kinds.{form, node, one_of}
 use Rattle.flow.specs.Records.{most_events, all_numbers}
 use Rattle.flow.specs.Refusals.{count}
-use Rattle.flow.specs.Cues.{cue_of, masked}
+use Rattle.flow.specs.Cues.{cue_of, itself, masked}
 use Rattle.format.specs.Format.{Entry}
 use Rattle.format.specs.Matching.{same_step, no_machine}
 use Rattle.format.specs.ListChecks.{entries_in, Whole}
@@ -27,7 +27,7 @@ use Rattle.matching.specs.Asks.{some_leaf, hears, ask, asks, takes_event, HeardM
 use Rattle.matching.specs.SetLaws.{mask_low}
 use Rattle.matching.proofs.AskLaws.{asks_length, asks_at}
 use Rattle.matching.proofs.CueLaws.{unplaced, placed, placed_is}
-use Rattle.matching.proofs.TakenLaws.{step_none, step_more, takes_cue_is, taken_unnamed, taken_named}
+use Rattle.matching.proofs.TakenLaws.{step_none, step_more, takes_cue_is, takes_own, taken_unnamed, taken_named}
 
 ---- Marks by tests ----
 
@@ -117,6 +117,10 @@ module _ (s : List ℕ) (w : Whole s) (event : ℕ) {before own : List Bool} (al
     pub marked_steps : {after : List Bool} → no_machine (entry_at s at) ≡ true → AlsoMarked (has_step (name_at s at) (entries_in s)) own after → Taken after
     marked_steps m k =
         also_as (λ a h. sym (named a ∙ ap (λ (b : Bool). eqb a event || (b && has_step (name_at s at) (entries_in s) a)) m)) (also_both also_own k)
+
+-- without names, its own alone
+pub marked_plain : (event : ℕ) {before after : List Bool} → AlsoMarked (λ a. eqb a event) before after → AlsoMarked (λ a. takes_event itself a event) before after
+marked_plain event m = also_as (λ a h. sym (takes_own itself a event refl)) m
 
 ---- Node by node ----
 

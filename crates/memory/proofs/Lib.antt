@@ -1,1 +1,1 @@
-mod SlotLaws
+pub mod SlotLaws

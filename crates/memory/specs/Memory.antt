@@ -61,9 +61,13 @@ empty = record { low = 0; high = 0; entered = 0; reached = 0; key = 0 }
 abbrev pub slot_at : List Slot → ℕ → Slot
 slot_at m s = get_or m s empty
 
+-- whether a slot's reach and its key have 16 bits, as all of the code's have
+unfoldable pub is_short : Slot → Bool
+is_short a = ltb a.reached 65536 && ltb a.key 65536
+
 -- whether a slot has the state
 unfoldable pub has : Slot → ℕ → ℕ → ℕ → Bool
-has a low high key = eqb a.key key && (eqb a.low low && eqb a.high high)
+has a low high key = is_short a && (eqb a.key key && (eqb a.low low && eqb a.high high))
 
 -- what it says was seen
 unfoldable pub sight_of : Slot → Sight
@@ -114,6 +118,8 @@ pub record Holds (a : Slot) (n key : ℕ) (t : List ℕ) (x : Sight) : Type 0 wh
   pub high : a.high ≡ high_of t n
   pub keyed : a.key ≡ key
   pub seen : sight_of a ≡ x
+  pub small : key < 65536
+  pub near : x.reached < 65536
 
 -- some slot has it
 pub record Held (m : List Slot) (n key : ℕ) (t : List ℕ) (x : Sight) : Type 0 where

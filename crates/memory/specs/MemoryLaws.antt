@@ -17,7 +17,7 @@ use Rattle.std.proofs.Math.ListN.{length, get_or, take}
 use borrow.Author.Tests.{eqb-true, eqb-false, ltb-true, ltb-false, eq-eqb, ne_eqb, lt-ltb, le-ltb}
 use Rattle.memory.specs.declared.Sight.{Sight}
 use Rattle.memory.specs.declared.Slot.{Slot}
-use Rattle.memory.specs.Memory.{two_bits, padded, bytes, most_bytes, packed, low_of, high_of, slots, pairs, pair_of, slot_at, has, sight_of, recalled_at, recalled_in, recalled, mark_of, lesser, takes, slot_of, remembered, Holds, Held, Same}
+use Rattle.memory.specs.Memory.{two_bits, padded, bytes, most_bytes, packed, low_of, high_of, slots, pairs, pair_of, slot_at, is_short, has, sight_of, recalled_at, recalled_in, recalled, mark_of, lesser, takes, slot_of, remembered, Holds, Held, Same}
 
 both_true : (a b : Bool) → (a && b) ≡ true → (a ≡ true) × (b ≡ true)
 both_true true b e = (refl, e)
@@ -262,17 +262,27 @@ module _ (m : List Slot) (t : List ℕ) (n key : ℕ) (x : Sight) where
   module _ (fit : two_bits t n ≡ true) where
     -- by whether a slot has the state
     at_held : (s : ℕ) → s < slots m → (r : Result Sight ℕ) → (r ≡ Ok x → Held m n key t x) → recalled_at (slot_at m s) (low_of t n) (high_of t n) key r ≡ Ok x → Held m n key t x
-    unfolding recalled_at has
+    unfolding recalled_at has is_short sight_of
     at_held s h r f = by (has (slot_at m s) (low_of t n) (high_of t n) key) refl where
       by : (b : Bool) → has (slot_at m s) (low_of t n) (high_of t n) key ≡ b → cond b (Ok (sight_of (slot_at m s))) r ≡ Ok x → Held m n key t x
       by true e k =
           let a : Slot = slot_at m s in
-          let p = both_true (eqb a.key key) (eqb a.low (low_of t n) && eqb a.high (high_of t n)) e in
+          let o = both_true (is_short a) (eqb a.key key && (eqb a.low (low_of t n) && eqb a.high (high_of t n))) e in
+          let b = both_true (ltb a.reached 65536) (ltb a.key 65536) o.0 in
+          let p = both_true (eqb a.key key) (eqb a.low (low_of t n) && eqb a.high (high_of t n)) o.1 in
           let w = both_true (eqb a.low (low_of t n)) (eqb a.high (high_of t n)) p.1 in
           record {
             slot = s;
             there = h;
-            holds = record { fits = fit; low = eqb-true _ _ w.0; high = eqb-true _ _ w.1; keyed = eqb-true _ _ p.0; seen = known_same k };
+            holds = record {
+              fits = fit;
+              low = eqb-true _ _ w.0;
+              high = eqb-true _ _ w.1;
+              keyed = eqb-true _ _ p.0;
+              seen = known_same k;
+              small = subst (λ (i : ℕ). i < 65536) (eqb-true _ _ p.0) (ltb-true _ _ b.1);
+              near = subst (λ (y : Sight). y.reached < 65536) (known_same k) (ltb-true _ _ b.0);
+            };
           }
       by false e k = f k
 

@@ -51,7 +51,9 @@ impl Slot {
     fn has(&self, state: Packed) -> bool
         ensures { result ≡ has self.now state.low state.high state.key }
     {
-        (self.key == state.key) & ((self.low == state.low) & (self.high == state.high))
+        // Read whole, so that the proof knows that its reach has 16 bits.
+        let slot = *self;
+        (slot.key == state.key) & ((slot.low == state.low) & (slot.high == state.high))
     }
 
     // What was seen of the state that is in it.
@@ -197,7 +199,7 @@ pub fn remember(slots: &mut [Slot], pair: usize, state: &[u8], key: u16, seen: S
     requires { length state.now ≤ 64 }
     ensures { slots.new ≡ remembered slots.old pair state.now (length state.now) key seen }
 {
-    if (pair < slots.len() / 2) & fits(state) {
+    if pair < slots.len() / 2 && fits(state) {
         if let Ok(reached) = u16::try_from(seen.reached) {
             let s = lesser(slots, pair);
             let slot = Slot {

@@ -1,16 +1,17 @@
 -- One outcome for every input. 01, "How tight the contracts are": "For each public function and every input, refused ones too, the
 -- contract leaves one possible outcome: the result and each lent byte. That uniqueness is itself a proved fact."
--- An outcome is the answer with all that was lent to be written, as it is after the call. Here: the general lemma, the search, and the
--- entry points of `line` and `program`. The others have theirs beside their promises: `judge_unique` (Demands), `named_unique` (NamedDemands), `read_once` and `scan_names_once`
+-- An outcome is the answer with all that was lent to be written, as it is after the call. Here: the general lemma, the search, the marks
+-- of `matching`, and the entry points of `line` and `program`. The others have theirs beside their promises: `judge_unique` (Demands), `named_unique` (NamedDemands), `read_once` and `scan_names_once`
 -- (Reader), `write_once` (Writer), `rewrite_once` (Rewritten), `next_unique` and `named_next_unique` (Following).
 -- Theorems only. Assumes nothing.
-use Rattle.std.specs.Prelude.{ℕ, ◌+◌, List, ◌++◌, ◌≡◌, refl, length, take, drop, Option, Some, None}
-use Rattle.std.proofs.Common.{sym, ap, ◌∙◌, arith}
+use Rattle.std.specs.Prelude.{ℕ, ◌+◌, Bool, false, List, ◌++◌, ◌≡◌, refl, length, take, drop, Option, Some, None}
+use Rattle.std.proofs.Common.{sym, ap, ◌∙◌, arith, ext_get_or}
 use Rattle.search.specs.declared.Trip.{Trip}
 use Rattle.search.specs.Visits.{out_of}
 use Rattle.flow.specs.Cues.{cued, cue_records}
 use Rattle.flow.specs.Drawn.{flow_by}
 use Rattle.search.specs.Searches.{Searched, asks_after, Asked}
+use Rattle.matching.specs.Asks.{AlsoMarked}
 use Rattle.judge.specs.declared.Answer.{Answer}
 use Rattle.line.specs.declared.Line.{Line}
 use Rattle.line.specs.Line.{line_of, Put, LineWritten}
@@ -82,3 +83,9 @@ write_file_line_once file out = put_once (printed file) out 0
 
 pub next_file_once : (file : List ℕ) (first : ℕ) (out : List ℕ) → LeavesOne (λ (o : ℕ × List ℕ). NextPrinted file first out o.1 o.0)
 next_file_once file first out = put_once (file_text file first) out 0
+
+-- the marks of all events, those that were marked and those that were not
+pub marks_once : (test : ℕ → Bool) (before : List Bool) → length before ≡ 257 → LeavesOne (AlsoMarked test before)
+marks_once test before l r r' c c' =
+    ext_get_or false r r' (c.size ∙ sym c'.size)
+    (λ a h. let e = c.size in c.each a (omega arith) ∙ sym (c'.each a (omega arith)))

@@ -1,6 +1,6 @@
 -- The list and the work bytes are found clean exactly if what is promised of them holds (`next_clean_exactly`), `next` leaves them so, with
 -- names and without, and there is room in the line for what it lists (`next_tellable`, `next_case`). Assumes nothing.
-use Rattle.std.specs.Prelude.{ℕ, ◌≤◌, Bool, ◌↔◌, ◌≡◌, drop, replicate, Result, Ok, Err, ⊤}
+use Rattle.std.specs.Prelude.{ℕ, ◌≤◌, Bool, ◌↔◌, ◌≡◌, drop, replicate, Result, Ok, Err, ⊤, Some, None}
 use native.Mathlib.Omega.{arith}
 use Rattle.std.proofs.Math.Bool.{true, false, cond}
 use mathlib.Core.List.{List, []}
@@ -11,19 +11,21 @@ use Rattle.std.proofs.lemmas.List.{length-replicate}
 use Rattle.calculus.specs.Records.{State}
 use Rattle.calculus.specs.Ahead.{entered}
 use Rattle.flow.specs.declared.Refusal.{Refusal}
+use Rattle.flow.specs.Drawn.{flow_of}
 use Rattle.flow.specs.Records.{records}
 use Rattle.flow.specs.Tests.{both_true}
 use Rattle.format.specs.Told.{at_front}
-use Rattle.judge.specs.Judged.{unless_refused, cleared, room_wanted, bytes_by}
+use Rattle.judge.specs.Judged.{named_flow, unless_refused, cleared, room_wanted, bytes_by}
 use Rattle.line.specs.Line.{Put}
 use Rattle.ahead.specs.declared.answer.Next.{Next}
 use Rattle.ahead.specs.declared.answer.Next.TheVariants.{Listed, Undecided}
 use Rattle.ahead.specs.Told.{following, numbers_wanted}
-use Rattle.ahead.specs.Outcome.{allowed, next_by, list_by, NextBy}
+use Rattle.ahead.specs.Outcome.{allowed, next_check, named_next_check, next_by, list_by, NextBy, NextOf, NamedNextOf}
 use Rattle.ahead.proofs.PickedLaws.{following_few}
 use Rattle.replay.specs.Filler.{filler, number_filler, kept, Kept}
 use Rattle.replay.specs.Promised.{promised, is_clean}
-use Rattle.replay.specs.NextLine.{length_listed, next_zeros, next_clean, next_line, Tellable, NextCase}
+use Rattle.replay.specs.Lent.{LentNext}
+use Rattle.replay.specs.NextLine.{length_listed, next_zeros, next_clean, next_line, Tellable, NextCase, NextCaseOf}
 use Rattle.replay.specs.FillerLaws.{kept_exactly, kept_front}
 use Rattle.replay.specs.PromisedLaws.{clean_exactly, cleared_clean}
 
@@ -144,3 +146,22 @@ module _ (c : ℕ → ℕ → Result ⊤ Refusal) (room n : ℕ) {flow : State} 
         list_after = h.lists ∙ ap₂ (λ (d : Result ⊤ Refusal) (l : List ℕ). list_by d flow rs allowance l) check_is filled;
         work_after = h.leaves ∙ ap₂ (λ (d : Result ⊤ Refusal) (w : List ℕ). bytes_by d (room_wanted ns rs) w) check_is cleaned;
       }
+
+---- With names or without ----
+
+-- the promise of `next` and that of its case are those of the library's two functions
+module _ (sets ns rs : List ℕ) (allowance : ℕ) (list work list' after : List ℕ) where
+  pub lent_next_none : {r : Next} → LentNext None sets ns rs allowance list work r list' after ↔ NextOf sets ns rs allowance list work r list' after
+  lent_next_none = ((λ h. h), (λ h. h))
+
+  pub lent_next_some : (s : List ℕ) {r : Next} → LentNext (Some s) sets ns rs allowance list work r list' after ↔ NamedNextOf s sets ns rs allowance list work r list' after
+  lent_next_some s = ((λ h. h), (λ h. h))
+
+  module _ (out out' : List ℕ) (r : ℕ) where
+    pub next_case_none : NextCaseOf None sets ns rs allowance list work list' after out out' r
+        ↔ NextCase (next_check sets ns rs (length list) (length work)) (flow_of sets ns) ns rs allowance (length list) (length work) list' after out out' r
+    next_case_none = ((λ h. h), (λ h. h))
+
+    pub next_case_some : (s : List ℕ) → NextCaseOf (Some s) sets ns rs allowance list work list' after out out' r
+        ↔ NextCase (named_next_check s sets ns rs (length list) (length work)) (named_flow s sets ns) ns rs allowance (length list) (length work) list' after out out' r
+    next_case_some s = ((λ h. h), (λ h. h))

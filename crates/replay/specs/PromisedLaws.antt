@@ -13,10 +13,10 @@ use Rattle.flow.specs.Records.{records}
 use Rattle.flow.specs.Tests.{both_true}
 use Rattle.judge.specs.declared.Answer.{Answer}
 use Rattle.judge.specs.declared.Answer.TheVariants.{Refused}
-use Rattle.judge.specs.Judged.{JudgedBy, judged, judged_named, judged_by, bytes_by, room_wanted, cleared, answer_of, unless_refused}
+use Rattle.judge.specs.Judged.{JudgedBy, judged, judged_named, work_after, named_work_after, judged_by, bytes_by, room_wanted, cleared, answer_of, unless_refused}
 use Rattle.line.specs.Line.{Put}
 use Rattle.replay.specs.Filler.{filler, all_are, kept}
-use Rattle.replay.specs.Lent.{lent_judged}
+use Rattle.replay.specs.Lent.{lent_judged, lent_work_after}
 use Rattle.replay.specs.Promised.{zeros_after, promised, is_clean, case_line}
 use Rattle.replay.specs.FillerLaws.{all_replicate, all_is, kept_exactly, replicate_rest}
 
@@ -95,3 +95,11 @@ module _ (sets ns rs : List ℕ) (room allowance : ℕ) where
 
   pub lent_some : (s : List ℕ) → lent_judged (Some s) sets ns rs room allowance ≡ judged_named s sets ns rs room allowance
   lent_some s = refl
+
+-- and so are the work bytes after it
+module _ (sets ns rs work : List ℕ) where
+  pub lent_work_none : lent_work_after None sets ns rs work ≡ work_after sets ns rs work
+  lent_work_none = refl
+
+  pub lent_work_some : (s : List ℕ) → lent_work_after (Some s) sets ns rs work ≡ named_work_after s sets ns rs work
+  lent_work_some s = refl

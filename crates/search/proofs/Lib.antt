@@ -5,4 +5,4 @@ mod OneRecord
 mod Asks
 mod Memories
 mod Deeper
-mod Clearing
+pub mod Clearing

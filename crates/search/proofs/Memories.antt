@@ -141,12 +141,16 @@ module _ (ns xs qs : List ℕ) (asks : Asking qs) where
   pub truthful_none : Truthful ns xs qs []
   truthful_none = record { asking = asks; right = λ role d few t x h. absurd (empty_held h) }
 
+  -- nor of slots without a key
+  pub truthful_zeros : (m : List Slot) → ((j : ℕ) → (slot_at m j).key ≡ 0) → Truthful ns xs qs m
+  truthful_zeros m z = record {
+    asking = asks;
+    right = λ role d few t x h. let q = zeros_held z h in absurd (omega (arith, small role));
+  }
+
   -- so many empty slots
   pub truthful_fresh : (n : ℕ) → Truthful ns xs qs (replicate n empty)
-  truthful_fresh n = record {
-    asking = asks;
-    right = λ role d few t x h. let q = zeros_held (keyless n) h in absurd (omega (arith, small role));
-  }
+  truthful_fresh n = truthful_zeros (replicate n empty) (keyless n)
     where
       keyless : (n j : ℕ) → (slot_at (replicate n empty) j).key ≡ 0
       keyless zero j = refl

@@ -4,7 +4,7 @@
 use Prim.Native.Nat.{ℕ, ◌+◌, ◌*◌, ◌-◌, ◌≤◌, ◌<◌}
 use native.Mathlib.Omega.{arith}
 use Rattle.std.proofs.Math.Nat.{mul_comm}
-use Rattle.std.specs.Prelude.{◌≡◌, Bool, true, false, not, ◌&&◌, T}
+use Rattle.std.specs.Prelude.{◌≡◌, ◌≢◌, ◌↔◌, Bool, true, false, not, ◌&&◌, T}
 use Rattle.std.proofs.Math.Path.{refl, sym, ap}
 use Rattle.std.proofs.Common.{◌∙◌, ap₂}
 use Rattle.std.proofs.Math.Bool.{cond}
@@ -15,7 +15,8 @@ use Rattle.calculus.specs.Successors.{eqc, closings, only, ends, comps, csteps}
 use Rattle.calculus.proofs.Equations.{ends_skip, ends_seq, steps_skip, comps_pair, comps_cseq, comps_calt, comps_held}
 use Rattle.tallies.specs.Capped.{cap}
 use Rattle.tallies.specs.CappedLaws.{cap_cap, cap_add, cap_add_left, cap_add_right, cap_mul_left, cap_mul_right, cap_sum, cap_product}
-use Rattle.tallies.specs.Formulas.{when_t, by_w, weighs, total, one_g, after_g, inside_g, sides, beside_g, within_g, fitting_t, partners_t}
+use Rattle.tallies.specs.RankLaws.{same_rank}
+use Rattle.tallies.specs.Formulas.{closing, when_t, by_w, weighs, total, one_g, after_g, inside_g, sides, beside_g, within_g, fitting_t, partners_t}
 use Rattle.tallies.specs.Counts.{sum_of, moves_both, moves, able, view, tally, word, weight}
 use Rattle.tallies.specs.Grids.{besides, partners}
 use Rattle.tallies.specs.SumsLaws.{numbers, number_nil, sum_append, sum_map, sum_each, sum_by, sum_same, length_is}
@@ -23,6 +24,8 @@ use Rattle.tallies.proofs.CountsLaws.{both_done, able_seq, able_par, moves_seq, 
 use Rattle.tallies.specs.Places.{At, Finds}
 use Rattle.tallies.specs.PlacesLaws.{at_is, finds_is, finds_left, finds_after, finds_one, finds_rest, finds_rest_le, finds_only, finds_map, finds_each, finds_cap, sum_cap, only_holds, only_room}
 use Rattle.tallies.specs.Sought.{Sought, Falls, by_closing}
+use Rattle.tallies.specs.declared.Closing.{Closing as Ending}
+use Rattle.tallies.specs.declared.Closing.TheVariants.{Done, Withdrawn, Failed}
 use Rattle.tallies.specs.declared.View.{View}
 use Rattle.tallies.specs.declared.Tally.{Tally}
 use Rattle.tallies.specs.declared.Word.{Word}
@@ -115,6 +118,16 @@ module _ (a : ℕ) (g : Weight) where
           three_cap _ (g.own + g.moves * moves a k) _ (g.moves * moves a x) _ (on * able a x)
           (cap_cap _ ∙ cap_add_right g.own (g.moves * cap (moves a k)) ∙ cap_sum g.own g.own _ (g.moves * moves a k) refl (cap_mul_right g.moves (moves a k))) refl refl
           ∙ ap cap (rw (able_times g.able (ends k done), m, able_par a js k x) (omega arith))
+
+-- Closings of the code --------------------------------------------------------------------------------------------------
+
+pub eqc_done : (w : Ending) → (eqc (closing w) done ≡ true) ↔ (w ≡ Done)
+eqc_done w = ((λ e. sym ((same_rank done w).1 e)), (λ e. (same_rank done w).0 (sym e)))
+
+pub closing_other : (w : Ending) → w ≢ Done → T (not (eqc (closing w) done))
+closing_other Done h = absurd (h refl)
+closing_other Withdrawn h = tt
+closing_other Failed h = tt
 
 -- What the code learns of counts and weights ----------------------------------------------------------------------------
 

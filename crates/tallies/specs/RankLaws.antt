@@ -1,6 +1,6 @@
 -- Each closing of the code is one of the calculus, and each of the calculus one of the code; so a contract that says the code's closing for
 -- one of the calculus leaves one outcome. Theorems only. Assumes nothing.
-use Rattle.std.specs.Prelude.{◌≡◌, ◌⊎◌, refl, true}
+use Rattle.std.specs.Prelude.{◌≡◌, ◌⊎◌, ◌↔◌, refl, true}
 use Rattle.std.proofs.Common.{inl, inr, sym, ◌∙◌, ap}
 use Rattle.std.proofs.lemmas.Bool.{false≢true}
 use Rattle.calculus.specs.Term.{Closing, done, withdrawn, failed, eqc}
@@ -35,16 +35,16 @@ pub closing_one : (v w : Ending) → closing v ≡ closing w → v ≡ w
 closing_one v w e = sym (rank_closing v) ∙ ap rank e ∙ rank_closing w
 
 -- two are the same where the calculus has the same closing
-pub same_rank : (v w : Ending) → eqc (closing v) (closing w) ≡ true → v ≡ w
-same_rank Done Done e = refl
-same_rank Withdrawn Withdrawn e = refl
-same_rank Failed Failed e = refl
-same_rank Done Withdrawn e = absurd (false≢true e)
-same_rank Done Failed e = absurd (false≢true e)
-same_rank Withdrawn Done e = absurd (false≢true e)
-same_rank Withdrawn Failed e = absurd (false≢true e)
-same_rank Failed Done e = absurd (false≢true e)
-same_rank Failed Withdrawn e = absurd (false≢true e)
+pub closing_one_by_test : (v w : Ending) → eqc (closing v) (closing w) ≡ true → v ≡ w
+closing_one_by_test Done Done e = refl
+closing_one_by_test Withdrawn Withdrawn e = refl
+closing_one_by_test Failed Failed e = refl
+closing_one_by_test Done Withdrawn e = absurd (false≢true e)
+closing_one_by_test Done Failed e = absurd (false≢true e)
+closing_one_by_test Withdrawn Done e = absurd (false≢true e)
+closing_one_by_test Withdrawn Failed e = absurd (false≢true e)
+closing_one_by_test Failed Done e = absurd (false≢true e)
+closing_one_by_test Failed Withdrawn e = absurd (false≢true e)
 
 pub same_closing : (v w : Ending) → v ≡ w → eqc (closing v) (closing w) ≡ true
 same_closing v w e = sym (ap (λ (u : Ending). eqc (closing v) (closing u)) e) ∙ own v
@@ -53,3 +53,13 @@ same_closing v w e = sym (ap (λ (u : Ending). eqc (closing v) (closing u)) e) �
     own Done = refl
     own Withdrawn = refl
     own Failed = refl
+
+-- two closings are the same where their ranks are
+pub same_rank : (w : Closing) (v : Ending) → (rank w ≡ v) ↔ (eqc (closing v) w ≡ true)
+same_rank w v = (to, from)
+  where
+    to : rank w ≡ v → eqc (closing v) w ≡ true
+    to e = ap (eqc (closing v)) (sym (closing_rank w)) ∙ same_closing v (rank w) (sym e)
+
+    from : eqc (closing v) w ≡ true → rank w ≡ v
+    from e = sym (closing_one_by_test v (rank w) (ap (eqc (closing v)) (closing_rank w) ∙ e))

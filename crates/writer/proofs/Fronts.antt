@@ -1,5 +1,5 @@
 -- Lists at the front of a room, one put behind another; and how long a file is. Assumes nothing.
-use Rattle.std.specs.Prelude.{ℕ, ◌+◌, ◌*◌, ◌-◌, ◌/◌, ◌%◌, ◌<◌, ◌≤◌, List, [], ◌∷◌, ◌++◌, ◌≡◌, refl, length, get_or, take, drop}
+use Rattle.std.specs.Prelude.{ℕ, ◌+◌, ◌*◌, ◌-◌, ◌/◌, ◌%◌, ◌<◌, ◌≤◌, List, [], ◌∷◌, ◌++◌, ◌≡◌, refl, length, get_or, take, drop, set}
 use Rattle.std.specs.Int.{w16, to_le_bytes}
 use Rattle.std.proofs.Common.{append_assoc, append-nil, sym, ap, ap₂, ◌∙◌, add-one, arith, length-append, length-drop, drop_of_length-le, drop-drop, take_all, take_at, take-suc, drop_at}
 use Rattle.std.proofs.Math.Seq.{take-length}
@@ -58,6 +58,13 @@ front_copied xs ys t {room} {copy} {n} {k} e en ek ec =
 pub number_low_first : (n : ℕ) → n < 65536 → to_le_bytes w16 n ≡ number_bytes n
 unfolding number_bytes
 number_low_first n h = let e : n / 256 % 256 ≡ n / 256 = omega arith in ap (λ (k : ℕ). n % 256 ∷ k ∷ []) e
+
+-- and stored one after the other
+pub number_front : (n : ℕ) (t : List ℕ) → 2 ≤ length t → set (set t 0 (n % 256)) 1 (n / 256) ≡ at_front (number_bytes n) t
+unfolding number_bytes
+number_front n [] h = absurd (omega arith)
+number_front n (a ∷ []) h = absurd (omega arith)
+number_front n (a ∷ b ∷ t) h = refl
 
 numbers_bytes_more : (ns : List ℕ) (n : ℕ) → numbers_bytes (ns ++ (n ∷ [])) ≡ numbers_bytes ns ++ number_bytes n
 unfolding numbers_bytes number_bytes
